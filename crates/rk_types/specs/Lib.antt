@@ -1,0 +1,4 @@
+pub mod Text
+pub mod Hashing
+pub mod Held
+pub mod Status

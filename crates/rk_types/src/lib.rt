@@ -1,0 +1,31 @@
+//! The words that every crate of the project shares: keys, values, calls, outcomes, log items and nodes.
+//!
+//! It stands on std alone. What it promises: a [`Key`] and a [`Value`] are text within their limits, and a refusal
+//! says exactly what is wrong; [`hash`], [`lane_of`] and [`bucket_of`] are the numbers of their definitions; a
+//! duplicate equals what it was made from. What holds keys and values is plain public data, which contracts see as it
+//! is written here, with the list of bytes where a key or a value stands.
+#![tactic(auto)]
+
+pub use call::{Answer, Call, End, Ended, Op, Outcome};
+pub use hashing::{BUCKETS, LANES, bucket_of, hash, lane_of};
+pub use held::{Held, LONGEST_SHORT_VALUE, LONGEST_SPELLED, Token};
+pub use history::{Placed, Receipt};
+pub use listed::Listed;
+pub use memory::NoMemory;
+pub use node::{Node, Parcel, Said};
+pub use range::Range;
+pub use status::Status;
+pub use text::{Key, LONGEST_KEY, LONGEST_VALUE, TextError, Value};
+
+mod call;
+mod hashing;
+mod held;
+mod history;
+mod listed;
+mod memory;
+mod node;
+mod range;
+mod status;
+#[cfg(test)]
+mod tests;
+mod text;
