@@ -1,4 +1,5 @@
 pub mod Text
 pub mod Hashing
 pub mod Held
+pub mod Range
 pub mod Status

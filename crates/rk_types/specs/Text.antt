@@ -1,5 +1,5 @@
 -- Which bytes are a key, and which are a value.
-use Rattle.std.specs.Prelude.{ℕ, List, length, position, Bool, ◌||◌, nat_lt, if◌then◌else◌, Option, Some, None}
+use Rattle.std.specs.Prelude.{ℕ, List, length, position, ◌||◌, nat_lt, if◌then◌else◌, Option, Some}
 use Rattle.std.specs.Option.{option_map}
 use Rattle.rk_types.specs.declared.text.TextError.{TextError}
 use Rattle.rk_types.specs.declared.text.TextError.TheVariants.{Length, Byte}

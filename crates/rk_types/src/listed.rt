@@ -1,4 +1,4 @@
-ghost use Rattle.std.specs.Prelude.{◌≡◌, [], ◌∷◌, ◌++◌, OnOk, OnErr};
+ghost use Rattle.std.specs.Prelude.{◌≡◌, [], ◌∷◌, ◌++◌, IfOk, OnOk, OnErr};
 
 use crate::memory::NoMemory;
 use std::alloc::Global;
@@ -58,6 +58,17 @@ impl<T> Listed<T> {
     {
         self.items.push(item)?;
         Ok(())
+    }
+}
+
+impl<T: Copy + Drop> Listed<T> {
+    /// A list of its own with the same items.
+    pub fn duplicate(&self) -> Result<Listed<T>, NoMemory>
+        ensures { IfOk result (λ listed. listed ≡ self.now) }
+    {
+        Ok(Listed {
+            items: Vec::from_slice(*self.items.allocator(), self.items.as_slice())?,
+        })
     }
 }
 

@@ -107,3 +107,23 @@ fn duplicates_what_owns_text(rt: HostRuntime) -> Result<(), Fail> {
     assert_eq!(rt; Status::Worn.number(), 10);
     Ok(())
 }
+
+#[test]
+fn ranges_hold_hashes(rt: HostRuntime) {
+    let low = Range {
+        table: 1,
+        first: 0,
+        last: 9,
+    };
+    assert!(rt; low.has(1, 9));
+    assert!(rt; !low.has(1, 10));
+    assert!(rt; !low.has(2, 9));
+    assert!(rt;
+        low.meets(&Range {
+            first: 9,
+            last: 20,
+            ..low
+        })
+    );
+    assert!(rt; !low.meets(&Range { table: 2, ..low }));
+}

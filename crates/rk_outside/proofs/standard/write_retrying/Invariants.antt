@@ -1,0 +1,6 @@
+-- A write that was interrupted wrote nothing.
+use Rattle.std.specs.Io.KnownBytes.{Keeps}
+use Rattle.rk_outside.proofs.standard.write_retrying.Given as goal
+
+abbrev pub invariant-tries : goal.invariant-tries
+invariant-tries g l = Keeps (g.W.Write.contents l.fn.writer) (g.W.Write.contents l.writer)

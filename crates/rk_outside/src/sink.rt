@@ -1,0 +1,161 @@
+// Where output goes, a piece at a time.
+ghost use Rattle.std.specs.Prelude.{ℕ, ◌≡◌, ◌<◌, ◌++◌, List, Option, Some, Ok, Err, length, take, unwrap_or, IsErr, IfOk, OnErr, IsTrue};
+ghost use Rattle.std.specs.Result.{result_ok};
+ghost use Rattle.std.specs.Io.{WritesAtMost};
+ghost use Rattle.std.specs.Io.KnownBytes.{WriteAppends};
+ghost use Rattle.rk_outside.specs.Faults.{HasCause, HasTaken, one_more};
+ghost use Rattle.rk_outside.specs.Memory.{new_sink, is_listed, taken_of, faults_after};
+
+use crate::fault::Failed;
+use std::alloc::Global;
+use std::marker::Model;
+
+/// Output that is taken in pieces. It may tell the bytes that were written, and it counts its
+/// faults.
+pub trait Sink {
+    /// The bytes that were written so far, or `None` where the sink does not tell.
+    ghost written: { Self → Option (List ℕ) };
+
+    /// How often it failed so far. It never falls, and stops at 2^64 - 1.
+    ghost faults: { Self → ℕ };
+
+    /// Writes the first bytes of `piece`, and answers how many they are. `Failed` comes only where the
+    /// count of faults rose in this call, and then nothing was written. So does 0 for a piece that has
+    /// bytes.
+    fn put(&mut self, piece: &[u8]) -> Result<usize, Failed>
+        ensures within { WritesAtMost result piece.now }
+        ensures bytes { WriteAppends (written self.old) (written self.new) result piece.now }
+        ensures cause { HasCause (faults self.old) (faults self.new) result }
+        ensures taken { HasTaken (faults self.old) (faults self.new) result piece.now };
+}
+
+/// A sink in memory, for tests. It tells its bytes.
+#[derive(Drop)]
+pub struct MemorySink<'a> {
+    bytes: Vec<u8>,
+    most: usize,
+    calls: u64,
+    failing: &'a [u64],
+    idle: &'a [u64],
+    faults: u64,
+}
+
+impl<'a> Model for MemorySink<'a> {
+    ghost use Rattle.std.specs.Prelude.{ℕ, ◌<◌};
+    ghost use Rattle.rk_outside.specs.Memory.{SinkState};
+
+    ghost Value = { SinkState };
+
+    ghost view = { λ s. record {
+      written = s.bytes.items;
+      most = s.most;
+      calls = s.calls;
+      failing = s.failing.now;
+      idle = s.idle.now;
+      faults = s.faults;
+    } };
+
+    ghost invariant = { λ s. 0 < s.most };
+}
+
+impl<'a> MemorySink<'a> {
+    /// A sink that holds nothing, takes all that it is given and fails only where it finds no memory.
+    pub fn new(alloc: Global) -> MemorySink<'a>
+        ensures { result ≡ new_sink }
+    {
+        MemorySink {
+            bytes: Vec::new(alloc),
+            most: usize::MAX,
+            calls: 0,
+            failing: &[],
+            idle: &[],
+            faults: 0,
+        }
+    }
+
+    /// The same sink, each call of which takes at most so many bytes.
+    pub fn at_most(self, most: usize) -> MemorySink<'a>
+        requires { 0 < most }
+        ensures { result ≡ record self.entry { most = most } }
+    {
+        let mut sink = self;
+        sink.most = most;
+        sink
+    }
+
+    /// The same sink, whose calls of these numbers fail. Calls are counted from 1.
+    pub fn failing(self, calls: &'a [u64]) -> MemorySink<'a>
+        ensures { result ≡ record self.entry { failing = calls.now } }
+    {
+        let mut sink = self;
+        sink.failing = calls;
+        sink
+    }
+
+    /// The same sink, whose calls of these numbers take nothing, which is a fault too. Calls are
+    /// counted from 1.
+    pub fn taking_nothing(self, calls: &'a [u64]) -> MemorySink<'a>
+        ensures { result ≡ record self.entry { idle = calls.now } }
+    {
+        let mut sink = self;
+        sink.idle = calls;
+        sink
+    }
+
+    /// The bytes that were written.
+    pub fn bytes(&self) -> &[u8]
+        ensures { result.now ≡ self.now.written }
+    {
+        self.bytes.as_slice()
+    }
+
+    /// How often it failed or took nothing.
+    pub fn faults(&self) -> u64
+        ensures { result ≡ self.now.faults }
+    {
+        self.faults
+    }
+}
+
+impl Sink for MemorySink<'_> {
+    ghost written = { λ s. Some s.written };
+
+    ghost faults = { λ s. s.faults };
+
+    // Where it finds no memory for what it is to hold, that is a fault of its device.
+    fn put(&mut self, piece: &[u8]) -> Result<usize, Failed>
+        ensures within { WritesAtMost result piece.now }
+        ensures bytes { WriteAppends (Some self.old.written) (Some self.new.written)
+            result piece.now }
+        ensures cause { HasCause self.old.faults self.new.faults result }
+        ensures taken { HasTaken self.old.faults self.new.faults result piece.now }
+
+        // It fails at the calls of its list, and else takes as much as it may.
+        ensures fails { IsTrue (is_listed self.old.failing (one_more self.old.calls))
+            → IsErr result }
+        ensures count { IfOk result (λ count. count ≡ taken_of self.old (length piece.now)) }
+        ensures after { self.new ≡ record self.old {
+          written = self.old.written ++ take (unwrap_or (result_ok result) 0) piece.now;
+          calls = one_more self.old.calls;
+          faults = faults_after self.old result;
+        } }
+    {
+        self.calls = self.calls.saturating_add(1);
+        if self.failing.contains(&self.calls) {
+            self.faults = self.faults.saturating_add(1);
+            return Err(Failed);
+        }
+        if self.idle.contains(&self.calls) {
+            self.faults = self.faults.saturating_add(1);
+            return Ok(0);
+        }
+        let count = self.most.min(piece.len());
+        match self.bytes.extend_from_slice(&piece[..count]) {
+            Ok(()) => Ok(count),
+            Err(_) => {
+                self.faults = self.faults.saturating_add(1);
+                Err(Failed)
+            }
+        }
+    }
+}
