@@ -1,0 +1,12 @@
+pub mod Histories
+pub mod Order
+pub mod Places
+pub mod Appended
+pub mod Answered
+pub mod Standings
+pub mod Walked
+pub mod Keys
+pub mod Between
+pub mod Merging
+pub mod Lanes
+pub mod Examples

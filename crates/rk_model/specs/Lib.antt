@@ -1,0 +1,5 @@
+pub mod Machine
+pub mod History
+pub mod Merged
+pub mod Ordered
+pub mod Standing
