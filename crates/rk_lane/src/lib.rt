@@ -1,0 +1,7 @@
+//! x
+#![tactic(auto)]
+
+pub use plain::PlainLane;
+
+mod kept;
+mod plain;

@@ -1,0 +1,7 @@
+pub mod Cuts
+pub mod WordsLemmas
+pub mod ScriptLemmas
+pub mod WorldLemmas
+pub mod TameLemmas
+pub mod PlayedLemmas
+pub mod StepLemmas

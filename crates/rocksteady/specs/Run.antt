@@ -1,0 +1,47 @@
+-- What a run of the program says of a run that was played: its status, and what its sink holds after it.
+use Rattle.std.specs.Prelude.{◌≡◌, ℕ, ◌-◌, ◌≤◌, ◌⊎◌, List, [], ◌∷◌, ◌++◌, length, take, Result, Ok, Option, Bool, false, bytes_eq, codes}
+use Rattle.std.specs.List.{concat}
+use Rattle.std.specs.Io.KnownBytes.{Appends, Keeps}
+use Rattle.rk_types.specs.declared.status.Status.{Status}
+use Rattle.rk_types.specs.declared.status.Status.TheVariants.{Done, Refused, Usage, ReadFault, WriteFault, NoMemory, ReplicaFault, Audit, Worn}
+use Rattle.rk_outside.specs.Parts.{AppendsPart}
+use Rattle.rocksteady.specs.Played.{Played, text_of}
+use Rattle.rocksteady.specs.World.{World}
+
+-- whether the words after the program's name are those of a play
+abbrev pub is_play : List (List ℕ) → Bool
+is_play (word ∷ []) = bytes_eq word (codes "play")
+is_play _ = false
+
+-- the status is that of the run played, and its whole text was written
+pub record Ends (p : Played) (status : Status) (old new : Option (List ℕ)) : Type 0 where
+  pub ended : p.status ≡ status
+  pub written : Appends old new (text_of p)
+
+-- the run stopped before one of its pieces, or before the first: those before it were written
+pub record Stops (p : Played) (old new : Option (List ℕ)) : Type 0 where
+  pub pieces : ℕ
+  pub few : pieces ≤ length p.pieces - 1
+  pub written : Appends old new (concat (take pieces p.pieces))
+
+-- what each status says of the run played; the last three do not come yet
+abbrev pub Runs : Played → Status → Option (List ℕ) → Option (List ℕ) → Type 0
+Runs p Done old new = Ends p Done old new
+Runs p Refused old new = Ends p Refused old new
+Runs p Usage old new = Ends p Usage old new
+Runs p ReadFault old new = Keeps old new
+Runs p WriteFault old new = AppendsPart old new (text_of p)
+Runs p NoMemory old new = Stops p old new
+Runs p ReplicaFault old new = ⊥
+Runs p Audit old new = ⊥
+Runs p Worn old new = ⊥
+
+-- a command ran: what is pending grew by its text, and this is the world after it
+pub record Adds (ran : Result (List ℕ × World) ℕ) (next : World) (was now : List ℕ) : Type 0 where
+  pub text : List ℕ
+  pub ok : ran ≡ Ok (text, next)
+  pub added : now ≡ was ++ text
+
+-- what was pending still is, or it was written
+abbrev pub Spills : Option (List ℕ) → Option (List ℕ) → List ℕ → List ℕ → Type 0
+Spills old new was now = (Keeps old new × (now ≡ was)) ⊎ (Appends old new was × (now ≡ []))
