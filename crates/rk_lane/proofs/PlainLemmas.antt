@@ -31,7 +31,8 @@ with_change-agree a b table key (Some entry) t k same =
 pub StandsFor-push : (old new : BTreeMap (ℕ × List ℕ) Kept) (stamp : ℕ) (journal : List Placed) (placed : Placed) → StandsFor old stamp journal → ChangesEntry old new placed.call.table placed.call.key (change_of placed.call.op placed.outcome) → StandsFor new placed.stamp (journal ++ placed ∷ [])
 StandsFor-push old new stamp journal placed stands changes = record {
   entries = λ t k. changes t k ∙ (with_change-agree (map_kept old) (map_after empty_map journal) placed.call.table placed.call.key (change_of placed.call.op placed.outcome) t k (stands.entries t k) ∙ rw (map_after-push empty_map journal placed) refl);
-  last = rw (last_stamp_from-push 0 journal placed) refl; }
+  last = rw (last_stamp_from-push 0 journal placed) refl;
+}
 
 -- the record that a call gets, from what the map has at its key and the stamps
 pub placed_of-parts : (lane : Plain) (call : Call) (seen : ℕ) (entry : Entry) (outcome : Outcome) (stamp : ℕ) → entry ≡ map_after empty_map lane.journal call.table call.key → outcome ≡ outcome_of entry call.op lane.counter → stamp ≡ max (last_stamp lane.journal) seen → record { call = call; outcome = outcome; stamp = 1 + stamp; accepted = true } ≡ placed_of lane call seen

@@ -1,5 +1,5 @@
 -- A plain lane: it answers each call at once, from the map that its journal leaves.
-use Rattle.std.specs.Prelude.{◌≡◌, ℕ, ◌+◌, ◌<◌, ◌==◌, max, List, [], ◌∷◌, ◌++◌, length, Bool, true, false, if◌then◌else◌}
+use Rattle.std.specs.Prelude.{ℕ, ◌+◌, ◌==◌, max, List, [], ◌∷◌, ◌++◌, length, Bool, true, false, if◌then◌else◌}
 use Rattle.rk_types.specs.declared.call.Call.{Call}
 use Rattle.rk_types.specs.declared.call.Op.{Op}
 use Rattle.rk_types.specs.declared.call.Op.TheVariants.{Get, Put, CondPut, Delete}
@@ -8,7 +8,7 @@ use Rattle.rk_types.specs.declared.call.Outcome.TheVariants.{Found, Absent, Writ
 use Rattle.rk_types.specs.declared.history.Placed.{Placed}
 use Rattle.rk_types.specs.declared.history.Receipt.{Receipt}
 use Rattle.rk_model.specs.Machine.{Entry, never, live, gone, live_version, read_of}
-use Rattle.rk_model.specs.History.{Map, empty_map, map_after}
+use Rattle.rk_model.specs.History.{empty_map, map_after}
 
 -- what a plain lane is: its number, the version of its next write, and its records, oldest first
 pub record Plain : Type 0 where
@@ -56,7 +56,8 @@ placed_of lane call seen = record {
   call = call;
   outcome = outcome_of (map_after empty_map lane.journal call.table call.key) call.op lane.counter;
   stamp = 1 + max (last_stamp lane.journal) seen;
-  accepted = true; }
+  accepted = true;
+}
 
 -- the version of the next write after an outcome
 abbrev pub counter_after : ℕ → Outcome → ℕ
@@ -67,7 +68,8 @@ abbrev pub with_record : Plain → Placed → Plain
 with_record lane placed = record {
   number = lane.number;
   counter = counter_after lane.counter placed.outcome;
-  journal = lane.journal ++ placed ∷ []; }
+  journal = lane.journal ++ placed ∷ [];
+}
 
 -- a lane after a call
 abbrev pub applied : Plain → Call → ℕ → Plain
@@ -80,7 +82,8 @@ receipt_for lane placed = record {
   outcome = placed.outcome;
   lane = lane.number;
   place = length lane.journal;
-  stamp = placed.stamp; }
+  stamp = placed.stamp;
+}
 
 -- the receipt that a call gets from a lane
 abbrev pub receipt_of : Plain → Call → ℕ → Receipt

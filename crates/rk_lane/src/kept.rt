@@ -70,8 +70,14 @@ pub fn change(op: &Op, outcome: &Outcome) -> Result<Option<Kept>, NoMemory>
     ensures { IfOk result (λ kept. option_map entry_kept kept ≡ change_of op.now outcome.now) }
 {
     Ok(match (op, outcome) {
-        (Op::Put(value), Outcome::Written(version)) => Some(Kept::Live(*version, value.duplicate()?)),
-        (Op::CondPut(_, value), Outcome::Written(version)) => Some(Kept::Live(*version, value.duplicate()?)),
+        (Op::Put(value), Outcome::Written(version)) => Some(Kept::Live(
+            *version,
+            value.duplicate()?,
+        )),
+        (Op::CondPut(_, value), Outcome::Written(version)) => Some(Kept::Live(
+            *version,
+            value.duplicate()?,
+        )),
         (Op::Delete, Outcome::Deleted(version)) => Some(Kept::Gone(*version)),
         _ => None,
     })
@@ -89,7 +95,11 @@ pub fn next_version(version: u64, outcome: &Outcome) -> u64
 }
 
 /// Keeps a change at a key, if there is one. After `NoMemory` all is kept as it was.
-pub fn keep(kept: &mut BTreeMap<(u64, Key), Kept>, at: (u64, Key), change: Option<Kept>) -> Result<(), NoMemory>
+pub fn keep(
+    kept: &mut BTreeMap<(u64, Key), Kept>,
+    at: (u64, Key),
+    change: Option<Kept>,
+) -> Result<(), NoMemory>
     ensures ok { OnOk result (ChangesEntry kept.old kept.new at.0 at.1 (option_map entry_kept change)) }
     ensures err { OnErr result (IsUnchanged kept.old kept.new) }
 {

@@ -5,3 +5,4 @@ pub mod WorldLemmas
 pub mod TameLemmas
 pub mod PlayedLemmas
 pub mod StepLemmas
+pub mod LawfulLemmas

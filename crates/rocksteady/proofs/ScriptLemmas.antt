@@ -1,11 +1,10 @@
 -- A script is read a line at a time: what is read so far, before what is left, is the whole.
-use Rattle.std.proofs.Common.{◌≡◌, ℕ, ◌+◌, ◌<◌, ◌≤◌, List, [], ◌∷◌, ◌++◌, length, Bool, true, false, refl, sym, ◌∙◌, ap, arith, append_assoc, length-append}
+use Rattle.std.proofs.Common.{◌≡◌, ℕ, ◌+◌, ◌<◌, ◌≤◌, List, [], ◌∷◌, ◌++◌, length, true, refl, sym, ◌∙◌, ap, arith, append_assoc, length-append}
 use Rattle.std.specs.Prelude.{◌==◌, Option, Some, None, Result, Ok, Err, bytes_eq}
 use Rattle.rocksteady.specs.declared.script.ScriptError.{ScriptError}
 use Rattle.rocksteady.specs.declared.script.ScriptError.TheVariants.{Refused, NoMemory}
 use Rattle.rocksteady.specs.declared.script.TheConstants.{LINE_END, OUT_OF_FORM}
 use Rattle.rocksteady.specs.Read.{IsLineRefusal, IsRefusalOf}
-use Rattle.std.specs.List.{slice_split}
 use Rattle.std.proofs.lemmas.List.Splits.{length-slice_split}
 use Rattle.rocksteady.specs.declared.command.Command.{Command}
 use Rattle.rocksteady.specs.Script.{pieces_of, words_of, command_of, before_others, commands_at_end, commands_from, commands_after, refused_with}

@@ -1,12 +1,12 @@
 -- A run goes on by one command, or ends there.
-use Rattle.std.proofs.Common.{◌≡◌, ℕ, ◌+◌, ◌<◌, ◌≤◌, List, [], ◌∷◌, ◌++◌, length, refl, sym, ◌∙◌, ap, subst, arith}
+use Rattle.std.proofs.Common.{◌≡◌, ℕ, ◌+◌, ◌<◌, ◌≤◌, List, ◌∷◌, length, sym, ap, subst, arith}
 use Rattle.std.specs.Prelude.{Option, Result, Ok, Err, ◌^◌}
 use Rattle.rocksteady.specs.declared.cluster.StepError.{StepError}
 use Rattle.rocksteady.specs.declared.cluster.StepError.TheVariants.{Refused, NoMemory}
 use Rattle.rocksteady.specs.declared.command.Command.{Command}
 use Rattle.rocksteady.specs.World.{World, new_world, step}
 use Rattle.rocksteady.specs.Tame.{IsTame}
-use Rattle.rocksteady.specs.Played.{Played, after_pieces, continued, played_from, refused_at}
+use Rattle.rocksteady.specs.Played.{Played, continued, played_from}
 use Rattle.rocksteady.specs.Refusals.{IsStepRefusal, IsStoppedBy}
 use Rattle.rocksteady.specs.Run.{Adds}
 use Rattle.rocksteady.proofs.TameLemmas.{IsTame-more, IsTame-start, IsTame-step}

@@ -1,12 +1,11 @@
 -- How far the numbers of a world grow with each command.
-use Rattle.std.proofs.Common.{◌≡◌, ℕ, ◌+◌, ◌<◌, ◌≤◌, List, [], ◌∷◌, length, Bool, true, false, refl, sym, ◌∙◌, ap, subst, arith, zero, suc}
+use Rattle.std.proofs.Common.{◌≡◌, ℕ, ◌+◌, ◌≤◌, List, [], ◌∷◌, refl, ◌∙◌, ap, subst, arith, zero, suc}
 use Rattle.std.specs.Prelude.{Option, Some, None, Result, Ok, Err, max, slice_set}
 use Rattle.std.specs.List.{slice_index_or}
 use Rattle.rk_types.specs.declared.call.Call.{Call as ClientCall}
-use Rattle.rk_types.specs.declared.call.Outcome.{Outcome}
-use Rattle.rk_types.specs.declared.call.Outcome.TheVariants.{Found, Absent, Written, Deleted, Mismatch}
-use Rattle.rk_lane.specs.Plain.{Plain, applied, counter_after, last_stamp, new_plain, placed_of}
+use Rattle.rk_lane.specs.Plain.{Plain, applied, last_stamp, new_plain, placed_of}
 use Rattle.rk_lane.proofs.PlainLemmas.{last_stamp_from-push}
+use Rattle.rk_lane.proofs.VersionLemmas.{counter_after-le}
 use Rattle.rocksteady.specs.declared.command.Command.{Command}
 use Rattle.rocksteady.specs.declared.command.Command.TheVariants.{Call, Settle}
 use Rattle.rocksteady.specs.World.{World, answered, asked, call_lane, lane_at, new_world, next_call, settled, step}
@@ -47,14 +46,6 @@ item-set P (first ∷ lanes) zero (suc lane) new other old set = old
 item-set P (first ∷ lanes) (suc at) zero new other old set = old
 item-set P (first ∷ lanes) (suc at) (suc lane) new other old set = item-set P lanes at lane new other old set
 
--- an outcome uses one version at most
-pub counter_after-le : (counter : ℕ) (outcome : Outcome) → counter_after counter outcome ≤ counter + 1
-counter_after-le counter (Found version value) = omega arith
-counter_after-le counter Absent = omega arith
-counter_after-le counter (Written version) = omega arith
-counter_after-le counter (Deleted version) = omega arith
-counter_after-le counter (Mismatch version) = omega arith
-
 -- the stamp of the record that a call gets
 pub stamp-placed_of : (lane : Plain) (call : ClientCall) (seen : ℕ) → (placed_of lane call seen).stamp ≡ 1 + max (last_stamp lane.journal) seen
 unfolding placed_of
@@ -80,7 +71,7 @@ IsTame-answered commands w call tame = record {
 }
 
 -- the world after a command that ran, else the one before it
-abbrev next_of : World → Result (List ℕ × World) ℕ → World
+abbrev pub next_of : World → Result (List ℕ × World) ℕ → World
 next_of w (Ok done) = done.1
 next_of w (Err code) = w
 

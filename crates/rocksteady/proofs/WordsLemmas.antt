@@ -1,7 +1,6 @@
 -- The words of a line, by how many they are.
-use Rattle.std.proofs.Common.{◌≡◌, ℕ, ◌+◌, List, [], ◌∷◌, length, refl, ◌∙◌, ap}
-use Rattle.std.specs.Prelude.{None, take, Option}
-use Rattle.rocksteady.specs.declared.command.Command.{Command}
+use Rattle.std.proofs.Common.{◌≡◌, ℕ, List, [], ◌∷◌, length, refl}
+use Rattle.std.specs.Prelude.{None, take}
 use Rattle.rocksteady.specs.declared.words.TheConstants.{MOST_WORDS}
 use Rattle.rocksteady.specs.Script.{command_of}
 

@@ -5,4 +5,5 @@ pub mod World
 pub mod Tame
 pub mod Refusals
 pub mod Played
+pub mod Lawful
 pub mod Run

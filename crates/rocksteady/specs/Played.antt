@@ -1,5 +1,5 @@
 -- A script played: what is written, piece by piece, how the run ends, and the world that it leaves.
-use Rattle.std.specs.Prelude.{◌≡◌, ℕ, List, [], ◌∷◌, ◌++◌, Result, Ok, Err}
+use Rattle.std.specs.Prelude.{ℕ, List, [], ◌∷◌, ◌++◌, Result, Ok, Err}
 use Rattle.std.specs.List.{concat}
 use Rattle.rk_types.specs.declared.status.Status.{Status}
 use Rattle.rk_types.specs.declared.status.Status.TheVariants.{Done, Refused, Usage}

@@ -1,5 +1,5 @@
 -- What reading a script answers, against what the script says.
-use Rattle.std.specs.Prelude.{◌≡◌, ℕ, ◌+◌, List, ◌∷◌, Option, None, Result, Ok, Err, ⊤}
+use Rattle.std.specs.Prelude.{◌≡◌, ℕ, ◌+◌, List, ◌∷◌, Option, None, Result, Err, ⊤}
 use Rattle.rocksteady.specs.declared.command.Command.{Command}
 use Rattle.rocksteady.specs.declared.script.ScriptError.{ScriptError}
 use Rattle.rocksteady.specs.declared.script.ScriptError.TheVariants.{Refused, NoMemory}

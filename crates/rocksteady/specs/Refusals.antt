@@ -1,5 +1,5 @@
 -- What a step that does not run says.
-use Rattle.std.specs.Prelude.{◌≡◌, ℕ, ◌<◌, List, length, Result, Ok, Err, ⊤}
+use Rattle.std.specs.Prelude.{◌≡◌, ℕ, ◌<◌, length, Result, Err, ⊤}
 use Rattle.rocksteady.specs.World.{World}
 use Rattle.rocksteady.specs.Played.{Played, refused_at}
 use Rattle.rocksteady.specs.declared.cluster.StepError.{StepError}

@@ -1,9 +1,8 @@
 -- The world that a script runs on: eight lanes and a client, and what each command does there.
-use Rattle.std.specs.Prelude.{◌≡◌, ℕ, ◌+◌, List, [], ◌∷◌, ◌++◌, length, max, map, Option, Some, None, Result, Ok, Err, slice_set}
+use Rattle.std.specs.Prelude.{ℕ, ◌+◌, List, [], ◌∷◌, ◌++◌, length, max, map, Option, Some, None, Result, Ok, Err, slice_set}
 use Rattle.std.specs.List.{slice_index_or}
 use Rattle.rk_types.specs.declared.call.Op.{Op}
 use Rattle.rk_types.specs.declared.call.Call.{Call as ClientCall}
-use Rattle.rk_types.specs.declared.history.Placed.{Placed}
 use Rattle.rk_types.specs.declared.history.Receipt.{Receipt}
 use Rattle.rk_types.specs.Hashing.{hash_of, lane_of}
 use Rattle.rk_lane.specs.Plain.{Plain, new_plain, applied, receipt_of}

@@ -2,6 +2,7 @@ ghost use Rattle.std.specs.Prelude.{◌≡◌, ◌≤◌, map, length, true, fal
 ghost use Rattle.std.specs.Io.KnownBytes.{IsAtEnd};
 ghost use Rattle.rk_outside.specs.Faults.{Rose};
 ghost use Rattle.rocksteady.specs.Played.{played, usage};
+ghost use Rattle.rocksteady.specs.Lawful.{IsLawful};
 ghost use Rattle.rocksteady.specs.Run.{Runs, is_play};
 
 use crate::lines::USAGE;
@@ -60,6 +61,7 @@ fn play_source<S: Source, K: Sink>(alloc: Global, source: &mut S, sink: &mut K) 
 /// Of the script played and what the sink tells, the clauses `play` and `wrong_words` say what each status means. A
 /// fault of the source or the sink comes only where its count rose in this call, and `Done` only once the source has
 /// given its end. The replicas, of which backup b has number 8(b - 1) + l in lane l, come back as they were.
+#[tactic(auto, using(crate::proofs::LawfulLemmas::lawful_told))]
 pub fn run<X: Threads + Wait + Sync, S: Source, K: Sink, R: Replica + Send + Drop, G: Gate + Sync>(
     _rt: &X,
     alloc: Global,
@@ -76,6 +78,10 @@ pub fn run<X: Threads + Wait + Sync, S: Source, K: Sink, R: Replica + Send + Dro
         Runs (played script) result (K.written sink.old) (K.written sink.new)) }
     ensures wrong_words { is_play (map string_bytes words.now) ≡ false →
         Runs usage result (K.written sink.old) (K.written sink.new) }
+
+    // The answers are those of one map along one history: whatever the script, be it refused or not, the journals of the
+    // lanes merge into a legal history that is ordered with the receipts of the client.
+    ensures lawful { IfSome (S.left source.old) (λ script. IsLawful (played script).world) }
 
     // When a status may come, also where the source and the sink tell nothing.
     ensures usage_only_then { result ≡ Status.Usage → is_play (map string_bytes words.now) ≡ false }

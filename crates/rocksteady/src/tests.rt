@@ -153,7 +153,7 @@ fn scripts_without_the_setup(rt: HostRuntime) -> Result<(), Fail> {
         plays(&rt, rt.alloc(), script, usize::MAX, (status, text))?;
     }
     let mut long = String::new(rt.alloc());
-    while long.len() <= 16_777_216 {
+    for _ in 0..600_000 {
         long.push_str("settle\nsettle\nsettle\nsettle\n")?;
     }
     plays(

@@ -1,5 +1,4 @@
 -- An insertion that went in is the change.
-use Rattle.std.proofs.Common.{◌≡◌}
 use Rattle.rk_lane.proofs.KeptLemmas.{ChangesEntry-insert}
 use Rattle.rk_lane.proofs.kept.keep.Goals as goal
 

@@ -1,8 +1,5 @@
 -- What is pending is written first, and then the run ends.
-use Rattle.std.proofs.Common.{◌≡◌, ℕ, List, arith, sym, subst}
-use Rattle.std.specs.List.{concat}
-use Rattle.std.specs.Prelude.{Option}
-use Rattle.rk_types.specs.declared.status.Status.{Status}
+use Rattle.std.proofs.Common.{arith, sym, subst}
 use Rattle.rocksteady.specs.declared.cluster.StepError.{StepError}
 use Rattle.rocksteady.specs.declared.cluster.StepError.TheVariants.{Refused, NoMemory}
 use Rattle.rocksteady.specs.Played.{Played, after_pieces, refused_at}

@@ -1,5 +1,5 @@
 -- A script that is too long is refused at line 0.
-use Rattle.std.proofs.Common.{◌≡◌, ap, sym, subst}
+use Rattle.std.proofs.Common.{ap, sym, subst}
 use Rattle.std.specs.Prelude.{Err}
 use Rattle.std.proofs.lemmas.Option.{IfSome_then}
 use Rattle.rocksteady.specs.Played.{Played}

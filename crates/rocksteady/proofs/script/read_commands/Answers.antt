@@ -1,5 +1,4 @@
 -- A line that says a command is read; one that says none refuses the script.
-use Rattle.std.proofs.Common.{◌≡◌}
 use Rattle.rocksteady.specs.Script.{command_of, commands_from, pieces_of, words_of}
 use Rattle.rocksteady.proofs.ScriptLemmas.{IsRefusalOf-line, SoFar-push, SoFar-wrong}
 use Rattle.rocksteady.proofs.script.read_commands.Goals as goal

@@ -1,6 +1,6 @@
 -- The first words of the line say its command.
-use Rattle.std.proofs.Common.{◌≡◌, sym, ◌∙◌}
-use Rattle.rocksteady.specs.Script.{command_of, words_of}
+use Rattle.std.proofs.Common.{sym, ◌∙◌}
+use Rattle.rocksteady.specs.Script.{words_of}
 use Rattle.rocksteady.proofs.WordsLemmas.{command_of-take}
 use Rattle.rocksteady.proofs.script.read_line.Goals as goal
 

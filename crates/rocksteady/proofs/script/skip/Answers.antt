@@ -1,5 +1,5 @@
 -- The line that is cut off is the one that is wanted.
-use Rattle.std.proofs.Common.{◌≡◌, sym, ◌∙◌}
+use Rattle.std.proofs.Common.{sym, ◌∙◌}
 use Rattle.rocksteady.specs.Script.{pieces_of}
 use Rattle.rocksteady.proofs.ScriptLemmas.{commands_after-skip, pieces_of-some}
 use Rattle.rocksteady.proofs.script.skip.Goals as goal

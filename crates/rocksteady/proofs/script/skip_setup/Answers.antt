@@ -1,9 +1,7 @@
 -- Each line of the setup that is passed over leaves those after it.
-use Rattle.std.proofs.Common.{◌≡◌, ℕ, List, [], ◌∷◌, ◌∙◌}
-use Rattle.std.specs.Prelude.{codes, Err}
+use Rattle.std.proofs.Common.{ℕ, List, [], ◌∷◌, ◌∙◌}
+use Rattle.std.specs.Prelude.{codes}
 use Rattle.std.proofs.lemmas.Result.{IfOk-weaker, MatchResult-weaker, err_from_is_err_and}
-use Rattle.rocksteady.specs.Read.{LacksLine, SkipsLine}
-use Rattle.rocksteady.specs.Script.{commands_after, commands_from, pieces_of, setup}
 use Rattle.rocksteady.proofs.script.skip_setup.Goals as goal
 
 -- the lines of the setup after the third, the second and the first

@@ -1,5 +1,5 @@
 -- With any other count of words there is no command.
-use Rattle.std.proofs.Common.{◌≡◌, ℕ, List, length, map, arith}
+use Rattle.std.proofs.Common.{ℕ, List, map, arith}
 use Rattle.std.proofs.lemmas.List.{length-map}
 use Rattle.rocksteady.proofs.WordsLemmas.{command_of-none}
 use Rattle.rocksteady.proofs.words.command.Goals as goal

@@ -12,11 +12,11 @@ use Rattle.rk_lane.proofs.plain.PlainLane.placed.Goals as goal
 pub returns : goal.returns
 returns c =
     let found : option_copied c.get.result ≡ get key_cmp c.self.inside.kept (c.args.call.table, c.args.call.key) =
-            c.get.ensures.value
-            ∙ ap (λ (key : List ℕ). get key_cmp c.self.inside.kept (c.args.call.table, key)) c.in_ok-duplicate.ensures
+    c.get.ensures.value
+    ∙ ap (λ (key : List ℕ). get key_cmp c.self.inside.kept (c.args.call.table, key)) c.in_ok-duplicate.ensures
     in
     rw (← c.self.view_is)
     (placed_of-parts _ c.args.call c.args.seen (map_kept c.self.inside.kept c.args.call.table c.args.call.key) c.in_ok-outcome.outcome c.max.result
-        (c.self.invariant.entries c.args.call.table c.args.call.key)
-        (c.in_ok-outcome.ensures ∙ ap (λ (kept : Option Kept). outcome_of (entry_of kept) c.args.call.op c.self.inside.counter) found)
-        (c.max.ensures ∙ ap (λ (n : ℕ). max n c.args.seen) c.self.invariant.last))
+    (c.self.invariant.entries c.args.call.table c.args.call.key)
+    (c.in_ok-outcome.ensures ∙ ap (λ (kept : Option Kept). outcome_of (entry_of kept) c.args.call.op c.self.inside.counter) found)
+    (c.max.ensures ∙ ap (λ (n : ℕ). max n c.args.seen) c.self.invariant.last))

@@ -1,5 +1,4 @@
 -- What is kept after the change stands for the journal with the record at its end.
-use Rattle.std.proofs.Common.{◌≡◌}
 use Rattle.rk_lane.proofs.PlainLemmas.{StandsFor-push}
 use Rattle.rk_lane.proofs.plain.PlainLane.record.Goals as goal
 
@@ -7,4 +6,4 @@ pub invariant_of-self-2 : goal.invariant_of-self-2
 invariant_of-self-2 c =
     rw (c.push_reserved.ensures.items, c.reserve.ensures.items)
     (StandsFor-push c.self.inside.kept c.keep.new.kept c.self.inside.stamp c.self.inside.journal.items c.args.placed c.self.invariant
-        (rw (← c.in_ok-change.ensures, ← c.in_ok-duplicate.ensures) c.in_ok-keep.ensures.ok))
+    (rw (← c.in_ok-change.ensures, ← c.in_ok-duplicate.ensures) c.in_ok-keep.ensures.ok))

@@ -1,5 +1,5 @@
 -- The lane of the call's key is one of the eight.
-use Rattle.std.proofs.Common.{◌≡◌, ℕ, ◌<◌, List, sym, ◌∙◌, ap, arith}
+use Rattle.std.proofs.Common.{◌≡◌, ◌∙◌, ap, arith}
 use Rattle.rk_types.specs.Hashing.{hash_of, lane_of}
 use Rattle.rk_lane.specs.Plain.{Plain, last_stamp}
 use Rattle.rocksteady.specs.World.{call_lane, lane_at}
