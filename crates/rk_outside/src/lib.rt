@@ -22,7 +22,7 @@ pub use fault::Failed;
 pub use gate::{Gate, OpenGate, Point};
 pub use memory_replica::MemoryReplica;
 pub use reading::{PIECE, ReadError, read_all};
-pub use replica::{Lost, Replica, SEGMENT_BYTES};
+pub use replica::{Lost, Replica};
 pub use sink::{MemorySink, Sink};
 pub use source::{MemorySource, Source};
 pub use standard::{StdSink, StdSource};

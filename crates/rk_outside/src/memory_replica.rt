@@ -1,7 +1,8 @@
 // A replica in memory.
 ghost use Rattle.std.specs.Prelude.{ℕ, ◌≡◌, ◌+◌, ◌≤◌, ◌++◌, length, IfOk, OnOk, OnErr};
 
-use crate::replica::{Lost, Replica, SEGMENT_BYTES};
+use crate::replica::{Lost, Replica};
+use rk_types::SEGMENT_BYTES;
 use std::alloc::{AllocError, Global};
 use std::collections::BTreeMap;
 use std::marker::Model;
@@ -14,7 +15,7 @@ struct Stored {
 
 impl Model for Stored {
     ghost use Rattle.std.specs.Prelude.{ℕ, List, ◌≤◌, length};
-    ghost use Rattle.rk_outside.specs.declared.replica.TheConstants.{SEGMENT_BYTES};
+    ghost use Rattle.rk_types.specs.declared.held.TheConstants.{SEGMENT_BYTES};
 
     ghost Value = { List ℕ };
 

@@ -2,11 +2,9 @@
 ghost use Rattle.std.specs.Prelude.{ℕ, ◌≡◌, ◌+◌, ◌≤◌, ◌++◌, List, Option, Ok, false, length, is_some, IfOk, IfSome, OnErr};
 ghost use Rattle.rk_outside.specs.declared.replica.Lost.TheVariants.{NoMemory as no_memory};
 
+use rk_types::SEGMENT_BYTES;
 use std::alloc::{AllocError, AllocFailed, Global};
 use thiserror::Error;
-
-/// The greatest length of a segment, in bytes.
-pub const SEGMENT_BYTES: u32 = 131_072;
 
 /// Why a replica could not do what it was asked.
 #[derive(Clone, Copy, Debug, PartialEq, Eq, Error)]

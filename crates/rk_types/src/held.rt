@@ -7,6 +7,9 @@ use crate::text::{Key, LONGEST_KEY, LONGEST_VALUE, Value};
 /// The most bytes of a value that a log spells as a short object; a longer one ends with a mark.
 pub const LONGEST_SHORT_VALUE: usize = 8_192;
 
+/// The most bytes of a segment of a log.
+pub const SEGMENT_BYTES: u32 = 131_072;
+
 /// Bytes of the log entry of an item before its key: the kind, the length of the body, the table, the version, the
 /// client, the seq and the length of the key.
 pub const BYTES_BEFORE_KEY: u32 = 1 + 4 + 8 + 8 + 4 + 8 + 1;

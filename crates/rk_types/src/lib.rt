@@ -8,7 +8,7 @@
 
 pub use call::{Answer, Call, End, Ended, Op, Outcome};
 pub use hashing::{BUCKETS, LANES, bucket_of, hash, lane_of};
-pub use held::{Held, LONGEST_SHORT_VALUE, LONGEST_SPELLED, Token};
+pub use held::{Held, LONGEST_SHORT_VALUE, LONGEST_SPELLED, SEGMENT_BYTES, Token};
 pub use history::{Placed, Receipt};
 pub use listed::Listed;
 pub use memory::NoMemory;

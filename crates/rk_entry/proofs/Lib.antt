@@ -1,0 +1,12 @@
+pub mod Loops
+pub mod Counts
+pub mod Sizes
+pub mod Tools
+pub mod NumberLaws
+pub mod TextLaws
+pub mod EndLaws
+pub mod ListLaws
+pub mod FieldLaws
+pub mod FieldsAgain
+pub mod EntryLaws
+pub mod StandLaws

@@ -1,0 +1,11 @@
+pub mod Steps
+pub mod Numbers
+pub mod Texts
+pub mod Kinds
+pub mod Ends
+pub mod Lists
+pub mod Spelling
+pub mod Lawful
+pub mod Lengths
+pub mod Reading
+pub mod Entries

@@ -1,0 +1,32 @@
+//! The entries of a log, and the one spelling that each of them has.
+//!
+//! It stands on `rk_types` and `byteorder`. What it promises: [`encode`] writes the spelling of an entry; [`decode`]
+//! reads an entry exactly where its spelling begins the bytes, whatever follows, and else names the first fault from
+//! the left; no spelling begins another; [`entries`] reads the entries that stand one after the other. The readers and
+//! writers of single fields in [`fields`] serve other formats that are made of the same fields.
+#![tactic(auto)]
+
+pub use entry::{Carried, Entry, Joined, Refused};
+pub use error::{
+    BAD_BODY_LENGTH, BAD_CHOICE, BAD_KEY, BAD_KIND, BAD_MARK, BAD_NUMBER, BAD_VALUE, DecodeError,
+};
+pub use kind::{END_BYTES, HEAD_BYTES, Kind, LONGEST_BODY};
+pub use laws::{item_length, one_spelling, round_trip};
+pub use lists::FIRST_SIDE_SEGMENT;
+pub use reading::decode;
+pub use sequence::entries;
+pub use writing::{encode, entry_len};
+
+mod entry;
+mod error;
+pub mod fields;
+mod head;
+mod kind;
+mod laws;
+mod lists;
+mod mark;
+mod reading;
+mod sequence;
+#[cfg(test)]
+mod tests;
+mod writing;
