@@ -1,0 +1,18 @@
+use super::*;
+use rk_outside::{MemoryReplica, Replica};
+use std::test::Fail;
+
+#[test]
+fn keeps_what_agrees(rt: HostRuntime) -> Result<(), Fail> {
+    let mut lane = BackupLane::new(2, MemoryReplica::new(rt.alloc()));
+    assert_eq!(rt; lane.on_append(rt.alloc(), 1, 1, 0, b"abc")?, 3);
+    assert_eq!(rt; lane.on_append(rt.alloc(), 1, 1, 1, b"bcd")?, 4);
+    assert_eq!(rt; lane.on_append(rt.alloc(), 1, 1, 9, b"z")?, 4);
+    assert_eq!(rt; lane.on_append(rt.alloc(), 1, 1, 2, b"xyz")?, 4);
+    assert!(rt; lane.on_read(rt.alloc(), 1, 2)?.is_none());
+    let copy = lane.on_read(rt.alloc(), 1, 1)?.ok_or("never written")?;
+    assert_eq!(rt; copy.as_slice(), b"abcd".as_slice());
+    assert_eq!(rt; lane.number(), 2);
+    assert_eq!(rt; lane.into_replica().length(1, 1), 4);
+    Ok(())
+}

@@ -1,0 +1,59 @@
+ghost use Rattle.std.specs.Prelude.{◌≡◌, ◌<◌, ◌↔◌, IsTrue, nat_eq};
+ghost use Rattle.std.specs.Bool.{OnTrue, OnFalse};
+ghost use Rattle.rk_table.specs.Scans.{first};
+
+use rk_table::FIRST;
+use rk_types::Token;
+use std::marker::Model;
+
+/// How far the pulls of a range have come: the token behind all items that have arrived.
+#[derive(Debug, Drop)]
+pub struct Progress {
+    token: Token,
+}
+
+impl Model for Progress {
+    ghost use Rattle.rk_types.specs.declared.held.Token.{Token};
+
+    ghost Value = { Token };
+
+    ghost view = { λ progress. progress.token };
+}
+
+impl Progress {
+    /// Nothing has arrived.
+    pub fn new() -> Progress
+        ensures { result ≡ first }
+    {
+        Progress { token: FIRST }
+    }
+
+    /// Takes a batch that was asked for at `from` and ends at `next`, and answers whether it goes on where the last one
+    /// ended; else nothing changes.
+    pub fn take(&mut self, from: &Token, next: Token) -> bool
+        ensures fits { IsTrue result ↔ (from.now ≡ self.old) }
+        ensures taken { OnTrue result (self.new ≡ next) }
+        ensures refused { OnFalse result (self.new ≡ self.old) }
+    {
+        if *from != self.token {
+            return false;
+        }
+        self.token = next;
+        true
+    }
+
+    /// The token behind all items that have arrived.
+    pub fn token(&self) -> &Token
+        ensures { result.now ≡ self.now }
+    {
+        &self.token
+    }
+
+    /// Whether all items of this bucket have arrived: the token is behind it. In the token's own bucket some items may
+    /// have arrived, which only the table tells.
+    pub fn passed_bucket(&self, bucket: u16) -> bool
+        ensures { IsTrue result ↔ (bucket < self.now.bucket) }
+    {
+        self.token.bucket > bucket
+    }
+}

@@ -1,0 +1,9 @@
+pub mod Ordered
+pub mod InOrder
+pub mod Tokens
+pub mod Cuts
+pub mod Walks
+pub mod Found
+pub mod Scanning
+pub mod Kept
+pub mod Examples

@@ -1,0 +1,5 @@
+pub mod Order
+pub mod Items
+pub mod Scans
+pub mod Places
+pub mod Sorted
