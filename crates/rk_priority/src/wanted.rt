@@ -1,0 +1,123 @@
+ghost use Rattle.std.specs.Prelude.{◌≡◌, ◌≢◌, ◌≤◌, ℕ, not, length, OnOk, OnErr, IfOk, AllPairs};
+ghost use Rattle.std.specs.Borrow.{sem};
+ghost use Rattle.rk_priority.specs.Hashes.{Hashes, AreApart, no_hashes, contains, is_known, wanting, batched, is_batch, got as got_lem};
+
+use rk_types::NoMemory;
+use std::alloc::Global;
+use std::marker::Model;
+
+/// The most hashes of a batch.
+pub const BATCH_HASHES: usize = 16;
+
+/// The hashes that are wanted, outstanding or resolved.
+#[derive(Debug, Drop)]
+pub struct Wanted {
+    // All of them, the oldest first: those that are resolved, then the batch, then those that are still wanted.
+    hashes: Vec<u64>,
+    resolved: usize,
+    batch: usize,
+}
+
+impl Model for Wanted {
+    ghost use Rattle.std.specs.Prelude.{◌≢◌, ◌+◌, ◌≤◌, length, take, drop, AllPairs};
+    ghost use Rattle.rk_priority.specs.Hashes.{Hashes};
+    ghost use Rattle.rk_priority.specs.declared.wanted.TheConstants.{BATCH_HASHES};
+
+    ghost Value = { Hashes };
+
+    ghost view = { λ w. record { resolved = take w.resolved w.hashes.items; outstanding = take w.batch (drop w.resolved w.hashes.items); wanted = drop w.batch (drop w.resolved w.hashes.items) } };
+
+    ghost invariant = { λ w. (w.resolved + w.batch ≤ length w.hashes.items) × (w.batch ≤ BATCH_HASHES) × AllPairs (λ a b. a ≢ b) w.hashes.items };
+}
+
+impl Wanted {
+    ghost use Rattle.rk_priority.specs.Batches.{EndsAs};
+
+    /// No hash at all.
+    pub fn new(alloc: Global) -> Wanted
+        ensures { result ≡ no_hashes }
+    {
+        Wanted {
+            hashes: Vec::new(alloc),
+            resolved: 0,
+            batch: 0,
+        }
+    }
+
+    /// Wants a hash, and answers whether it was neither wanted, outstanding nor resolved before. After `NoMemory`
+    /// nothing has changed.
+    pub fn want(&mut self, hash: u64) -> Result<bool, NoMemory>
+        ensures answer { IfOk result (λ new. new ≡ not (is_known self.old hash)) }
+        ensures after { OnOk result (self.new ≡ wanting self.old hash) }
+        ensures err { OnErr result (self.new ≡ self.old) }
+        ensures apart { AreApart self.new }
+    {
+        if has(self.hashes.as_slice(), hash) {
+            return Ok(false);
+        }
+        self.hashes.push(hash)?;
+        Ok(true)
+    }
+
+    /// The batch to ask for: the outstanding one, or where there is none the oldest 16 or fewer of the wanted hashes,
+    /// which are outstanding then. Without a wanted hash it is empty.
+    pub fn next_batch(&mut self) -> &[u64]
+        ensures batch { result.now ≡ (batched self.entry.now).outstanding }
+        ensures few { length result.now ≤ BATCH_HASHES }
+        ensures* after { sem 𝓛 (EndsAs self.entry (batched self.entry.now)) }
+    {
+        self.open_batch();
+        let (_, rest) = self.hashes.split_at(self.resolved);
+        rest.split_at(self.batch).0
+    }
+
+    /// Takes note that the records of these hashes have come, and answers whether these are the outstanding batch, in
+    /// its order, and not empty. Only then are they resolved, and else nothing has changed.
+    pub fn got(&mut self, hashes: &[u64]) -> bool
+        ensures answer { result ≡ is_batch self.old.outstanding hashes.now }
+        ensures after { self.new ≡ got_lem self.old hashes.now }
+        ensures apart { AreApart self.new }
+    {
+        let (_, rest) = self.hashes.split_at(self.resolved);
+        let (batch, _) = rest.split_at(self.batch);
+        if batch.is_empty() || batch != hashes {
+            return false;
+        }
+        self.resolved += self.batch;
+        self.batch = 0;
+        true
+    }
+
+    /// Whether the record of this hash has come.
+    pub fn resolved(&self, hash: u64) -> bool
+        ensures resolved { result ≡ contains self.now.resolved hash }
+        ensures apart { AreApart self.now }
+    {
+        has(self.hashes.split_at(self.resolved).0, hash)
+    }
+
+    /// Forgets all hashes.
+    pub fn clear(&mut self)
+        ensures { self.new ≡ no_hashes }
+    {
+        self.hashes.clear();
+        self.resolved = 0;
+        self.batch = 0;
+    }
+
+    // Makes the oldest wanted hashes the batch, where none is outstanding.
+    fn open_batch(&mut self)
+        ensures { self.new ≡ batched self.old }
+    {
+        if self.batch == 0 {
+            self.batch = (self.hashes.len() - self.resolved).min(BATCH_HASHES);
+        }
+    }
+}
+
+// Whether the hash is one of these.
+fn has(hashes: &[u64], hash: u64) -> bool
+    ensures { result ≡ contains hashes.now hash }
+{
+    hashes.contains(&hash)
+}

@@ -1,0 +1,133 @@
+-- The moves of a handover: which role comes after which, at which term, and what is kept of what a move is handed.
+use Rattle.std.specs.Prelude.{ℕ, Bool, true, false, nat_lt, ◌==◌, if◌then◌else◌, Option, Some, None}
+use Rattle.std.specs.Option.{option_map}
+use Rattle.rk_types.specs.declared.range.Range.{Range}
+use Rattle.rk_transfer.specs.declared.handover.Handover.{Handover}
+use Rattle.rk_transfer.specs.declared.role.Role.{Role}
+use Rattle.rk_transfer.specs.declared.role.Role.TheVariants.{Absent, Serving, Closing, Frozen, Wanting, Receiving, Joining, Rebuilding}
+
+-- a move, with what it is handed
+pub data Move : Type 0 where
+  Prepare : (term : ℕ) (range : Range) (from : ℕ) → Move
+  Close : (term : ℕ) → Move
+  Freeze : (term : ℕ) → Move
+  Grant : (term counter : ℕ) → Move
+  Join : (term : ℕ) (entry : Option ℕ) → Move
+  Rebuild : (term : ℕ) (range : Range) (from : ℕ) → Move
+  Carry : (term entry counter : ℕ) → Move
+  Own : (term committed : ℕ) → Move
+  Release : (term : ℕ) → Move
+
+-- the role after a close, where the role before takes one
+abbrev pub role_closed : Role → Option Role
+role_closed Serving = Some Closing
+role_closed (Joining entry) = Some Closing
+role_closed (Rebuilding from entry) = Some Closing
+role_closed _ = None
+
+-- the role after a freeze
+abbrev pub role_frozen : Role → Option Role
+role_frozen Closing = Some Frozen
+role_frozen _ = None
+
+-- the role after a grant
+abbrev pub role_granted : Role → Option Role
+role_granted (Wanting from) = Some Receiving
+role_granted _ = None
+
+-- the role after a join: a role that has its closing entry keeps it, and one without it takes one
+abbrev pub role_joined : Option ℕ → Role → Option Role
+role_joined entry Receiving = Some (Joining entry)
+role_joined (Some place) (Joining None) = Some (Joining (Some place))
+role_joined _ _ = None
+
+-- the role after a carry: only a rebuild without its closing entry takes one
+abbrev pub role_carried : ℕ → Role → Option Role
+role_carried entry (Rebuilding from None) = Some (Rebuilding from (Some entry))
+role_carried _ _ = None
+
+-- the role after the owner is told: the closing entry stands below what is committed
+abbrev pub role_owned : ℕ → Role → Option Role
+role_owned committed (Joining (Some entry)) = if nat_lt entry committed then Some Serving else None
+role_owned committed (Rebuilding from (Some entry)) = if nat_lt entry committed then Some Serving else None
+role_owned _ _ = None
+
+-- the role after a release
+abbrev pub role_released : Role → Option Role
+role_released Frozen = Some Absent
+role_released _ = None
+
+-- the handover in a role, where there is one
+abbrev pub in_role : Handover → Option Role → Option Handover
+in_role handover role = option_map (λ r. record handover { role = r }) role
+
+-- a handover asked for anew, by a greater term alone: the term, the range and the role are those given
+abbrev pub begun : Handover → ℕ → Range → Role → Option Handover
+begun handover term range role =
+    if nat_lt handover.term term
+    then Some (record handover { role = role; term = term; range = range })
+    else None
+
+-- after a prepare the master waits for a grant
+abbrev pub prepared : Handover → ℕ → Range → ℕ → Option Handover
+prepared handover term range from = begun handover term range (Wanting from)
+
+-- after a rebuild it collects, and has no closing entry yet
+abbrev pub rebuilt : Handover → ℕ → Range → ℕ → Option Handover
+rebuilt handover term range from = begun handover term range (Rebuilding from None)
+
+-- a close comes by a greater term, which is kept
+abbrev pub closed : Handover → ℕ → Option Handover
+closed handover term =
+    if nat_lt handover.term term
+    then in_role (record handover { term = term }) (role_closed handover.role)
+    else None
+
+-- each other move comes at the kept term; a freeze is the first of them
+abbrev pub frozen : Handover → ℕ → Option Handover
+frozen handover term = if handover.term == term then in_role handover (role_frozen handover.role) else None
+
+-- a grant hands over the counter
+abbrev pub granted : Handover → ℕ → ℕ → Option Handover
+granted handover term counter =
+    if handover.term == term
+    then in_role (record handover { counter = counter }) (role_granted handover.role)
+    else None
+
+-- a join tells the place of the closing entry, or that it is not in the log yet
+abbrev pub joined : Handover → ℕ → Option ℕ → Option Handover
+joined handover term entry = if handover.term == term then in_role handover (role_joined entry handover.role) else None
+
+-- a carry hands over the counter too, with the place of the closing entry
+abbrev pub carried : Handover → ℕ → ℕ → ℕ → Option Handover
+carried handover term entry counter =
+    if handover.term == term
+    then in_role (record handover { counter = counter }) (role_carried entry handover.role)
+    else None
+
+-- the owner is told with how much of its log is committed
+abbrev pub owned : Handover → ℕ → ℕ → Option Handover
+owned handover term committed = if handover.term == term then in_role handover (role_owned committed handover.role) else None
+
+-- a release ends the handover
+abbrev pub released : Handover → ℕ → Option Handover
+released handover term = if handover.term == term then in_role handover (role_released handover.role) else None
+
+-- the handover after a move, or none where the move does not apply
+abbrev pub moved : Handover → Move → Option Handover
+moved handover (Prepare term range from) = prepared handover term range from
+moved handover (Close term) = closed handover term
+moved handover (Freeze term) = frozen handover term
+moved handover (Grant term counter) = granted handover term counter
+moved handover (Join term entry) = joined handover term entry
+moved handover (Rebuild term range from) = rebuilt handover term range from
+moved handover (Carry term entry counter) = carried handover term entry counter
+moved handover (Own term committed) = owned handover term committed
+moved handover (Release term) = released handover term
+
+-- the roles in which a master answers calls
+abbrev pub is_serving : Role → Bool
+is_serving Serving = true
+is_serving Receiving = true
+is_serving (Joining entry) = true
+is_serving _ = false
