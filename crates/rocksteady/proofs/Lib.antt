@@ -6,3 +6,4 @@ pub mod TameLemmas
 pub mod PlayedLemmas
 pub mod StepLemmas
 pub mod LawfulLemmas
+pub mod Examples

@@ -106,6 +106,8 @@ fn scripts_after_the_setup(rt: HostRuntime) -> Result<(), Fail> {
         ("call 2 put 1 a x\n", Status::Refused, "refused 5 30\n"),
         ("call 1 get 1 a x\n", Status::Refused, "refused 5 30\n"),
         ("settle\r\n", Status::Refused, "refused 5 30\n"),
+        ("call 1 get\t1 a\n", Status::Refused, "refused 5 30\n"),
+        ("call 1 get 1 a\x7f\n", Status::Refused, "refused 5 30\n"),
         (
             "call 1 get 1 a b c d e f g\n",
             Status::Refused,
@@ -152,17 +154,37 @@ fn scripts_without_the_setup(rt: HostRuntime) -> Result<(), Fail> {
     for (script, status, text) in rows {
         plays(&rt, rt.alloc(), script, usize::MAX, (status, text))?;
     }
-    let mut long = String::new(rt.alloc());
-    for _ in 0..600_000 {
-        long.push_str("settle\nsettle\nsettle\nsettle\n")?;
+    Ok(())
+}
+
+// A script that asks for a key of so many bytes.
+fn get_of(alloc: Global, count: usize) -> Result<String, Fail> {
+    let mut lines = String::from_str(alloc, "call 1 get 1 ")?;
+    for _ in 0..count {
+        lines.push_str("k")?;
     }
-    plays(
-        &rt,
-        rt.alloc(),
-        long.as_str(),
-        usize::MAX,
-        (Status::Refused, "refused 0 20\n"),
-    )
+    lines.push_str("\nsettle\n")?;
+    script(alloc, lines.as_str())
+}
+
+// The longest key and script are taken, and are refused with one byte more.
+#[test]
+fn longest_keys_and_scripts(rt: HostRuntime) -> Result<(), Fail> {
+    let key = get_of(rt.alloc(), 250)?;
+    let done = (Status::Done, "reply 1 1 absent\n");
+    plays(&rt, rt.alloc(), key.as_str(), usize::MAX, done)?;
+    let key = get_of(rt.alloc(), 251)?;
+    let refused = (Status::Refused, "refused 5 30\n");
+    plays(&rt, rt.alloc(), key.as_str(), usize::MAX, refused)?;
+    let mut script = String::new(rt.alloc());
+    for _ in 0..2_097_152 {
+        script.push_str("\n\n\n\n\n\n\n\n")?;
+    }
+    let refused = (Status::Refused, "refused 1 30\n");
+    plays(&rt, rt.alloc(), script.as_str(), usize::MAX, refused)?;
+    script.push_str("\n")?;
+    let too_long = (Status::Refused, "refused 0 20\n");
+    plays(&rt, rt.alloc(), script.as_str(), usize::MAX, too_long)
 }
 
 #[test]
@@ -183,6 +205,14 @@ fn faults_and_words(rt: HostRuntime) -> Result<(), Fail> {
         Status::WriteFault
     );
     assert_eq!(rt; sink.bytes(), b"reply 1 ".as_slice());
+
+    let mut source = MemorySource::new(whole.as_bytes());
+    let mut sink = MemorySink::new(rt.alloc()).taking_nothing(&[1]);
+    assert_eq!(rt;
+        started(&rt, rt.alloc(), &["play"], &mut source, &mut sink)?,
+        Status::WriteFault
+    );
+    assert_eq!(rt; sink.bytes(), b"".as_slice());
 
     let lists: [&[&str]; 4] = [&[], &["--help"], &["play", "x"], &["Play"]];
     for words in lists {
