@@ -4,7 +4,8 @@ ghost use Rattle.rk_outside.specs.Losses.{HasLossCause};
 ghost use Rattle.rk_outside.specs.Segments.{IsSame, WhereTold, bytes_of};
 ghost use Rattle.rk_backup.specs.Accepts.{Accepts, Grows, is_accepted};
 
-use rk_outside::{Lost, Replica, SEGMENT_BYTES};
+use rk_outside::{Lost, Replica};
+use rk_types::SEGMENT_BYTES;
 use std::alloc::Global;
 
 // Whether the bytes begin where bytes are stored or at their end, and agree with them as far as both go.

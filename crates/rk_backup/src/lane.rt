@@ -1,5 +1,6 @@
 use crate::accept::accept;
-use rk_outside::{Lost, Replica, SEGMENT_BYTES};
+use rk_outside::{Lost, Replica};
+use rk_types::SEGMENT_BYTES;
 use std::alloc::Global;
 
 /// One lane of a backup, with its replica.
