@@ -1,6 +1,6 @@
 ghost use Rattle.std.specs.Prelude.{◌≡◌, IfOk};
 
-use rk_types::{Listed, NoMemory};
+use rk_types::{Listed, Member, NoMemory};
 
 /// Where a tablet is. Places count the entries of a master's log from 0, and `from`, `sfrom` and `dfrom` are those from
 /// which the log of the owner, the source and the target counts for the tablet.
@@ -27,7 +27,7 @@ pub enum Phase {
     },
     /// The master `to` rebuilds it from the logs of these masters, each with its place, the oldest first.
     Rebuilding {
-        lineage: Listed<(u8, u64)>,
+        lineage: Listed<Member>,
         to: u8,
     },
 }

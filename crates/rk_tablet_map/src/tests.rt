@@ -1,5 +1,5 @@
 use super::*;
-use rk_types::{Listed, Range};
+use rk_types::{Listed, Member, Range};
 use std::test::Fail;
 
 fn row(tablet: u32, table: u64, first: u64, last: u64) -> Row {
@@ -38,7 +38,7 @@ fn changes_one_row(rt: HostRuntime) -> Result<(), Fail> {
     map.add(row(7, 1, 5, 9))?;
     map.add(row(2, 1, 0, 4))?;
     let mut lineage = Listed::new(rt.alloc());
-    lineage.push((2, 3))?;
+    lineage.push(Member { master: 2, from: 3 })?;
     let phase = Phase::Rebuilding { lineage, to: 3 };
     assert_eq!(rt; map.change(9, 2, phase.duplicate()?), false);
     assert_eq!(rt; map.change(7, 2, phase.duplicate()?), true);

@@ -1,4 +1,4 @@
-//! The words that every crate of the project shares: keys, values, calls, outcomes, log items and nodes.
+//! The words that every crate of the project shares: keys, values, calls, outcomes, log items, nodes and lineages.
 //!
 //! It stands on std alone. What it promises: a [`Key`] and a [`Value`] are text within their limits, and a refusal
 //! says exactly what is wrong; [`hash`], [`lane_of`] and [`bucket_of`] are the numbers of their definitions; a
@@ -10,6 +10,7 @@ pub use call::{Answer, Call, End, Ended, Op, Outcome};
 pub use hashing::{BUCKETS, LANES, bucket_of, hash, lane_of};
 pub use held::{Held, LONGEST_SHORT_VALUE, LONGEST_SPELLED, SEGMENT_BYTES, Token};
 pub use history::{Placed, Receipt};
+pub use lineage::Member;
 pub use listed::Listed;
 pub use memory::NoMemory;
 pub use node::{Node, Parcel, Said};
@@ -21,6 +22,7 @@ mod call;
 mod hashing;
 mod held;
 mod history;
+mod lineage;
 mod listed;
 mod memory;
 mod node;

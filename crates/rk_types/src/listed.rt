@@ -28,6 +28,15 @@ impl<T> Listed<T> {
         }
     }
 
+    /// The list of no items, which takes no memory. What is put into it takes its memory where this list does.
+    pub fn empty_like(&self) -> Listed<T>
+        ensures { result ≡ [] }
+    {
+        Listed {
+            items: Vec::new(*self.items.allocator()),
+        }
+    }
+
     /// The list of these items, in their order; nothing is copied.
     pub fn from_vec(items: Vec<T>) -> Listed<T>
         ensures { result ≡ items.items }
