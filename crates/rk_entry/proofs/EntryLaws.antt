@@ -292,7 +292,7 @@ fields_again (entries.Carried carried) rest h = carried_again (body_length (entr
 fields_again (entries.Joined joined) rest h = joined_again (body_length (entries.Joined joined)) joined rest h (omega (arith, body_count (entries.Joined joined)))
 
 -- a list of so many members fits its count
-list_length : (first each most count n : ℕ) → 0 < each → n ≡ first + each * count → n ≤ most → is_list_length first each most n ≡ true
+pub list_length : (first each most count n : ℕ) → 0 < each → n ≡ first + each * count → n ≤ most → is_list_length first each most n ≡ true
 list_length first each most count n some is within =
     let range : is_in_range first most n ≡ true = is_in_range_of first most n (omega arith) within in
     let members : n - first ≡ count * each = omega (arith, is) in

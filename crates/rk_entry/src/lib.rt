@@ -15,7 +15,7 @@ pub use laws::{item_length, one_spelling, round_trip};
 pub use lists::FIRST_SIDE_SEGMENT;
 pub use reading::decode;
 pub use sequence::entries;
-pub use writing::{encode, entry_len};
+pub use writing::{encode, entry_len, put_entry};
 
 mod entry;
 mod error;
@@ -29,4 +29,6 @@ mod reading;
 mod sequence;
 #[cfg(test)]
 mod tests;
+#[cfg(test)]
+mod vectors;
 mod writing;

@@ -134,21 +134,29 @@ pub fn entry_len(entry: &Entry) -> u32
     }
 }
 
-/// Puts the spelling of a lawful entry at the end of `into`. After `NoMemory` it is as it was.
+/// Puts the spelling of a lawful entry at the end, in memory that was taken before.
 #[tactic(auto, using(crate::proofs::Sizes::spelled_count, crate::proofs::Sizes::body_count, crate::proofs::Sizes::front_count))]
-pub fn encode(entry: &Entry, into: &mut Vec<u8>) -> Result<(), NoMemory>
-    requires { IsLawfulEntry entry.now }
-    ensures ok { OnOk result (into.new.items ≡ into.old.items ++ spelled entry.now) }
-    ensures err { OnErr result (into.new.items ≡ into.old.items) }
+pub fn put_entry(into: &mut Vec<u8>, entry: &Entry)
+    requires lawful { IsLawfulEntry entry.now }
+    requires room { HasRoom into.old (length (spelled entry.now)) }
+    ensures { Gains into.old into.new (spelled entry.now) (length (spelled entry.now)) }
 {
     let start = into.len();
-    let length = entry_len(entry);
-    into.reserve(length as usize)?;
-    put_front(into, entry, length - HEAD_BYTES);
+    put_front(into, entry, entry_len(entry) - HEAD_BYTES);
     if entry.kind().is_marked() {
         let (_, front) = into.split_at(start);
         let mark = mark_of(front);
         put_u8(into, mark);
     }
+}
+
+/// Puts the spelling of a lawful entry at the end of `into`. After `NoMemory` it is as it was.
+pub fn encode(entry: &Entry, into: &mut Vec<u8>) -> Result<(), NoMemory>
+    requires { IsLawfulEntry entry.now }
+    ensures ok { OnOk result (into.new.items ≡ into.old.items ++ spelled entry.now) }
+    ensures err { OnErr result (into.new.items ≡ into.old.items) }
+{
+    into.reserve(entry_len(entry) as usize)?;
+    put_entry(into, entry);
     Ok(())
 }
