@@ -1,3 +1,4 @@
 pub mod PartLemmas
 pub mod SegmentLemmas
 mod Places
+mod ReplicaLemmas

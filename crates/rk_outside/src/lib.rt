@@ -1,7 +1,7 @@
 //! The outside of a cluster: where a script comes from, where its answers go, where backups keep
 //! their segments, and where a test can hold up a thread; each with doubles in memory.
 //!
-//! It stands on std and thiserror alone. Each trait counts its faults: the count never falls, and an
+//! It stands on rk_types. Each trait counts its faults: the count never falls, and an
 //! error comes only where it rose, so that nobody can blame the outside for a fault of their own.
 //! Reading a whole input and writing a whole text are two loops here, proved once for all crates above.
 #![tactic(auto)]
@@ -11,6 +11,7 @@ mod gate;
 mod memory_replica;
 mod reading;
 mod replica;
+mod shelf;
 mod sink;
 mod source;
 mod standard;

@@ -1,106 +1,152 @@
 // A replica in memory.
-ghost use Rattle.std.specs.Prelude.{ℕ, ◌≡◌, ◌+◌, ◌≤◌, ◌++◌, length, IfOk, OnOk, OnErr};
+ghost use Rattle.std.specs.Prelude.{◌≡◌, ◌+◌, ◌≤◌, ◌++◌, Some, Ok, false, length, take, is_some, IfOk, OnErr, refl};
+ghost use Rattle.rk_outside.specs.Faults.{Rose, one_more};
+ghost use Rattle.rk_outside.specs.Losses.{HasLossCause};
+ghost use Rattle.rk_outside.specs.Segments.{bytes_of, lengths_of, GrowsAtMost, IsSame, Lengthens, Stores};
+ghost use Rattle.rk_outside.specs.Replicas.{new_replica, segments_of, IsUnwritten, fails_next, FailsWhere, after_append, after_read};
 
 use crate::replica::{Lost, Replica};
+use crate::shelf::Shelf;
 use rk_types::SEGMENT_BYTES;
-use std::alloc::{AllocError, Global};
-use std::collections::BTreeMap;
+use std::alloc::Global;
 use std::marker::Model;
 
-// The bytes of one segment, which is never longer than a segment may be.
+/// A replica that keeps its segments in memory, and fails where a test wants it to. It tells its
+/// segments.
 #[derive(Drop)]
-struct Stored {
-    bytes: Vec<u8>,
+pub struct MemoryReplica<'a> {
+    shelf: Shelf,
+    calls: u64,
+    failing: &'a [u64],
+    kept: usize,
+    faults: u64,
 }
 
-impl Model for Stored {
-    ghost use Rattle.std.specs.Prelude.{ℕ, List, ◌≤◌, length};
-    ghost use Rattle.rk_types.specs.declared.held.TheConstants.{SEGMENT_BYTES};
+impl<'a> Model for MemoryReplica<'a> {
+    ghost use Rattle.rk_outside.specs.Replicas.{ReplicaState, replica_state_code};
 
-    ghost Value = { List ℕ };
+    ghost Value = { ReplicaState };
 
-    ghost view = { λ s. s.bytes.items };
+    ghost coded = { replica_state_code };
 
-    ghost invariant = { λ s. length s.bytes.items ≤ SEGMENT_BYTES };
+    ghost view = { λ r. record {
+      written = r.shelf;
+      calls = r.calls;
+      failing = r.failing.now;
+      kept = r.kept;
+      faults = r.faults;
+    } };
 }
 
-impl Stored {
-    fn new(alloc: Global, bytes: &[u8]) -> Result<Stored, AllocError>
-        requires { length bytes.now ≤ SEGMENT_BYTES }
-        ensures { IfOk result (λ stored. stored ≡ bytes.now) }
-    {
-        let bytes = Vec::from_slice(alloc, bytes)?;
-        Ok(Stored { bytes })
-    }
-
-    fn add(&mut self, bytes: &[u8]) -> Result<(), AllocError>
-        requires { length self.old + length bytes.now ≤ SEGMENT_BYTES }
-        ensures ok { OnOk result (self.new ≡ self.old ++ bytes.now) }
-        ensures err { OnErr result (self.new ≡ self.old) }
-    {
-        self.bytes.extend_from_slice(bytes)
-    }
-
-    fn length(&self) -> u32
-        ensures value { result ≡ length self.now }
-        ensures most { result ≤ SEGMENT_BYTES }
-    {
-        self.bytes.len() as u32
-    }
-
-    fn bytes(&self) -> &[u8]
-        ensures value { result.now ≡ self.now }
-        ensures most { length result.now ≤ SEGMENT_BYTES }
-    {
-        self.bytes.as_slice()
-    }
+// The first bytes, so many, or all where there are fewer.
+fn front(bytes: &[u8], count: usize) -> &[u8]
+    ensures { result.now ≡ take count bytes.now }
+{
+    &bytes[..count.min(bytes.len())]
 }
 
-/// A replica that keeps its segments in memory. It tells them.
-#[derive(Drop)]
-pub struct MemoryReplica {
-    segments: BTreeMap<(u8, u32), Stored>,
-}
+impl<'a> MemoryReplica<'a> {
+    ghost use Rattle.rk_outside.specs.declared.replica.Lost.TheVariants.{Failed as failed};
 
-impl MemoryReplica {
-    ghost use Rattle.rk_outside.specs.Replicas.{segments_of, IsUnwritten};
-
-    /// A replica to which nothing was written.
-    pub fn new(alloc: Global) -> MemoryReplica
-        ensures { IsUnwritten (segments_of result) }
+    /// A replica to which nothing was written, and no call of which fails.
+    pub fn new(alloc: Global) -> MemoryReplica<'a>
+        ensures state { result ≡ new_replica }
+        ensures unwritten { IsUnwritten (segments_of result) }
     {
         MemoryReplica {
-            segments: BTreeMap::new(alloc),
+            shelf: Shelf::new(alloc),
+            calls: 0,
+            failing: &[],
+            kept: 0,
+            faults: 0,
         }
+    }
+
+    /// The same replica, whose calls of these numbers fail. Appends and reads are counted together,
+    /// from 1; a call that finds no memory changes nothing, and is not counted.
+    pub fn failing(self, calls: &'a [u64]) -> MemoryReplica<'a>
+        ensures { result ≡ record self.entry { failing = calls.now } }
+    {
+        let mut replica = self;
+        replica.failing = calls;
+        replica
+    }
+
+    /// The same replica, whose failing appends keep so many of their first bytes, or all where they
+    /// have fewer.
+    pub fn keeping(self, count: usize) -> MemoryReplica<'a>
+        ensures { result ≡ record self.entry { kept = count } }
+    {
+        let mut replica = self;
+        replica.kept = count;
+        replica
+    }
+
+    /// How often it failed.
+    pub fn faults(&self) -> u64
+        ensures { result ≡ self.now.faults }
+    {
+        self.faults
+    }
+
+    // Whether the next call fails.
+    fn will_fail(&self) -> bool
+        ensures { result ≡ fails_next self.now }
+    {
+        self.failing.contains(&self.calls.saturating_add(1))
+    }
+
+    // Counts a call that fails, and gives what it answers.
+    fn fail(&mut self) -> Lost
+        ensures answer { result ≡ failed }
+        ensures counted { self.new ≡ record self.old {
+          calls = one_more self.old.calls;
+          faults = one_more self.old.faults;
+        } }
+        ensures rose { Rose self.old.faults self.new.faults }
+        ensures later { self.old.faults ≤ self.new.faults }
+    {
+        self.calls = self.calls.saturating_add(1);
+        self.faults = self.faults.saturating_add(1);
+        Lost::Failed
     }
 }
 
-impl Replica for MemoryReplica {
-    ghost use Rattle.std.specs.Prelude.{Some, refl};
-    ghost use Rattle.rk_outside.specs.Replicas.{segments_of};
-    ghost use Rattle.rk_outside.specs.Segments.{lengths_of};
-
+impl Replica for MemoryReplica<'_> {
     ghost lengths = { λ replica. lengths_of (segments_of replica) };
 
     ghost segments = { λ replica. Some (segments_of replica) };
 
-    ghost faults = { λ _. 0 };
+    ghost faults = { λ replica. replica.faults };
 
     fn append(
         &mut self,
         alloc: Global,
         master: u8,
         segment: u32,
-        _at: u32,
+        at: u32,
         bytes: &[u8],
-    ) -> Result<(), Lost> {
-        if let Some(stored) = self.segments.get_mut(&(master, segment)) {
-            stored.add(bytes)?;
+    ) -> Result<(), Lost>
+        requires end { at ≡ lengths_of (segments_of self.old) master segment }
+        requires room { at + length bytes.now ≤ SEGMENT_BYTES }
+        ensures lengths { Lengthens result master segment (length bytes.now)
+            (lengths_of (segments_of self.old)) (lengths_of (segments_of self.new)) }
+        ensures segments { Stores result master segment bytes.now
+            (segments_of self.old) (segments_of self.new) }
+        ensures cause { HasLossCause self.old.faults self.new.faults result }
+
+        // It fails exactly at the calls of its list, and then keeps as much as it may.
+        ensures fails { FailsWhere (fails_next self.old) result }
+        ensures after { self.new ≡ after_append result master segment bytes.now self.old }
+    {
+        if !self.will_fail() {
+            self.shelf.add(alloc, master, segment, bytes)?;
+            self.calls = self.calls.saturating_add(1);
             return Ok(());
         }
-        let stored = Stored::new(alloc, bytes)?;
-        self.segments.insert((master, segment), stored)?;
-        Ok(())
+        let kept = front(bytes, self.kept);
+        self.shelf.keep(alloc, master, segment, kept)?;
+        Err(self.fail())
     }
 
     fn read(
@@ -109,20 +155,38 @@ impl Replica for MemoryReplica {
         master: u8,
         segment: u32,
         into: &mut Vec<u8>,
-    ) -> Result<bool, Lost> {
-        match self.segments.get(&(master, segment)) {
-            None => Ok(false),
-            Some(stored) => {
-                into.extend_from_slice(stored.bytes())?;
-                Ok(true)
-            }
+    ) -> Result<bool, Lost>
+        ensures grown { IfOk result (λ _. GrowsAtMost into.old.items into.new.items SEGMENT_BYTES) }
+        ensures stored { IfOk result (λ _. into.new.items
+            ≡ into.old.items ++ bytes_of (segments_of self.old master segment)) }
+        ensures written { IfOk result (λ was_written. was_written
+            ≡ is_some (segments_of self.old master segment)) }
+        ensures absent { result ≡ Ok false → into.new.items ≡ into.old.items }
+        ensures refused { OnErr result (into.new.items ≡ into.old.items) }
+        ensures lengths { IsSame (lengths_of (segments_of self.old)) (lengths_of (segments_of self.new)) }
+        ensures segments { IsSame (segments_of self.old) (segments_of self.new) }
+        ensures cause { HasLossCause self.old.faults self.new.faults result }
+
+        // It fails exactly at the calls of its list, and changes its counts alone.
+        ensures fails { FailsWhere (fails_next self.old) result }
+        ensures after { self.new ≡ after_read result self.old }
+    {
+        if self.will_fail() {
+            return Err(self.fail());
         }
+        let Some(bytes) = self.shelf.get(master, segment) else {
+            self.calls = self.calls.saturating_add(1);
+            return Ok(false);
+        };
+        into.extend_from_slice(bytes)?;
+        self.calls = self.calls.saturating_add(1);
+        Ok(true)
     }
 
     fn length(&self, master: u8, segment: u32) -> u32 {
-        match self.segments.get(&(master, segment)) {
+        match self.shelf.get(master, segment) {
             None => 0,
-            Some(stored) => stored.length(),
+            Some(bytes) => bytes.len() as u32,
         }
     }
 

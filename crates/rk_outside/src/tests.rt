@@ -2,8 +2,8 @@
 ghost use Rattle.std.specs.Prelude.{◌≤◌, IfOk};
 
 use crate::{
-    Failed, Gate, MemoryReplica, MemorySink, MemorySource, OpenGate, Point, ReadError, Replica,
-    StdSink, StdSource, put_all, read_all,
+    Failed, Gate, Lost, MemoryReplica, MemorySink, MemorySource, OpenGate, Point, ReadError,
+    Replica, StdSink, StdSource, put_all, read_all,
 };
 use std::alloc::Global;
 use std::io;
@@ -81,6 +81,32 @@ fn keeps_segments<R: Replica + Send + Drop>(
 #[test]
 fn a_replica_in_memory_keeps_what_is_appended(rt: HostRuntime) -> Result<(), Fail> {
     keeps_segments(&rt, rt.alloc(), MemoryReplica::new(rt.alloc()))
+}
+
+#[test]
+fn a_failing_append_keeps_a_first_part_and_the_rest_makes_it_whole(
+    rt: HostRuntime,
+) -> Result<(), Fail> {
+    let bytes = b"This segment has forty bytes and no more";
+    let mut replica = MemoryReplica::new(rt.alloc()).failing(&[1, 3]).keeping(17);
+    assert_eq!(rt;
+        replica.append(rt.alloc(), 1, 7, 0, bytes),
+        Err(Lost::Failed)
+    );
+    let kept = replica.length(1, 7);
+    assert_eq!(rt; kept, 17);
+    replica.append(rt.alloc(), 1, 7, kept, &bytes[17..])?;
+    assert_eq!(rt; replica.length(1, 7), 40);
+    let mut into = Vec::new(rt.alloc());
+    assert_eq!(rt;
+        replica.read(rt.alloc(), 1, 7, &mut into),
+        Err(Lost::Failed)
+    );
+    assert_eq!(rt; into.len(), 0);
+    assert!(rt; replica.read(rt.alloc(), 1, 7, &mut into)?);
+    assert_eq!(rt; into.as_slice(), bytes.as_slice());
+    assert_eq!(rt; replica.faults(), 2);
+    Ok(())
 }
 
 // A device of std, each call of which does the next of these things; it is at its end after them.

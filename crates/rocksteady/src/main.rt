@@ -27,7 +27,7 @@ use std::{env, io};
 const REPLICAS: usize = 32;
 
 // The replicas of a run, which hold nothing.
-fn replicas(alloc: Global) -> Result<Vec<MemoryReplica>, NoMemory>
+fn replicas(alloc: Global) -> Result<Vec<MemoryReplica<'static>>, NoMemory>
     ensures { IfOk result (λ replicas. vec_len replicas ≡ REPLICAS) }
 {
     let mut replicas = Vec::with_capacity(alloc, REPLICAS)?;

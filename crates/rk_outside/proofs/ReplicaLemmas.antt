@@ -1,0 +1,20 @@
+-- Lemmas on what a failing append keeps.
+use Rattle.std.proofs.Common.{ℕ, List, [], ◌∷◌, take, drop, refl, sym}
+use Rattle.std.proofs.lemmas.List.{take-append-drop}
+use Rattle.rk_outside.specs.Segments.{with_part, ChangesAt, LeavesPart}
+use Rattle.rk_outside.specs.Replicas.{SegmentMap, by_number, with_kept}
+use Rattle.rk_outside.proofs.Places.{ChangesAt-insert}
+
+-- what is kept stands at the end of its segment alone
+ChangesAt-with_kept : (written : SegmentMap) (master segment : ℕ) (bytes : List ℕ) → ChangesAt master segment (with_part (by_number written master segment) bytes) (by_number written) (by_number (with_kept written master segment bytes))
+ChangesAt-with_kept written master segment [] = record { here = refl; others = λ m s apart. refl }
+ChangesAt-with_kept written master segment (byte ∷ bytes) = ChangesAt-insert master segment _ written
+
+-- to keep so many of the first bytes is to leave a first part
+pub LeavesPart-with_kept : (written : SegmentMap) (master segment count : ℕ) (bytes : List ℕ) → LeavesPart master segment bytes (by_number written) (by_number (with_kept written master segment (take count bytes)))
+LeavesPart-with_kept written master segment count bytes = record {
+  front = take count bytes;
+  back = drop count bytes;
+  parts = sym (take-append-drop count bytes);
+  change = ChangesAt-with_kept written master segment (take count bytes);
+}
