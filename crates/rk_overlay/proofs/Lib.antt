@@ -1,0 +1,12 @@
+pub mod Members
+pub mod Names
+pub mod Folds
+pub mod Bridges
+pub mod Places
+pub mod Ordered
+pub mod Overlays
+pub mod Alike
+pub mod Live
+pub mod Kept
+pub mod Listed
+pub mod Examples

@@ -1,1 +1,5 @@
 pub mod Newest
+pub mod Live
+pub mod Plain
+pub mod Overlay
+pub mod Lent

@@ -1,12 +1,22 @@
-//! Which item of a list is the newest of its record.
+//! The newest items of lists: of one record, and of each record of two lists together.
 //!
-//! It stands on `rk_types`. What it promises: [`newest`] gives the place of the item of the record that has the greatest
-//! version, the first such place where several have it, and none exactly where the list has no item of the record. It
-//! takes no memory.
+//! It stands on `rk_types`. What it promises: [`newest`] gives the place of the item of a record that has the greatest
+//! version, the first such place where several have it, and none exactly where the list has no item of the record.
+//! [`overlay`] gives the newest item of each record of two lists in order, tombstones like others. Each other function
+//! does nothing, and its contract is a law: what the newest items and the live records of a list are, that overlays
+//! join, and that neither order nor repeats matter in a plain list.
 #![tactic(auto)]
 
+pub use laws::{
+    lists_join, live_record_is_a_newest_value, newest_item_has_the_greatest_version,
+    overlay_has_just_the_newest_items, overlays_join, plain_lists_may_change_places,
+    repeats_change_nothing,
+};
+pub use layers::overlay;
 pub use search::newest;
 
+mod laws;
+mod layers;
 mod search;
 #[cfg(test)]
 mod tests;

@@ -1,12 +1,13 @@
-ghost use Rattle.std.specs.Prelude.{◌≡◌, ◌<◌, ◌+◌, length};
-ghost use Rattle.rk_overlay.specs.Newest.{IsBestBefore, is_of as is_of_lem};
+ghost use Rattle.std.specs.Prelude.{◌≡◌, ◌<◌, ◌+◌, length, option_and_then, slice_get};
+ghost use Rattle.rk_overlay.specs.Newest.{IsBestBefore, is_of as is_of_lem, newest as newest_lem};
 
 use rk_types::{Held, Key};
 
 /// The place of the newest item of the record with this table and key: the one with the greatest version, and the first
 /// of several that have it. None where no item is of the record.
 pub fn newest(items: &[Held], table: u64, key: &Key) -> Option<usize>
-    ensures { IsBestBefore items.now table key.now (length items.now) result }
+    ensures place { IsBestBefore items.now table key.now (length items.now) result }
+    ensures item { option_and_then (slice_get items.now) result ≡ newest_lem items.now table key.now }
 {
     let mut best = None;
     for place in 0..items.len() {

@@ -1,0 +1,26 @@
+-- What stands in a list with one more item in front.
+use Rattle.std.proofs.Common.{◌≡◌, ◌<◌, List, [], ◌∷◌, ◌⊎◌, refl, inl, inr, ⊎_elim, arith}
+use Rattle.std.specs.List.{Contains}
+use Rattle.std.proofs.lemmas.List.Elements.{Contains-append_cases, Contains-append_right, Contains-push_cases}
+
+module _ {X : Type 0} where
+  -- nothing stands in the empty list
+  pub none_stands : (y : X) → Contains [] y → ⊥
+  none_stands y at = let below : at.0 < 0 = at.1 in omega arith
+
+  -- the first item stands in the list
+  pub first_stands : (x : X) (xs : List X) → Contains (x ∷ xs) x
+  first_stands x xs = (0, omega arith, refl)
+
+  -- and so do those behind it
+  pub behind_stands : (x : X) (xs : List X) (y : X) → Contains xs y → Contains (x ∷ xs) y
+  behind_stands x xs y at = Contains-append_right (x ∷ []) xs y at
+
+  -- and no others
+  pub stands_cases : (x : X) (xs : List X) (y : X) → Contains (x ∷ xs) y → (x ≡ y) ⊎ Contains xs y
+  stands_cases x xs y at =
+      ⊎_elim
+      (λ (here : Contains (x ∷ []) y).
+      ⊎_elim (λ (none : Contains [] y). absurd (none_stands y none)) (λ (same : x ≡ y). inl same) (Contains-push_cases [] x y here))
+      (λ (behind : Contains xs y). inr behind)
+      (Contains-append_cases (x ∷ []) xs y at)

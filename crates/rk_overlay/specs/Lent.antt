@@ -1,0 +1,22 @@
+-- What the code keeps while it walks the lists: the newest item so far of each key, lent.
+use Rattle.std.specs.Prelude.{◌≡◌, ℕ, List}
+use Rattle.std.specs.declared.cmp.Ordering.{Ordering}
+use Rattle.std.specs.Ordering.{nat_cmp, ordering_then}
+use Rattle.std.specs.Cmp.Lexicographic.{slice_cmp}
+use Rattle.std.specs.Option.{option_copied}
+use Rattle.std.specs.BTreeMap.{BTreeMap, get}
+use denote.Ref.{Bor}
+use Rattle.rk_types.specs.declared.held.Held.{Held}
+use Rattle.rk_overlay.specs.Newest.{Found}
+
+-- a table and a key of it
+abbrev pub Name : Type 0
+Name = ℕ × Bor (List ℕ)
+
+-- the order of names: by table, and then by key
+abbrev pub name_cmp : Name → Name → Ordering
+name_cmp a b = ordering_then (nat_cmp a.0 b.0) (slice_cmp nat_cmp a.1.now b.1.now)
+
+-- under each name is kept what is found there
+abbrev pub Keeps : BTreeMap Name (Bor Held) → Found → Type 0
+Keeps kept found = (name : Name) → option_copied (get name_cmp kept name) ≡ found name.0 name.1.now
