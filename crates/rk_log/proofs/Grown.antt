@@ -1,0 +1,258 @@
+-- Segments after bytes were put behind them, and known lengths after a backup told one.
+use Rattle.std.proofs.Common.{◌≡◌, ℕ, zero, suc, ◌+◌, ◌-◌, ◌<◌, ◌≤◌, max, true, false, cond, List, [], ◌∷◌, ◌++◌, length, get_or, set, replicate, Option, None, refl, sym, ap, subst, ◌∙◌, ⊎_elim, arith, length-set, length-append, get_or-set_same, get_or-set_other}
+use Rattle.std.specs.Prelude.{slice_get}
+use Rattle.std.specs.Option.{option_map_or, option_or}
+use Rattle.std.proofs.lemmas.Bool.{cases_lt, cases_eq, cases_Bool, cond-true, cond-false}
+use Rattle.std.proofs.lemmas.List.{get_or_append_left, get_or_push}
+use Rattle.rk_entry.specs.declared.lists.TheConstants.{FIRST_SIDE_SEGMENT}
+use Rattle.rk_log.specs.declared.copied.Copied.{Copied}
+use Rattle.rk_log.specs.declared.copied.TheConstants.{FIRST_SEGMENT, MOST_BACKUPS}
+use Rattle.rk_log.specs.Cut.{last_of, has_room, in_last, with_bytes}
+use Rattle.rk_log.specs.Kept.{bytes_in, none_known, copied_of, bytes_among, with_told_length, with_length, IsKnown, AreKnown}
+use Rattle.rk_log.proofs.Lookups.{copied_at, copied_past, with_length_before, with_length_at}
+
+-- nothing is known at any backup
+pub zeros_at : (n k : ℕ) → get_or {A = ℕ} (replicate n 0) k 0 ≡ 0
+zeros_at zero k = refl
+zeros_at (suc n) zero = refl
+zeros_at (suc n) (suc k) = zeros_at n k
+
+-- one more segment of which nothing is known
+pub known_push : (bytes lengths : List (List ℕ)) (more : List ℕ) → length bytes ≡ length lengths → AreKnown bytes lengths → AreKnown (bytes ++ more ∷ []) (lengths ++ none_known ∷ [])
+known_push bytes lengths more same known k h =
+    ⊎_elim
+    (λ (before : k < length lengths).
+    let old = known k before in
+    record {
+      each = ap length (get_or_append_left lengths (none_known ∷ []) [] k before) ∙ old.each;
+      within = λ backup.
+          omega (
+            arith,
+            ap (λ (l : List ℕ). get_or l backup 0) (get_or_append_left lengths (none_known ∷ []) [] k before),
+            ap length (get_or_append_left bytes (more ∷ []) [] k (omega arith)),
+            old.within backup,
+          );
+    })
+    (λ (last : length lengths ≤ k).
+    let at : length lengths ≡ k = omega (arith, length-append lengths (none_known ∷ [])) in
+    record {
+      each = ap length (get_or_push lengths none_known [] k at);
+      within = λ backup. omega (arith, ap (λ (l : List ℕ). get_or l backup 0) (get_or_push lengths none_known [] k at) ∙ zeros_at MOST_BACKUPS backup);
+    })
+    (cases_lt k (length lengths))
+
+-- ---- bytes behind segments
+
+-- what stays, what is known, and that the last bytes are not known to be held
+pub record Grew (bytes lengths bytes' lengths' : List (List ℕ)) : Type 0 where
+  pub same_count : length bytes' ≡ length lengths'
+  pub longer : length lengths ≤ length lengths'
+  pub at_most : length lengths' ≤ length lengths + 1
+  pub some : 0 < length lengths'
+  pub before : (k : ℕ) → k < length bytes - 1 → get_or bytes' k [] ≡ get_or bytes k []
+  pub lengths_stay : (k : ℕ) → k < length lengths → get_or lengths' k [] ≡ get_or lengths k []
+  pub known : AreKnown bytes' lengths'
+  pub unheld : get_or (get_or lengths' (length bytes' - 1) []) 0 0 < length (last_of bytes')
+
+-- in the last segment
+grew_last : (bytes lengths : List (List ℕ)) (more : List ℕ) → length bytes ≡ length lengths → AreKnown bytes lengths → 0 < length more → 0 < length bytes → Grew bytes lengths (in_last bytes more) lengths
+grew_last bytes lengths more same known some filled =
+    let count : length (in_last bytes more) ≡ length bytes = length-set bytes (length bytes - 1) (last_of bytes ++ more) in
+    let place : length (in_last bytes more) - 1 ≡ length bytes - 1 = omega arith in
+    let at : get_or (in_last bytes more) (length bytes - 1) [] ≡ last_of bytes ++ more = get_or-set_same bytes (length bytes - 1) (last_of bytes ++ more) [] (omega arith) in
+    record {
+      same_count = count ∙ same;
+      longer = omega arith;
+      at_most = omega arith;
+      some = omega arith;
+      before = λ k h. get_or-set_other bytes (length bytes - 1) k (last_of bytes ++ more) [] (λ e. omega arith);
+      lengths_stay = λ k h. refl;
+      known = λ k h.
+          ⊎_elim
+          (λ (last : k ≡ length bytes - 1).
+          record {
+            each = (known k h).each;
+            within = λ backup.
+                omega (
+                  arith,
+                  (known k h).within backup,
+                  ap (λ (n : ℕ). length (get_or bytes n [])) last,
+                  ap (λ (n : ℕ). length (get_or (in_last bytes more) n [])) last,
+                  ap length at,
+                  length-append (last_of bytes) more,
+                );
+          })
+          (λ (other : k ≡ length bytes - 1 → ⊥).
+          record {
+            each = (known k h).each;
+            within = λ backup.
+                omega (arith, (known k h).within backup, ap length (get_or-set_other bytes (length bytes - 1) k (last_of bytes ++ more) [] other));
+          })
+          (cases_eq k (length bytes - 1));
+      unheld =
+          omega (
+            arith,
+            ap (λ (n : ℕ). get_or (get_or lengths n []) 0 0) place,
+            (known (length bytes - 1) (omega arith)).within 0,
+            ap (λ (n : ℕ). length (get_or (in_last bytes more) n [])) place,
+            ap length at,
+            length-append (last_of bytes) more,
+          );
+    }
+
+-- in one more
+grew_more : (bytes lengths : List (List ℕ)) (more : List ℕ) → length bytes ≡ length lengths → AreKnown bytes lengths → 0 < length more → Grew bytes lengths (bytes ++ more ∷ []) (lengths ++ none_known ∷ [])
+grew_more bytes lengths more same known some =
+    let count : length (bytes ++ more ∷ []) ≡ length bytes + 1 = length-append bytes (more ∷ []) in
+    let counts : length (lengths ++ none_known ∷ []) ≡ length lengths + 1 = length-append lengths (none_known ∷ []) in
+    record {
+      same_count = omega arith;
+      longer = omega arith;
+      at_most = omega arith;
+      some = omega arith;
+      before = λ k h. get_or_append_left bytes (more ∷ []) [] k (omega arith);
+      lengths_stay = λ k h. get_or_append_left lengths (none_known ∷ []) [] k h;
+      known = known_push bytes lengths more same known;
+      unheld =
+          omega (
+            arith,
+            ap (λ (l : List ℕ). get_or l 0 0) (get_or_push lengths none_known [] (length (bytes ++ more ∷ []) - 1) (omega arith)) ∙ zeros_at MOST_BACKUPS 0,
+            ap length (get_or_push bytes more [] (length (bytes ++ more ∷ []) - 1) (omega arith)),
+          );
+    }
+
+-- in the last segment where they fit, and else in one more
+pub grew : (bytes lengths : List (List ℕ)) (more : List ℕ) (bytes' lengths' : List (List ℕ)) → length bytes ≡ length lengths → AreKnown bytes lengths → 0 < length more
+    → bytes' ≡ with_bytes bytes more → lengths' ≡ cond (has_room bytes more) lengths (lengths ++ none_known ∷ []) → (has_room bytes more ≡ true → 0 < length bytes) → Grew bytes lengths bytes' lengths'
+grew bytes lengths more bytes' lengths' same known some put put_lengths room =
+    ⊎_elim
+    (λ (e : has_room bytes more ≡ true).
+    let b : bytes' ≡ in_last bytes more = put ∙ cond-true (has_room bytes more) (in_last bytes more) (bytes ++ more ∷ []) e in
+    let l : lengths' ≡ lengths = put_lengths ∙ cond-true (has_room bytes more) lengths (lengths ++ none_known ∷ []) e in
+    subst (λ (x : List (List ℕ)). Grew bytes lengths x lengths') (sym b)
+    (subst (λ (x : List (List ℕ)). Grew bytes lengths (in_last bytes more) x) (sym l) (grew_last bytes lengths more same known some (room e))))
+    (λ (e : has_room bytes more ≡ false).
+    let b : bytes' ≡ bytes ++ more ∷ [] = put ∙ cond-false (has_room bytes more) (in_last bytes more) (bytes ++ more ∷ []) e in
+    let l : lengths' ≡ lengths ++ none_known ∷ [] = put_lengths ∙ cond-false (has_room bytes more) lengths (lengths ++ none_known ∷ []) e in
+    subst (λ (x : List (List ℕ)). Grew bytes lengths x lengths') (sym b)
+    (subst (λ (x : List (List ℕ)). Grew bytes lengths (bytes ++ more ∷ []) x) (sym l) (grew_more bytes lengths more same known some)))
+    (cases_Bool (has_room bytes more))
+
+-- ---- known lengths that rise
+
+-- no length goes past a bound that holds of it and of what was told
+told_within : (lengths : List ℕ) (backup size bound : ℕ) → ((x : ℕ) → get_or lengths x 0 ≤ bound) → size ≤ bound → (x : ℕ) → get_or (with_told_length backup size lengths) x 0 ≤ bound
+told_within [] backup size bound all le x = all x
+told_within (l ∷ lengths) zero size bound all le zero = omega (arith, all zero)
+told_within (l ∷ lengths) zero size bound all le (suc x) = all (suc x)
+told_within (l ∷ lengths) (suc backup) size bound all le zero = all zero
+told_within (l ∷ lengths) (suc backup) size bound all le (suc x) = told_within lengths backup size bound (λ y. all (suc y)) le x
+
+-- and none falls
+told_rises : (lengths : List ℕ) (backup size x : ℕ) → get_or lengths x 0 ≤ get_or (with_told_length backup size lengths) x 0
+told_rises [] backup size x = omega arith
+told_rises (l ∷ lengths) zero size zero = omega arith
+told_rises (l ∷ lengths) zero size (suc x) = omega arith
+told_rises (l ∷ lengths) (suc backup) size zero = omega arith
+told_rises (l ∷ lengths) (suc backup) size (suc x) = told_rises lengths backup size x
+
+-- the same of all segments, which keep as many lengths
+pub record Rose (lists lists' : List (List ℕ)) : Type 0 where
+  pub same : length lists' ≡ length lists
+  pub each : (k : ℕ) → length (get_or lists' k []) ≡ length (get_or lists k [])
+  pub more : (k x : ℕ) → get_or (get_or lists k []) x 0 ≤ get_or (get_or lists' k []) x 0
+
+rose_not : (lists : List (List ℕ)) → Rose lists lists
+rose_not lists = record { same = refl; each = λ k. refl; more = λ k x. omega arith }
+
+rose_at : (lists : List (List ℕ)) (at backup size : ℕ) → Rose lists (set lists at (with_told_length backup size (get_or lists at [])))
+rose_at [] at backup size = rose_not []
+rose_at (l ∷ lists) zero backup size = record { same = refl; each = each; more = more }
+  where
+    each : (k : ℕ) → length (get_or (with_told_length backup size l ∷ lists) k []) ≡ length (get_or (l ∷ lists) k [])
+    each zero = length-set l backup (max (get_or l backup 0) size)
+    each (suc k) = refl
+
+    more : (k x : ℕ) → get_or (get_or (l ∷ lists) k []) x 0 ≤ get_or (get_or (with_told_length backup size l ∷ lists) k []) x 0
+    more zero x = told_rises l backup size x
+    more (suc k) x = omega arith
+rose_at (l ∷ lists) (suc at) backup size = next (rose_at lists at backup size)
+  where
+    next : Rose lists (set lists at (with_told_length backup size (get_or lists at []))) → Rose (l ∷ lists) (l ∷ set lists at (with_told_length backup size (get_or lists at [])))
+    next r = record { same = ap suc r.same; each = each; more = more }
+      where
+        each : (k : ℕ) → length (get_or (l ∷ set lists at (with_told_length backup size (get_or lists at []))) k []) ≡ length (get_or (l ∷ lists) k [])
+        each zero = refl
+        each (suc k) = r.each k
+
+        more : (k x : ℕ) → get_or (get_or (l ∷ lists) k []) x 0 ≤ get_or (get_or (l ∷ set lists at (with_told_length backup size (get_or lists at []))) k []) x 0
+        more zero x = omega arith
+        more (suc k) x = r.more k x
+
+-- what a backup tells lowers no length
+pub rose : (first number backup size : ℕ) (lists : List (List ℕ)) → Rose lists (with_length first number backup size lists)
+rose first number backup size lists =
+    ⊎_elim
+    (λ (h : number < first). subst (Rose lists) (sym (with_length_before first number backup size lists h)) (rose_not lists))
+    (λ (h : first ≤ number). subst (Rose lists) (sym (with_length_at first number backup size (number - first) lists (omega arith))) (rose_at lists (number - first) backup size))
+    (cases_lt number first)
+
+-- where it tells no more than there is, no known length is above the segment's
+pub known_told_lists : (first number backup size : ℕ) (bytes lengths : List (List ℕ)) → AreKnown bytes lengths → ((k : ℕ) → first + k ≡ number → k < length lengths → size ≤ length (get_or bytes k []))
+    → AreKnown bytes (with_length first number backup size lengths)
+known_told_lists first number backup size bytes lengths known le =
+    ⊎_elim
+    (λ (h : number < first). subst (AreKnown bytes) (sym (with_length_before first number backup size lengths h)) known)
+    (λ (h : first ≤ number).
+    subst (AreKnown bytes) (sym (with_length_at first number backup size (number - first) lengths (omega arith)))
+    (at_place (number - first) (le (number - first) (omega arith))))
+    (cases_lt number first)
+  where
+    at_place : (at : ℕ) → (at < length lengths → size ≤ length (get_or bytes at [])) → AreKnown bytes (set lengths at (with_told_length backup size (get_or lengths at [])))
+    at_place at le k h =
+        let l : k < length lengths = omega (arith, length-set lengths at (with_told_length backup size (get_or lengths at []))) in
+        ⊎_elim
+        (λ (same : k ≡ at).
+        let is : get_or (set lengths at (with_told_length backup size (get_or lengths at []))) k [] ≡ with_told_length backup size (get_or lengths k []) =
+        ap (λ (n : ℕ). get_or (set lengths n (with_told_length backup size (get_or lengths n []))) k []) (sym same)
+        ∙ get_or-set_same lengths k (with_told_length backup size (get_or lengths k [])) [] l in
+        let enough : size ≤ length (get_or bytes k []) = omega (arith, le (omega arith), ap (λ (n : ℕ). length (get_or bytes n [])) same) in
+        record {
+          each = ap length is ∙ length-set (get_or lengths k []) backup (max (get_or (get_or lengths k []) backup 0) size) ∙ (known k l).each;
+          within = λ x. omega (arith, ap (λ (m : List ℕ). get_or m x 0) is, told_within (get_or lengths k []) backup size (length (get_or bytes k [])) (known k l).within enough x);
+        })
+        (λ (other : k ≡ at → ⊥).
+        let is : get_or (set lengths at (with_told_length backup size (get_or lengths at []))) k [] ≡ get_or lengths k [] = get_or-set_other lengths at k (with_told_length backup size (get_or lengths at [])) [] other in
+        subst (λ (m : List ℕ). IsKnown (get_or bytes k []) m) (sym is) (known k l))
+        (cases_eq k at)
+
+-- ---- the bytes of a segment by its place
+
+abbrev bytes_or_none : Option Copied → List ℕ
+bytes_or_none o = option_map_or (λ (copied : Copied). copied.segment.bytes) o []
+
+at_place_or : (segments : List Copied) (k : ℕ) (other : Option Copied) → k < length segments → bytes_or_none (option_or (slice_get segments k) other) ≡ get_or (bytes_in segments) k []
+at_place_or [] k other h = absurd (omega arith)
+at_place_or (c ∷ segments) zero other h = refl
+at_place_or (c ∷ segments) (suc k) other h = at_place_or segments k other (omega arith)
+
+at_place_alone : (segments : List Copied) (k : ℕ) → bytes_or_none (slice_get segments k) ≡ get_or (bytes_in segments) k []
+at_place_alone [] k = refl
+at_place_alone (c ∷ segments) zero = refl
+at_place_alone (c ∷ segments) (suc k) = at_place_alone segments k
+
+-- of a main segment
+pub among_main_is : (number k : ℕ) (main sides : List Copied) → FIRST_SEGMENT + k ≡ number → k < length main → bytes_among number main sides ≡ get_or (bytes_in main) k []
+among_main_is number k main sides e h =
+    ap (λ (o : Option Copied). bytes_or_none (option_or o (copied_of FIRST_SIDE_SEGMENT number sides))) (copied_at FIRST_SEGMENT number main k e)
+    ∙ at_place_or main k (copied_of FIRST_SIDE_SEGMENT number sides) h
+
+-- of a side segment
+pub among_sides_is : (number k : ℕ) (main sides : List Copied) → FIRST_SIDE_SEGMENT + k ≡ number → length main < FIRST_SIDE_SEGMENT → bytes_among number main sides ≡ get_or (bytes_in sides) k []
+among_sides_is number k main sides e few =
+    (λ i. bytes_or_none (option_or (copied_past FIRST_SEGMENT number main (omega arith) i) (copied_at FIRST_SIDE_SEGMENT number sides k e i)))
+    ∙ at_place_alone sides k
+
+-- of none
+pub among_none_is : (number : ℕ) (main sides : List Copied) → copied_of FIRST_SEGMENT number main ≡ None → copied_of FIRST_SIDE_SEGMENT number sides ≡ None → bytes_among number main sides ≡ []
+among_none_is number main sides a b = λ i. bytes_or_none (option_or (a i) (b i))

@@ -1,0 +1,200 @@
+-- The laws of what a backup is known to hold.
+use Rattle.std.proofs.Common.{◌≡◌, ℕ, zero, suc, ◌+◌, ◌<◌, ◌≤◌, max, Bool, true, false, cond, ltb, eqb, List, [], ◌∷◌, ◌++◌, length, get_or, set, Option, Some, refl, sym, ap, subst, ◌∙◌, ⊎_elim, arith, get_or-set_same, get_or-set_other}
+use Rattle.std.specs.Prelude.{unwrap_or}
+use Rattle.std.specs.Ordering.{nat_cmp}
+use Rattle.std.specs.Cmp.{unsigned_tied}
+use Rattle.std.proofs.lemmas.Cmp.{nat_cmp_total}
+use Rattle.std.specs.FinMap.{nat_cmp-IsAntisymmetric}
+use Rattle.std.specs.FinMap.Entries.{find-put, same_entries}
+use Rattle.std.proofs.lemmas.Bool.{ltb-true, ltb-false, lt-ltb, le-ltb, le-leb, leb-true, eq-eqb, ne_eqb, eqb-true, cases_lt, cases_eq, cases_Bool, cond-true, cond-false, cond_both}
+use Rattle.rk_log.specs.declared.ends.EntryEnd.{EntryEnd}
+use Rattle.rk_log.specs.Known.{Known, known_length, length_at, with_length_at, same_lengths, told, reaches}
+use Rattle.rk_log.specs.Kept.{known_from, with_told_length, with_length}
+
+-- a number that is there, or a greater one
+abbrev pub greater_of : Option ℕ → ℕ → Option ℕ
+greater_of o l = cond (ltb (unwrap_or o 0) l) (Some l) o
+
+greater_less : (o : Option ℕ) (l : ℕ) → unwrap_or o 0 < l → greater_of o l ≡ Some l
+greater_less o l h = cond-true (ltb (unwrap_or o 0) l) (Some l) o (lt-ltb _ _ h)
+
+greater_more : (o : Option ℕ) (l : ℕ) → l ≤ unwrap_or o 0 → greater_of o l ≡ o
+greater_more o l h = cond-false (ltb (unwrap_or o 0) l) (Some l) o (le-ltb _ _ h)
+
+greater_of_some : (x y : ℕ) → greater_of (Some x) y ≡ Some (max x y)
+greater_of_some x y =
+    ⊎_elim
+    (λ (h : x < y). let m : y ≡ max x y = omega arith in greater_less (Some x) y h ∙ ap (λ (n : ℕ). Some n) m)
+    (λ (h : y ≤ x). let m : x ≡ max x y = omega arith in greater_more (Some x) y h ∙ ap (λ (n : ℕ). Some n) m)
+    (cases_lt x y)
+
+-- two numbers after another are the greater of them
+greater_twice : (o : Option ℕ) (x y : ℕ) → greater_of (greater_of o x) y ≡ greater_of o (max x y)
+greater_twice o x y =
+    ⊎_elim
+    (λ (h : unwrap_or o 0 < x).
+    ap (λ (p : Option ℕ). greater_of p y) (greater_less o x h) ∙ greater_of_some x y ∙ sym (greater_less o (max x y) (omega arith)))
+    (λ (h : x ≤ unwrap_or o 0).
+    ap (λ (p : Option ℕ). greater_of p y) (greater_more o x h)
+    ∙ ⊎_elim
+    (λ (g : unwrap_or o 0 < y). let m : y ≡ max x y = omega arith in ap (greater_of o) m)
+    (λ (g : y ≤ unwrap_or o 0). greater_more o y g ∙ sym (greater_more o (max x y) (omega arith)))
+    (cases_lt (unwrap_or o 0) y))
+    (cases_lt (unwrap_or o 0) x)
+
+greater_length : (o : Option ℕ) (l : ℕ) → unwrap_or (greater_of o l) 0 ≡ max (unwrap_or o 0) l
+greater_length o l =
+    ⊎_elim
+    (λ (h : unwrap_or o 0 < l). let m : l ≡ max (unwrap_or o 0) l = omega arith in ap (λ (p : Option ℕ). unwrap_or p 0) (greater_less o l h) ∙ m)
+    (λ (h : l ≤ unwrap_or o 0). let m : unwrap_or o 0 ≡ max (unwrap_or o 0) l = omega arith in ap (λ (p : Option ℕ). unwrap_or p 0) (greater_more o l h) ∙ m)
+    (cases_lt (unwrap_or o 0) l)
+
+-- what is known of a segment once a length was told
+pub get_told : (known : Known) (segment length q : ℕ) → length_at (told known segment length) q ≡ cond (eqb q segment) (greater_of (length_at known q) length) (length_at known q)
+get_told known segment length q =
+    cond_both (ltb (known_length known segment) length) (with_length_at known segment length) known
+    (λ k. length_at k q ≡ cond (eqb q segment) (greater_of (length_at known q) length) (length_at known q))
+    (λ e.
+    find-put nat_cmp nat_cmp_total q segment length known.lengths
+    ∙ ap (λ (b : Bool). cond b (Some length) (length_at known q)) (unsigned_tied q segment)
+    ∙ at_segment e)
+    (λ e. sym (untold e))
+  where
+    at_segment : ltb (known_length known segment) length ≡ true → cond (eqb q segment) (Some length) (length_at known q) ≡ cond (eqb q segment) (greater_of (length_at known q) length) (length_at known q)
+    at_segment e =
+        ⊎_elim
+        (λ (same : q ≡ segment).
+        let less : known_length known q < length = subst (λ (s : ℕ). known_length known s < length) (sym same) (ltb-true _ _ e) in
+        ap (λ (o : Option ℕ). cond (eqb q segment) o (length_at known q)) (sym (greater_less (length_at known q) length less)))
+        (λ (other : q ≡ segment → ⊥). cond-false _ _ _ (ne_eqb q segment other) ∙ sym (cond-false _ _ _ (ne_eqb q segment other)))
+        (cases_eq q segment)
+
+    untold : ltb (known_length known segment) length ≡ false → cond (eqb q segment) (greater_of (length_at known q) length) (length_at known q) ≡ length_at known q
+    untold e =
+        ⊎_elim
+        (λ (same : q ≡ segment).
+        let more : length ≤ known_length known q = subst (λ (s : ℕ). length ≤ known_length known s) (sym same) (ltb-false _ _ e) in
+        cond-true _ _ _ (eq-eqb q segment same) ∙ greater_more (length_at known q) length more)
+        (λ (other : q ≡ segment → ⊥). cond-false _ _ _ (ne_eqb q segment other))
+        (cases_eq q segment)
+
+-- two maps that answer alike are one
+same_known : (a b : Known) → ((q : ℕ) → length_at a q ≡ length_at b q) → a ≡ b
+same_known a b is = same_lengths a b (same_entries nat_cmp nat_cmp_total nat_cmp-IsAntisymmetric a.lengths b.lengths a.rising b.rising is)
+
+-- the length that is known of the segment that was told of is the greater
+pub told_length : (known : Known) (segment length q : ℕ) → q ≡ segment → known_length (told known segment length) q ≡ max (known_length known q) length
+told_length known segment length q same =
+    ap (λ (o : Option ℕ). unwrap_or o 0) (get_told known segment length q ∙ cond-true _ _ _ (eq-eqb q segment same))
+    ∙ greater_length (length_at known q) length
+
+-- and of every other it stays
+pub told_other : (known : Known) (segment length q : ℕ) → (q ≡ segment → ⊥) → known_length (told known segment length) q ≡ known_length known q
+told_other known segment length q other =
+    ap (λ (o : Option ℕ). unwrap_or o 0) (get_told known segment length q ∙ cond-false _ _ _ (ne_eqb q segment other))
+
+-- so no known length falls
+pub told_more : (known : Known) (segment length q : ℕ) → known_length known q ≤ known_length (told known segment length) q
+told_more known segment length q =
+    ⊎_elim
+    (λ (same : q ≡ segment). omega (arith, told_length known segment length q same))
+    (λ (other : q ≡ segment → ⊥). omega (arith, told_other known segment length q other))
+    (cases_eq q segment)
+
+-- no bytes tell nothing
+pub told_none : (known : Known) (segment : ℕ) → told known segment 0 ≡ known
+told_none known segment = cond-false (ltb (known_length known segment) 0) (with_length_at known segment 0) known (le-ltb _ _ (omega arith))
+
+-- two lengths of one segment tell the greater
+pub told_twice : (known : Known) (segment x y : ℕ) → told (told known segment x) segment y ≡ told known segment (max x y)
+told_twice known segment x y =
+    same_known _ _ (λ q.
+    get_told (told known segment x) segment y q
+    ∙ ap (λ (o : Option ℕ). cond (eqb q segment) (greater_of o y) o) (get_told known segment x q)
+    ∙ both (eqb q segment) (length_at known q)
+    ∙ sym (get_told known segment (max x y) q))
+  where
+    both : (b : Bool) (o : Option ℕ) → cond b (greater_of (cond b (greater_of o x) o) y) (cond b (greater_of o x) o) ≡ cond b (greater_of o (max x y)) o
+    both true o = greater_twice o x y
+    both false o = refl
+
+-- the order of what is told does not matter
+pub told_comm : (known : Known) (a x b y : ℕ) → told (told known a x) b y ≡ told (told known b y) a x
+told_comm known a x b y =
+    same_known _ _ (λ q.
+    get_told (told known a x) b y q
+    ∙ ap (λ (o : Option ℕ). cond (eqb q b) (greater_of o y) o) (get_told known a x q)
+    ∙ swapped (eqb q a) (eqb q b) (length_at known q)
+    ∙ ap (λ (o : Option ℕ). cond (eqb q a) (greater_of o x) o) (sym (get_told known b y q))
+    ∙ sym (get_told (told known b y) a x q))
+  where
+    either : (o : Option ℕ) → greater_of (greater_of o x) y ≡ greater_of (greater_of o y) x
+    either o =
+        let m : max x y ≡ max y x = omega arith in
+        greater_twice o x y ∙ ap (greater_of o) m ∙ sym (greater_twice o y x)
+
+    swapped : (p r : Bool) (o : Option ℕ) → cond r (greater_of (cond p (greater_of o x) o) y) (cond p (greater_of o x) o) ≡ cond p (greater_of (cond r (greater_of o y) o) x) (cond r (greater_of o y) o)
+    swapped true true o = either o
+    swapped true false o = refl
+    swapped false true o = refl
+    swapped false false o = refl
+
+-- ---- what is known of segments one after the other
+
+-- nothing of those before them
+pub known_before : (backup first : ℕ) (lists : List (List ℕ)) (others : Known) (q : ℕ) → q < first → known_length (known_from backup first lists others) q ≡ known_length others q
+known_before backup first [] others q h = refl
+known_before backup first (l ∷ lists) others q h =
+    told_other (known_from backup (suc first) lists others) first (get_or l backup 0) q (λ e. omega arith) ∙ known_before backup (suc first) lists others q (omega arith)
+
+-- nor of those behind them
+pub known_behind : (backup first : ℕ) (lists : List (List ℕ)) (others : Known) (q : ℕ) → first + length lists ≤ q → known_length (known_from backup first lists others) q ≡ known_length others q
+known_behind backup first [] others q h = refl
+known_behind backup first (l ∷ lists) others q h =
+    told_other (known_from backup (suc first) lists others) first (get_or l backup 0) q (λ e. omega arith) ∙ known_behind backup (suc first) lists others q (omega arith)
+
+-- and of each of them its length
+pub known_within : (backup first : ℕ) (lists : List (List ℕ)) (others : Known) (k q : ℕ) → first + k ≡ q → k < length lists → known_length others q ≡ 0
+    → known_length (known_from backup first lists others) q ≡ get_or (get_or lists k []) backup 0
+known_within backup first [] others k q e h none = absurd (omega arith)
+known_within backup first (l ∷ lists) others zero q e h none =
+    let rest = known_before backup (suc first) lists others q (omega arith) in
+    omega (arith, told_length (known_from backup (suc first) lists others) first (get_or l backup 0) q (omega arith), rest, none)
+known_within backup first (l ∷ lists) others (suc k) q e h none =
+    told_other (known_from backup (suc first) lists others) first (get_or l backup 0) q (λ same. omega arith)
+    ∙ known_within backup (suc first) lists others k q (omega arith) (omega arith) none
+
+-- what is told of others beside them
+pub known_from_told : (backup first : ℕ) (lists : List (List ℕ)) (others : Known) (q length : ℕ) → known_from backup first lists (told others q length) ≡ told (known_from backup first lists others) q length
+known_from_told backup first [] others q length = refl
+known_from_told backup first (l ∷ lists) others q length =
+    ap (λ (known : Known). told known first (get_or l backup 0)) (known_from_told backup (suc first) lists others q length)
+    ∙ told_comm (known_from backup (suc first) lists others) q length first (get_or l backup 0)
+
+-- one more segment of which nothing is known
+pub known_from_push : (backup first : ℕ) (lists : List (List ℕ)) (l : List ℕ) (others : Known) → get_or l backup 0 ≡ 0 → known_from backup first (lists ++ l ∷ []) others ≡ known_from backup first lists others
+known_from_push backup first [] l others none = ap (told others first) none ∙ told_none others first
+known_from_push backup first (x ∷ lists) l others none = ap (λ (known : Known). told known first (get_or x backup 0)) (known_from_push backup (suc first) lists l others none)
+
+-- what a backup tells of one of them
+pub known_from_set : (backup first : ℕ) (lists : List (List ℕ)) (others : Known) (k q size : ℕ) → first + k ≡ q → k < length lists
+    → backup < length (get_or lists k [])
+    → known_from backup first (set lists k (with_told_length backup size (get_or lists k []))) others ≡ told (known_from backup first lists others) q size
+known_from_set backup first [] others k q size e h w = absurd (omega arith)
+known_from_set backup first (l ∷ lists) others zero q size e h w =
+    let at : first ≡ q = omega arith in
+    ap (told (known_from backup (suc first) lists others) first) (get_or-set_same l backup (max (get_or l backup 0) size) 0 w)
+    ∙ sym (told_twice (known_from backup (suc first) lists others) first (get_or l backup 0) size)
+    ∙ ap (λ (n : ℕ). told (told (known_from backup (suc first) lists others) first (get_or l backup 0)) n size) at
+known_from_set backup first (l ∷ lists) others (suc k) q size e h w =
+    ap (λ (known : Known). told known first (get_or l backup 0)) (known_from_set backup (suc first) lists others k q size (omega arith) (omega arith) w)
+    ∙ told_comm (known_from backup (suc first) lists others) q size first (get_or l backup 0)
+
+-- what another backup tells changes nothing
+pub known_from_other : (backup teller first : ℕ) (lists : List (List ℕ)) (others : Known) (k size : ℕ) → (backup ≡ teller → ⊥)
+    → known_from backup first (set lists k (with_told_length teller size (get_or lists k []))) others ≡ known_from backup first lists others
+known_from_other backup teller first [] others k size other = refl
+known_from_other backup teller first (l ∷ lists) others zero size other =
+    ap (told (known_from backup (suc first) lists others) first) (get_or-set_other l teller backup (max (get_or l teller 0) size) 0 other)
+known_from_other backup teller first (l ∷ lists) others (suc k) size other =
+    ap (λ (known : Known). told known first (get_or l backup 0)) (known_from_other backup teller (suc first) lists others k size other)

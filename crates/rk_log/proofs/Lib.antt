@@ -1,0 +1,11 @@
+pub mod Prefixes
+pub mod Cuts
+pub mod KnownLaws
+pub mod Lookups
+pub mod Grown
+pub mod Keeping
+pub mod Views
+pub mod Changes
+pub mod LogLaws
+pub mod CutLaws
+pub mod Examples

@@ -1,0 +1,154 @@
+-- What is told of a log, by the parts that stand for it.
+use Rattle.std.proofs.Common.{◌≡◌, ℕ, zero, suc, ◌+◌, ◌-◌, ◌<◌, ◌≤◌, Bool, true, false, not, leb, List, [], ◌∷◌, ◌++◌, length, get_or, set, take, drop, map, replicate, Option, Some, None, Result, Ok, Err, refl, sym, ap, subst, ◌∙◌, ⊎_elim, arith}
+use Rattle.std.specs.Prelude.{slice_get, OnOk, is_ok}
+use Rattle.std.specs.Bool.{OnTrue}
+use Rattle.std.specs.List.{find, list_all, prefix_len, range_with_len}
+use Rattle.std.specs.Option.{option_map, option_map_or, option_or}
+use Rattle.rk_log.specs.Known.{nothing}
+use Rattle.std.proofs.lemmas.Bool.{cases_lt}
+use Rattle.std.proofs.lemmas.List.{length-map, get_or-map, map-set}
+use Rattle.std.proofs.lemmas.List.Folds.{find-append}
+use Rattle.std.proofs.lemmas.Option.{slice_get-map, slice_get_within, get_or_from_slice_get}
+use Rattle.rk_entry.specs.declared.entry.Entry.{Entry}
+use Rattle.rk_entry.specs.declared.lists.TheConstants.{FIRST_SIDE_SEGMENT}
+use Rattle.rk_segment.specs.Segment.{NumberedBytes}
+use Rattle.rk_log.specs.declared.copied.Copied.{Copied}
+use Rattle.rk_log.specs.declared.copied.TheConstants.{FIRST_SEGMENT}
+use Rattle.rk_log.specs.declared.cursor.Cursor.{Cursor}
+use Rattle.rk_log.specs.declared.ends.EntryEnd.{EntryEnd}
+use Rattle.rk_log.specs.Cut.{in_last}
+use Rattle.rk_log.specs.Known.{Known, known_length, is_whole}
+use Rattle.rk_log.specs.Log.{Log, numbered, segment_of, segments, bytes_of, IsBackup, is_held, committed, missing, pending, is_side_stored}
+use Rattle.rk_log.specs.Kept.{bytes_in, lengths_in, copied_of, bytes_among, known_at, known_by, log_of, is_whole_at, AreWithin, lacking_at, IsCursor, IsKept}
+use Rattle.rk_log.proofs.Prefixes.{pass_then}
+use Rattle.rk_log.proofs.Cuts.{length-ends}
+use Rattle.rk_log.proofs.Lookups.{copied_before, copied_at, shown, find_numbered, bytes_are, lacking_is, main_length, side_length, known_of_backup, length-known_by, all_reach, committed_is}
+use Rattle.rk_log.proofs.Keeping.{places_within, count_within}
+
+-- what follows where a call succeeds
+pub on_true : {A E : Type 0} (b : Bool) (r : Result A E) (P Q : Type 0) → b ≡ is_ok r → OnOk r P → (P → Q) → OnTrue b Q
+on_true true (Ok x) P Q e p f = f p
+on_true false (Ok x) P Q e p f = tt
+on_true true (Err y) P Q e p f = absurd (cc)
+on_true false (Err y) P Q e p f = tt
+
+-- bytes in the last segment
+pub put_last_bytes : (main : List Copied) (y d : Copied) (more : List ℕ) → 0 < length main → y.segment.bytes ≡ (get_or main (length main - 1) d).segment.bytes ++ more
+    → bytes_in (set main (length main - 1) y) ≡ in_last (bytes_in main) more
+put_last_bytes main y d more some is =
+    map-set (λ (c : Copied). c.segment.bytes) main (length main - 1) y
+    ∙ ap (set (bytes_in main) (length main - 1)) (is ∙ ap (λ (l : List ℕ). l ++ more) (sym (get_or-map (λ (c : Copied). c.segment.bytes) main (length main - 1) d [] (omega arith))))
+    ∙ ap (λ (n : ℕ). set (bytes_in main) (n - 1) (get_or (bytes_in main) (n - 1) [] ++ more)) (sym (length-map main (λ (c : Copied). c.segment.bytes)))
+
+-- nothing is known of no segments
+pub nothing_by : (backups : ℕ) → known_by backups [] [] ≡ replicate backups nothing
+nothing_by backups = every backups 0
+  where
+    every : (n from : ℕ) → map (known_at [] []) (range_with_len from n) ≡ replicate n nothing
+    every zero from = refl
+    every (suc n) from = ap (λ (more : List Known). nothing ∷ more) (every n (from + 1))
+
+-- a backup has a place
+pub backup_at : (entries : List Entry) (main sides : List Copied) (cursors : List Cursor) (log : Log) (backup : ℕ) → log_of entries main sides cursors ≡ log → IsBackup log backup → backup - 1 < length cursors
+backup_at entries main sides cursors log backup is numbered =
+    let own : IsBackup (log_of entries main sides cursors) backup = subst (λ (l : Log). IsBackup l backup) (sym is) numbered in
+    omega (arith, own.first, own.last, length-known_by (length cursors) (lengths_in main) (lengths_in sides))
+
+-- the bytes of a segment
+pub bytes_of_is : (entries : List Entry) (places : List EntryEnd) (count : ℕ) (main sides : List Copied) (cursors : List Cursor) (number : ℕ) → IsKept entries places count main sides cursors
+    → bytes_of (log_of entries main sides cursors) number ≡ bytes_among number main sides
+bytes_of_is entries places count main sides cursors number kept =
+    ap (λ (s : List (List ℕ)). option_map_or (λ (segment : NumberedBytes). segment.bytes) (segment_of number (numbered FIRST_SEGMENT s ++ numbered FIRST_SIDE_SEGMENT (bytes_in sides))) []) (sym kept.cut_is)
+    ∙ bytes_are number main sides
+
+-- how many entries are committed
+pub committed_of_is : (entries : List Entry) (places : List EntryEnd) (count : ℕ) (main sides : List Copied) (cursors : List Cursor) → IsKept entries places count main sides cursors
+    → committed (log_of entries main sides cursors) ≡ count
+committed_of_is entries places count main sides cursors kept =
+    ap (prefix_len (is_held (known_by (length cursors) (lengths_in main) (lengths_in sides)))) (sym kept.places_are)
+    ∙ committed_is (length cursors) (lengths_in main) (lengths_in sides) places within (omega (arith, counts, kept.few_main))
+    (λ k h. omega (arith, (kept.main_known k h).each, kept.last_backup))
+    ∙ sym kept.count_is
+  where
+    counts : length (lengths_in main) ≡ length main
+    counts = length-map main (λ (c : Copied). c.known)
+
+    within : AreWithin (length (lengths_in main)) places
+    within = subst (λ (n : ℕ). AreWithin n places) (sym counts) (places_within entries places count main sides cursors kept)
+
+-- no more than there are
+pub committed_within : (entries : List Entry) (places : List EntryEnd) (count : ℕ) (main sides : List Copied) (cursors : List Cursor) → IsKept entries places count main sides cursors → count ≤ length entries
+committed_within entries places count main sides cursors kept =
+    omega (arith, count_within entries places count main sides cursors kept, ap length kept.places_are, length-ends [] entries)
+
+-- whether a segment lacks bytes
+abbrev lacks : Known → NumberedBytes → Bool
+lacks known segment = not (is_whole known segment)
+
+-- whether all of these hold a segment
+abbrev stored_by : List Known → NumberedBytes → Bool
+stored_by known segment = list_all (λ (backup : Known). is_whole backup segment) known
+
+-- what is missing first, among main and side segments
+pending_among : (known : Known) (backup : ℕ) (main sides : List Copied)
+    → ((k q : ℕ) → FIRST_SEGMENT + k ≡ q → k < length main → known_length known q ≡ get_or (get_or (lengths_in main) k []) backup 0)
+    → ((k q : ℕ) → FIRST_SIDE_SEGMENT + k ≡ q → k < length sides → known_length known q ≡ get_or (get_or (lengths_in sides) k []) backup 0)
+    → option_map (missing known) (find (lacks known) (numbered FIRST_SEGMENT (bytes_in main) ++ numbered FIRST_SIDE_SEGMENT (bytes_in sides)))
+    ≡ option_or (lacking_at backup FIRST_SEGMENT main (prefix_len (is_whole_at backup) main)) (lacking_at backup FIRST_SIDE_SEGMENT sides (prefix_len (is_whole_at backup) sides))
+pending_among known backup main sides of_main of_sides =
+    ap (option_map (missing known)) (find-append (lacks known) (numbered FIRST_SEGMENT (bytes_in main)) (numbered FIRST_SIDE_SEGMENT (bytes_in sides)))
+    ∙ either (find (lacks known) (numbered FIRST_SEGMENT (bytes_in main))) (find (lacks known) (numbered FIRST_SIDE_SEGMENT (bytes_in sides)))
+    ∙ (λ i. option_or (lacking_is known backup FIRST_SEGMENT main of_main i) (lacking_is known backup FIRST_SIDE_SEGMENT sides of_sides i))
+  where
+    either : (a b : Option NumberedBytes) → option_map (missing known) (option_or a b) ≡ option_or (option_map (missing known) a) (option_map (missing known) b)
+    either (Some x) b = refl
+    either None b = refl
+
+-- what a backup is to be sent
+pub pending_is : (entries : List Entry) (places : List EntryEnd) (count : ℕ) (main sides : List Copied) (cursors : List Cursor) (log : Log) (backup : ℕ) (cursor : Cursor)
+    → IsKept entries places count main sides cursors → log_of entries main sides cursors ≡ log → IsBackup log backup → IsCursor (backup - 1) main sides cursor
+    → pending log backup
+    ≡ option_or (lacking_at (backup - 1) FIRST_SEGMENT main (cursor.main + prefix_len (is_whole_at (backup - 1)) (drop cursor.main main)))
+    (lacking_at (backup - 1) FIRST_SIDE_SEGMENT sides (cursor.sides + prefix_len (is_whole_at (backup - 1)) (drop cursor.sides sides)))
+pending_is entries places count main sides cursors log backup cursor kept is numbered_from at =
+    ap (λ (l : Log). pending l backup) (sym is)
+    ∙ ap (λ (known : Known). option_map (missing known) (find (lacks known) (segments (log_of entries main sides cursors))))
+    (known_of_backup (length cursors) (lengths_in main) (lengths_in sides) (backup - 1) nothing (backup_at entries main sides cursors log backup is numbered_from))
+    ∙ ap (λ (s : List (List ℕ)). option_map (missing (known_at (lengths_in main) (lengths_in sides) (backup - 1))) (find (lacks (known_at (lengths_in main) (lengths_in sides) (backup - 1))) (numbered FIRST_SEGMENT s ++ numbered FIRST_SIDE_SEGMENT (bytes_in sides)))) (sym kept.cut_is)
+    ∙ pending_among (known_at (lengths_in main) (lengths_in sides) (backup - 1)) (backup - 1) main sides
+    (λ k q e h. main_length (lengths_in main) (lengths_in sides) (backup - 1) k q e (omega (arith, length-map main (λ (c : Copied). c.known))) few)
+    (λ k q e h. side_length (lengths_in main) (lengths_in sides) (backup - 1) k q e (omega (arith, length-map sides (λ (c : Copied). c.known))) few)
+    ∙ (λ i. option_or
+    (lacking_at (backup - 1) FIRST_SEGMENT main (pass_then (is_whole_at (backup - 1)) main cursor.main (omega (arith, at.main_last)) at.main_whole i))
+    (lacking_at (backup - 1) FIRST_SIDE_SEGMENT sides (pass_then (is_whole_at (backup - 1)) sides cursor.sides at.sides_within at.sides_whole i)))
+  where
+    few : length (lengths_in main) < FIRST_SIDE_SEGMENT
+    few = omega (arith, length-map main (λ (c : Copied). c.known), kept.few_main)
+
+-- whether all backups hold a side segment
+pub side_stored_is : (entries : List Entry) (places : List EntryEnd) (count : ℕ) (main sides : List Copied) (cursors : List Cursor) (number : ℕ) (o : Option Copied) → IsKept entries places count main sides cursors
+    → copied_of FIRST_SIDE_SEGMENT number sides ≡ o
+    → is_side_stored (log_of entries main sides cursors) number ≡ option_map_or (λ (c : Copied). list_all (leb (length c.segment.bytes)) (take (length cursors) c.known)) o false
+side_stored_is entries places count main sides cursors number o kept found =
+    ap (λ (s : Option NumberedBytes). option_map_or (stored_by (known_by (length cursors) (lengths_in main) (lengths_in sides))) s false) (find_numbered number FIRST_SIDE_SEGMENT sides ∙ ap (option_map (shown number)) found)
+    ∙ by_case o found
+  where
+    few : length (lengths_in main) < FIRST_SIDE_SEGMENT
+    few = omega (arith, length-map main (λ (c : Copied). c.known), kept.few_main)
+
+    at_place : (c : Copied) (k : ℕ) → FIRST_SIDE_SEGMENT + k ≡ number → slice_get sides k ≡ Some c → (stored_by (known_by (length cursors) (lengths_in main) (lengths_in sides))) (shown number c) ≡ list_all (leb (length c.segment.bytes)) (take (length cursors) c.known)
+    at_place c k e there =
+        let lengths : get_or (lengths_in sides) k [] ≡ c.known = get_or_from_slice_get (lengths_in sides) k c.known [] (slice_get-map (λ (x : Copied). x.known) sides k ∙ ap (option_map (λ (x : Copied). x.known)) there) in
+        let within : k < length (lengths_in sides) = omega (arith, slice_get_within sides k c there, length-map sides (λ (x : Copied). x.known)) in
+        all_reach (length cursors) (lengths_in main) (lengths_in sides) number (length c.segment.bytes) c.known
+        (omega (arith, ap length lengths, (kept.sides_known k within).each, kept.last_backup))
+        (λ backup. side_length (lengths_in main) (lengths_in sides) backup k number e within few ∙ ap (λ (l : List ℕ). get_or l backup 0) lengths)
+
+    by_case : (o : Option Copied) → copied_of FIRST_SIDE_SEGMENT number sides ≡ o → option_map_or (stored_by (known_by (length cursors) (lengths_in main) (lengths_in sides))) (option_map (shown number) o) false ≡ option_map_or (λ (c : Copied). list_all (leb (length c.segment.bytes)) (take (length cursors) c.known)) o false
+    by_case None e = refl
+    by_case (Some c) e =
+        ⊎_elim
+        (λ (h : number < FIRST_SIDE_SEGMENT). let none : None ≡ Some c = sym (copied_before FIRST_SIDE_SEGMENT number sides h) ∙ e in absurd (cc))
+        (λ (h : FIRST_SIDE_SEGMENT ≤ number).
+        at_place c (number - FIRST_SIDE_SEGMENT) (omega arith) (sym (copied_at FIRST_SIDE_SEGMENT number sides (number - FIRST_SIDE_SEGMENT) (omega arith)) ∙ e))
+        (cases_lt number FIRST_SIDE_SEGMENT)

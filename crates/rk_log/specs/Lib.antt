@@ -1,0 +1,6 @@
+pub mod Piece
+pub mod Cut
+pub mod Known
+pub mod Log
+pub mod Kept
+pub mod Stored

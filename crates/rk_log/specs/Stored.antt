@@ -1,0 +1,24 @@
+-- The entries that segments spell, and those that are read back from where segments are stored.
+use Rattle.std.specs.Prelude.{ℕ, zero, suc, List, [], ◌∷◌, Option, Some, None}
+use Rattle.std.specs.List.{flat_map}
+use Rattle.rk_entry.specs.declared.entry.Entry.{Entry}
+use Rattle.rk_entry.specs.Entries.{entries_of}
+use Rattle.rk_log.specs.declared.copied.TheConstants.{FIRST_SEGMENT}
+
+-- the entries that these segments spell, each up to the first place where no whole entry stands
+abbrev pub spelled_in : List (List ℕ) → List Entry
+spelled_in segments = flat_map entries_of segments
+
+-- a segment, where it was written, and those behind it
+abbrev pub written_then : Option (List ℕ) → List (List ℕ) → List (List ℕ)
+written_then None more = []
+written_then (Some bytes) more = bytes ∷ more
+
+-- the segments from this number on, at most so many, until one was never written
+unfoldable pub written_from : (ℕ → Option (List ℕ)) → ℕ → ℕ → List (List ℕ)
+written_from segments number zero = []
+written_from segments number (suc most) = written_then (segments number) (written_from segments (suc number) most)
+
+-- the entries of a log, read from its main segments where they are stored, of which there are at most so many
+abbrev pub stored_entries : ℕ → (ℕ → Option (List ℕ)) → List Entry
+stored_entries most segments = spelled_in (written_from segments FIRST_SEGMENT most)

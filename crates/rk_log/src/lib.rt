@@ -1,0 +1,26 @@
+//! The log of one master in one lane: entries cut into main segments, side segments beside them, and how much of each
+//! segment every backup is known to hold.
+//!
+//! It stands on `rk_types`, `rk_entry` and `rk_segment`. What it promises: contracts see [`MasterLog`] as its entries,
+//! its side segments and the known lengths; main segments hold the spellings of the entries, each in the last segment
+//! where it fits; an entry is committed exactly where every backup is known to hold it and all before it, and stays so;
+//! a refusal and want of memory change nothing.
+#![tactic(auto)]
+
+pub use copied::MOST_BACKUPS;
+pub use laws::{
+    committed_is_held_by_all, committed_stays, entries_fill_segments, known_lengths_never_fall,
+};
+pub use log::MasterLog;
+pub use overreach::Overreach;
+pub use piece::Piece;
+
+mod copied;
+mod cursor;
+mod ends;
+mod laws;
+mod log;
+mod overreach;
+mod piece;
+#[cfg(test)]
+mod tests;

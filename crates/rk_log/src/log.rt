@@ -1,0 +1,223 @@
+ghost use Rattle.std.specs.Prelude.{◌≡◌, ◌+◌, ◌<◌, ◌≤◌, ◌^◌, length, replicate, slice_get, Some, None, IfOk, OnOk, OnErr, MatchResult};
+ghost use Rattle.rk_log.specs.Known.{nothing};
+ghost use Rattle.rk_entry.specs.Spelling.{spelled};
+ghost use Rattle.rk_entry.specs.Lawful.{IsLawfulEntry};
+ghost use Rattle.rk_log.specs.Log.{IsBackup, bytes_of, committed, is_side_stored, new_log, overreach, pending, segment_bytes, with_entry, with_side, with_told};
+
+use crate::copied::{Copied, FIRST_SEGMENT, MOST_BACKUPS, bytes_among, find, put_bytes, raise};
+use crate::cursor::{Cursor, advanced};
+use crate::ends::{EntryEnd, end_of, held_from};
+use crate::overreach::Overreach;
+use crate::piece::{Piece, pending_in};
+use rk_entry::{Entry, FIRST_SIDE_SEGMENT, encode};
+use rk_segment::Segment;
+use rk_types::{NoMemory, SEGMENT_BYTES};
+use std::alloc::Global;
+use std::marker::Model;
+
+/// The log of one master in one lane, with its side segments and the lengths that its backups are known to hold.
+#[derive(Debug, Drop)]
+pub struct MasterLog {
+    entries: Vec<Entry>,
+    // Where each entry ends.
+    ends: Vec<EntryEnd>,
+    // How many first entries every backup is known to hold.
+    committed: usize,
+    main: Vec<Copied>,
+    sides: Vec<Copied>,
+    // One for each backup.
+    cursors: Vec<Cursor>,
+    // How many bytes all segments have.
+    size: u64,
+    // The spelling of the last entry, kept for its memory.
+    spelling: Vec<u8>,
+}
+
+impl Model for MasterLog {
+    ghost use Rattle.rk_log.specs.Log.{Log, log_code};
+    ghost use Rattle.rk_log.specs.Kept.{IsCounted, log_of};
+
+    ghost Value = { Log };
+
+    ghost coded = { log_code };
+
+    ghost view = { λ a. log_of a.entries.items a.main.items a.sides.items a.cursors.items };
+
+    ghost invariant = { λ a.
+        IsCounted a.entries.items a.ends.items a.committed a.main.items a.sides.items a.cursors.items a.size };
+}
+
+impl MasterLog {
+    /// The log of no entries, kept at so many backups, which are numbered from 1.
+    pub fn new(alloc: Global, backups: u8) -> Result<MasterLog, NoMemory>
+        requires first { 1 ≤ backups }
+        requires last { backups ≤ MOST_BACKUPS }
+        ensures { IfOk result (λ log. log ≡ new_log (replicate backups nothing)) }
+    {
+        let start = Cursor { main: 0, sides: 0 };
+        Ok(MasterLog {
+            entries: Vec::new(alloc),
+            ends: Vec::new(alloc),
+            committed: 0,
+            main: Vec::new(alloc),
+            sides: Vec::new(alloc),
+            cursors: vec![in alloc; start; backups as usize]?,
+            size: 0,
+            spelling: Vec::new(alloc),
+        })
+    }
+
+    /// Puts an entry at the end, and answers its place, which counts from 0. It goes into the last main segment where
+    /// it fits, and else begins the next one, which takes the memory of a whole segment. After `NoMemory` nothing has
+    /// changed. It takes the time to spell the entry, and beside it a constant one on average.
+    pub fn append(&mut self, entry: Entry) -> Result<u64, NoMemory>
+        requires lawful { IsLawfulEntry entry }
+        requires fits { length (spelled entry) ≤ SEGMENT_BYTES }
+        requires room { segment_bytes self.old < 2 ^ 31 }
+        ensures place { IfOk result (λ place. place ≡ length self.old.entries) }
+        ensures ok { OnOk result (self.new ≡ with_entry self.old entry) }
+        ensures err { OnErr result (self.new ≡ self.old) }
+    {
+        self.spelling.clear();
+        encode(&entry, &mut self.spelling)?;
+        let count = self.spelling.len() as u64;
+        self.entries.reserve(1)?;
+        self.ends.reserve(1)?;
+        put_bytes(&mut self.main, self.spelling.as_slice())?;
+        let place = self.entries.len();
+        self.ends.push(end_of(self.main.as_slice())).unwrap();
+        self.entries.push(entry).unwrap();
+        self.size += count;
+        Ok(place as u64)
+    }
+
+    /// Puts a side segment beside the log, and answers the number that it has from now on, whatever number it was made
+    /// with. After `NoMemory` nothing has changed. It takes a constant time on average.
+    pub fn add_side(&mut self, segment: Segment) -> Result<u32, NoMemory>
+        requires filled { 0 < length segment.bytes }
+        requires room { segment_bytes self.old + length segment.bytes < 2 ^ 31 }
+        ensures number { IfOk result (λ number. number ≡ FIRST_SIDE_SEGMENT + length self.old.sides) }
+        ensures ok { OnOk result (self.new ≡ with_side self.old segment.bytes) }
+        ensures err { OnErr result (self.new ≡ self.old) }
+    {
+        let number = FIRST_SIDE_SEGMENT + self.sides.len() as u32;
+        let count = segment.length() as u64;
+        self.sides.push(Copied::new(segment))?;
+        self.size += count;
+        Ok(number)
+    }
+
+    /// The bytes that a backup is to be sent next: those of the first segment that it is not known to hold whole, main
+    /// segments first, from the known length on. None where it holds all. It takes the time to copy the bytes: it
+    /// begins at the backup's cursor, at most one segment behind which is held whole.
+    pub fn pending(&self, backup: u8) -> Result<Option<Piece>, NoMemory>
+        requires { IsBackup self.now backup }
+        ensures { IfOk result (λ piece. piece ≡ pending self.now backup) }
+    {
+        let alloc = *self.entries.allocator();
+        let backup = backup as usize - 1;
+        let cursor = self.cursors[backup];
+        let main = self.main.as_slice();
+        if let Some(piece) = pending_in(alloc, main, FIRST_SEGMENT, backup, cursor.main)? {
+            return Ok(Some(piece));
+        }
+        let sides = self.sides.as_slice();
+        pending_in(alloc, sides, FIRST_SIDE_SEGMENT, backup, cursor.sides)
+    }
+
+    /// Keeps that a backup holds so many bytes of a segment, where no more are known. `Overreach` comes exactly where
+    /// the segment has fewer; one that there is not has none. Then nothing changes. It takes no memory, and a step for
+    /// each entry that it commits and each segment that the backup is now known to hold whole.
+    pub fn stored(&mut self, backup: u8, segment: u32, length: u32) -> Result<(), Overreach>
+        requires { IsBackup self.old backup }
+        ensures ok { OnOk result (self.new ≡ with_told self.old backup segment length) }
+        ensures err { OnErr result (self.new ≡ self.old) }
+        ensures limit { MatchResult result
+            (λ _. overreach self.old segment length ≡ None)
+            (λ excess. overreach self.old segment length ≡ Some excess) }
+    {
+        let limit = self.bytes(segment).len() as u32;
+        if length > limit {
+            return Err(Overreach { length, limit });
+        }
+        let backup = backup as usize - 1;
+        let backups = self.cursors.len();
+        raise(
+            self.main.as_mut_slice(),
+            FIRST_SEGMENT,
+            segment,
+            backup,
+            length,
+        );
+        raise(
+            self.sides.as_mut_slice(),
+            FIRST_SIDE_SEGMENT,
+            segment,
+            backup,
+            length,
+        );
+        self.cursors[backup] = advanced(
+            self.main.as_slice(),
+            self.sides.as_slice(),
+            backup,
+            self.cursors[backup],
+        );
+        self.committed = held_from(
+            self.ends.as_slice(),
+            self.main.as_slice(),
+            backups,
+            self.committed,
+        );
+        Ok(())
+    }
+
+    /// How many entries the log has, in constant time.
+    pub fn length(&self) -> u64
+        ensures { result ≡ length self.now.entries }
+    {
+        self.entries.len() as u64
+    }
+
+    /// How many bytes all segments have together, in constant time: [`MasterLog::append`] and [`MasterLog::add_side`]
+    /// need a bound on it.
+    pub fn size(&self) -> u64
+        ensures { result ≡ segment_bytes self.now }
+    {
+        self.size
+    }
+
+    /// How many first entries every backup is known to hold, in constant time.
+    pub fn committed(&self) -> u64
+        ensures held { result ≡ committed self.now }
+        ensures within { result ≤ length self.now.entries }
+    {
+        self.committed as u64
+    }
+
+    /// Whether every backup is known to hold all of the side segment of this number; false where there is none, also for
+    /// the number of a main segment. It takes a step for each backup.
+    pub fn side_stored(&self, segment: u32) -> bool
+        ensures { result ≡ is_side_stored self.now segment }
+    {
+        match find(self.sides.as_slice(), FIRST_SIDE_SEGMENT, segment) {
+            Some(copied) => copied.is_held_to(copied.segment.length(), self.cursors.len()),
+            None => false,
+        }
+    }
+
+    /// The entry at a place, in constant time.
+    pub fn entry(&self, place: u64) -> &Entry
+        requires { place < length self.now.entries }
+        ensures { slice_get self.now.entries place ≡ Some result.now }
+    {
+        &self.entries[place as usize]
+    }
+
+    /// The bytes of a main or side segment, lent in constant time; none where there is no segment of this number.
+    pub fn bytes(&self, segment: u32) -> &[u8]
+        ensures bytes { result.now ≡ bytes_of self.now segment }
+        ensures within { length result.now ≤ SEGMENT_BYTES }
+    {
+        bytes_among(self.main.as_slice(), self.sides.as_slice(), segment)
+    }
+}
