@@ -1,0 +1,15 @@
+pub mod Codecs
+pub mod Chains
+pub mod Loops
+pub mod FieldLaws
+pub mod ListLaws
+pub mod TextLaws
+pub mod CallLaws
+pub mod ReplicationLaws
+pub mod HandoverLaws
+pub mod PullingLaws
+pub mod RebuildingLaws
+pub mod FrameLaws
+pub mod Numbers
+pub mod Sums
+pub mod Traffic

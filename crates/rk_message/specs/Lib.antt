@@ -1,0 +1,10 @@
+pub mod Kinds
+pub mod Fields
+pub mod Texts
+pub mod Calls
+pub mod Replication
+pub mod Handover
+pub mod Pulling
+pub mod Rebuilding
+pub mod Frames
+pub mod Wire

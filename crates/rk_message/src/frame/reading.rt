@@ -1,0 +1,183 @@
+ghost use Rattle.std.specs.Prelude.{◌≡◌, ◌<◌, ◌++◌, List, ℕ, length, drop, Ok, IfOk};
+ghost use Rattle.rk_message.specs.declared.message.Message.{Message};
+ghost use Rattle.rk_entry.specs.Kinds.{is_list_length};
+ghost use Rattle.std.specs.Int.{is_in_range};
+ghost use Rattle.rk_entry.specs.Steps.{Gives};
+ghost use Rattle.rk_message.specs.Frames.{frame_bytes, IsLawfulMessage, StandsFirst, is_size, is_body_length, read_kind, read_size, read_fields, read_frame};
+
+use crate::calls::{
+    LOCATED_BYTES, LOOKUP_BYTES, REPLY_BYTES, REQUEST_BYTES, read_located, read_lookup, read_reply,
+    read_request,
+};
+use crate::fields::{NODES_BYTES, TENURE_BYTES, read_node, read_tenure};
+use crate::frame::{FIRST_KIND, LAST_KIND};
+use crate::handover::{
+    GRANT_BYTES, PREPARE_BYTES, READY_BYTES, TRANSFER_BYTES, read_grant, read_prepare, read_ready,
+    read_transfer,
+};
+use crate::message::{Body, Message};
+use crate::pulling::{
+    GOT_BYTES, HASH_BYTES, PULL_BYTES, PULLED_BYTES, WANT_BYTES, read_got, read_pull, read_pulled,
+    read_want,
+};
+use crate::rebuilding::{
+    COPY_BYTES, MEMBER_BYTES, READ_SEGMENT_BYTES, REBUILD_BYTES, REBUILT_BYTES, read_copy,
+    read_read_segment, read_rebuild, read_rebuilt,
+};
+use crate::replication::{APPEND_BYTES, STORED_BYTES, read_append, read_stored};
+use rk_entry::fields::{read_u8, read_u32};
+use rk_entry::{BAD_BODY_LENGTH, BAD_KIND, DecodeError, END_BYTES, LONGEST_BODY};
+use rk_types::{LONGEST_KEY, LONGEST_VALUE};
+use std::alloc::Global;
+
+// Whether the number is at least `least` and at most `most`.
+fn is_within(least: u32, most: u32, number: u32) -> bool
+    ensures { result ≡ is_in_range least most number }
+{
+    least <= number && number <= most
+}
+
+// Whether so many bytes are `first` bytes and some members of `each` bytes, and no more than a body has.
+fn is_list(first: u32, each: u32, number: u32) -> bool
+    requires { 0 < each }
+    ensures { result ≡ is_list_length first each LONGEST_BODY number }
+{
+    first <= number && number <= LONGEST_BODY && (number - first) % each == 0
+}
+
+// Whether the fields of some lawful message of this kind take so many bytes, as far as their number alone tells.
+#[tactic(auto, unfolding(crate::specs::Frames::is_size))]
+fn is_size(kind: u8, size: u32) -> bool
+    ensures { result ≡ is_size kind size }
+{
+    let key = LONGEST_KEY as u32;
+    let value = LONGEST_VALUE as u32;
+    match kind {
+        1 => is_within(REQUEST_BYTES + 1, REQUEST_BYTES + key + 12 + value, size),
+        2 => size == REPLY_BYTES || is_within(REPLY_BYTES + 2, REPLY_BYTES + 12 + value, size),
+        3 => size == LOOKUP_BYTES,
+        4 => size == LOCATED_BYTES,
+        5 => size >= APPEND_BYTES,
+        6 => size == STORED_BYTES,
+        7 => size == PREPARE_BYTES,
+        8 => size == READY_BYTES,
+        9 | 16 | 17 | 18 => size == TENURE_BYTES,
+        10 => is_list(TRANSFER_BYTES, END_BYTES, size),
+        11 => is_list(GRANT_BYTES, END_BYTES, size),
+        12 => size == PULL_BYTES,
+        13 => size >= PULLED_BYTES,
+        14 => is_list(WANT_BYTES, HASH_BYTES, size),
+        15 => size >= GOT_BYTES,
+        19 => is_list(REBUILD_BYTES, MEMBER_BYTES, size),
+        20 => size == READ_SEGMENT_BYTES,
+        21 => size >= COPY_BYTES,
+        22 => is_list(REBUILT_BYTES, END_BYTES, size),
+        _ => false,
+    }
+}
+
+// The number of a kind.
+#[tactic(auto, unfolding(crate::specs::Frames::read_kind))]
+fn read_kind(bytes: &[u8]) -> Result<(u8, &[u8]), DecodeError>
+    ensures { Gives (λ x. (x.0, x.1.now)) result (read_kind bytes.now) }
+{
+    let (kind, rest) = read_u8(bytes)?;
+    if kind < FIRST_KIND || kind > LAST_KIND {
+        return Err(DecodeError::Bad(BAD_KIND));
+    }
+    Ok((kind, rest))
+}
+
+// Whether some lawful message of this kind has a body of so many bytes, as far as their number alone tells.
+fn is_body_length(kind: u8, body: u32) -> bool
+    ensures { result ≡ is_body_length kind body }
+{
+    is_within(NODES_BYTES, LONGEST_BODY, body) && is_size(kind, body - NODES_BYTES)
+}
+
+// How many bytes of a body of this kind are fields.
+#[tactic(auto, unfolding(crate::specs::Frames::read_size))]
+fn read_size(kind: u8, bytes: &[u8]) -> Result<(u32, &[u8]), DecodeError>
+    ensures { Gives (λ x. (x.0, x.1.now)) result (read_size kind bytes.now) }
+{
+    let (body, rest) = read_u32(bytes)?;
+    if !is_body_length(kind, body) {
+        return Err(DecodeError::Bad(BAD_BODY_LENGTH));
+    }
+    Ok((body - NODES_BYTES, rest))
+}
+
+// A body of this kind, made of what was read.
+macro_rules! body {
+    ($kind:ident, $read:expr) => {{
+        let (fields, rest) = $read?;
+        Ok((Body::$kind(fields), rest))
+    }};
+}
+
+// The fields, which take `size` bytes, of a message of this kind.
+#[tactic(auto, unfolding(crate::specs::Frames::read_fields))]
+fn read_fields(
+    alloc: Global,
+    kind: u8,
+    size: u32,
+    bytes: &[u8],
+) -> Result<(Body, &[u8]), DecodeError>
+    ensures { Gives (λ x. (x.0, x.1.now)) result (read_fields kind size bytes.now) }
+{
+    match kind {
+        1 => body!(Request, read_request(alloc, size, bytes)),
+        2 => body!(Reply, read_reply(alloc, size, bytes)),
+        3 => body!(Lookup, read_lookup(bytes)),
+        4 => body!(Located, read_located(bytes)),
+        5 => body!(Append, read_append(alloc, size, bytes)),
+        6 => body!(Stored, read_stored(bytes)),
+        7 => body!(Prepare, read_prepare(bytes)),
+        8 => body!(Ready, read_ready(bytes)),
+        9 => body!(Close, read_tenure(bytes)),
+        10 => body!(Transfer, read_transfer(alloc, size, bytes)),
+        11 => body!(Grant, read_grant(alloc, size, bytes)),
+        12 => body!(Pull, read_pull(bytes)),
+        13 => body!(Pulled, read_pulled(alloc, size, bytes)),
+        14 => body!(Want, read_want(alloc, size, bytes)),
+        15 => body!(Got, read_got(alloc, size, bytes)),
+        16 => body!(Joined, read_tenure(bytes)),
+        17 => body!(Own, read_tenure(bytes)),
+        18 => body!(Release, read_tenure(bytes)),
+        19 => body!(Rebuild, read_rebuild(alloc, size, bytes)),
+        20 => body!(Read, read_read_segment(bytes)),
+        21 => body!(Copy, read_copy(alloc, size, bytes)),
+        22 => body!(Rebuilt, read_rebuilt(alloc, size, bytes)),
+        _ => Err(DecodeError::Bad(BAD_KIND)),
+    }
+}
+
+// The message at the front of the bytes.
+#[tactic(auto, unfolding(crate::specs::Frames::read_frame))]
+fn read_frame(alloc: Global, bytes: &[u8]) -> Result<(Message, &[u8]), DecodeError>
+    ensures { Gives (λ x. (x.0, x.1.now)) result (read_frame bytes.now) }
+{
+    let (kind, rest) = read_kind(bytes)?;
+    let (size, rest) = read_size(kind, rest)?;
+    let (from, rest) = read_node(rest)?;
+    let (to, rest) = read_node(rest)?;
+    let (body, rest) = read_fields(alloc, kind, size, rest)?;
+    Ok((Message { from, to, body }, rest))
+}
+
+/// The message whose frame begins the bytes, and how many bytes the frame takes; any bytes may follow. `Cut` comes
+/// where the bytes end before the field that is being read is whole and every field before it is lawful, `Bad` where a
+/// field is whole and unlawful with those before it.
+pub fn decode_frame(alloc: Global, bytes: &[u8]) -> Result<(Message, usize), DecodeError>
+    // What is read is spelled so.
+    ensures found { IfOk result (λ x. StandsFirst bytes.now x.0 x.1) }
+
+    // What is spelled so is read, whatever follows it, unless memory runs out.
+    ensures only { (message : Message) (rest : List ℕ) → IsLawfulMessage message → bytes.now ≡ frame_bytes message ++ rest → Gives (λ x. x) result (Ok (message, length (frame_bytes message))) }
+
+    // A fault is the first one from the left.
+    ensures exact { Gives (λ x. (x.0, drop x.1 bytes.now)) result (read_frame bytes.now) }
+{
+    let (message, rest) = read_frame(alloc, bytes)?;
+    Ok((message, bytes.len() - rest.len()))
+}

@@ -1,0 +1,39 @@
+//! The messages that clients, the coordinator, masters and backups send each other, the one frame that spells each of
+//! them, and the wire that carries them.
+//!
+//! It stands on `rk_types` and `rk_entry`. What it promises: [`encode_frame`] writes the frame of a message, and
+//! [`decode_frame`] reads a message exactly where its frame begins the bytes, and else names the first fault from the
+//! left; no frame begins another; a duplicate equals what it was made from; a [`Wire`] keeps what was sent, by number.
+#![tactic(auto)]
+
+pub use calls::{Located, Lookup, Reply, Request};
+pub use frame::{decode_frame, encode_frame, frame_len};
+pub use handover::{Grant, Prepare, Ready, Tenure, Transfer};
+pub use laws::{frame_round_trip, one_frame};
+pub use message::{Body, Message};
+pub use missing::NoMessage;
+pub use numbered::Numbered;
+pub use pulling::{Got, Pull, Pulled, Want};
+pub use rebuilding::{CopySegment, ReadSegment, Rebuild, Rebuilt};
+pub use replication::{Append, Stored};
+pub use wire::Wire;
+
+#[cfg(test)]
+mod built;
+mod calls;
+mod fields;
+mod frame;
+mod handover;
+mod laws;
+mod message;
+mod missing;
+mod numbered;
+mod pulling;
+mod rebuilding;
+mod replication;
+#[cfg(test)]
+mod tests;
+mod texts;
+#[cfg(test)]
+mod vectors;
+mod wire;

@@ -1,0 +1,142 @@
+ghost use Rattle.std.specs.Prelude.{◌≡◌, ◌+◌, ◌-◌, ◌^◌, ◌<◌, min, Some, None, IfOk, OnOk, IfErr, OnErr};
+ghost use Rattle.std.specs.FinMap.{get, len};
+ghost use Rattle.rk_message.specs.Frames.{IsLawfulMessage};
+ghost use Rattle.rk_message.specs.Wire.{HasLawfulMessages, HasSentNumbers, bytes_on, kind_of, missing, number_at, receiver_of, silent, with_message, without_message};
+
+use crate::frame::frame_len;
+use crate::message::Message;
+use crate::missing::NoMessage;
+use crate::numbered::Numbered;
+use rk_types::{NoMemory, Node};
+use std::alloc::Global;
+use std::marker::Model;
+
+#[cfg(test)]
+mod tests;
+
+/// The messages of a lane that are under way. Each has a number, counted from 1 in the order in which they were sent.
+/// A message stays when it is delivered, so it may be delivered again and in any order, until it is forgotten.
+#[derive(Drop)]
+pub struct Wire {
+    messages: Numbered<Message>,
+    sent: u64,
+    // The bytes of the frames of all messages.
+    bytes: u128,
+}
+
+impl Model for Wire {
+    ghost use Rattle.rk_message.specs.Wire.{Traffic, traffic_code, IsKept};
+
+    ghost Value = { Traffic };
+
+    ghost coded = { traffic_code };
+
+    ghost view = { λ wire. record { messages = wire.messages; sent = wire.sent } };
+
+    ghost invariant = { λ wire. IsKept (record { messages = wire.messages; sent = wire.sent }) wire.bytes };
+}
+
+impl Wire {
+    /// A wire to which nothing was sent, which takes no memory.
+    pub fn new(alloc: Global) -> Wire
+        ensures { result ≡ silent }
+    {
+        Wire {
+            messages: Numbered::new(alloc),
+            sent: 0,
+            bytes: 0,
+        }
+    }
+
+    /// Puts a message on the wire and answers its number. After `NoMemory` the wire is as it was, and the message is
+    /// dropped. One search.
+    pub fn send(&mut self, message: Message) -> Result<u64, NoMemory>
+        requires room { self.old.sent < 2 ^ 60 }
+        requires lawful { IsLawfulMessage message }
+        ensures number { IfOk result (λ n. n ≡ self.old.sent + 1) }
+        ensures sent { OnOk result (self.new ≡ with_message message self.old) }
+        ensures err { OnErr result (self.new ≡ self.old) }
+    {
+        let number = self.sent + 1;
+        let length = u128::from(frame_len(&message));
+        self.messages.insert(number, message)?;
+        self.sent = number;
+        self.bytes += length;
+        Ok(number)
+    }
+
+    /// The message of this number. `NoMessage` comes exactly where it was never sent or is forgotten. One search.
+    pub fn message(&self, n: u64) -> Result<&Message, NoMessage>
+        ensures ok { IfOk result (λ message. get self.now.messages n ≡ Some message.now) }
+        ensures err { IfErr result (λ e. missing n self.now ≡ Some e) }
+        ensures lawful { HasLawfulMessages self.now }
+    {
+        self.messages.get(n).ok_or(NoMessage(n))
+    }
+
+    /// Takes the message of this number off the wire. `NoMessage` comes exactly where it was never sent or is
+    /// forgotten, and leaves the wire as it was. One search.
+    pub fn forget(&mut self, n: u64) -> Result<(), NoMessage>
+        ensures ok { OnOk result (missing n self.old ≡ None) }
+        ensures forgotten { OnOk result (self.new ≡ without_message n self.old) }
+        ensures err { IfErr result (λ e. missing n self.old ≡ Some e) }
+        ensures same { OnErr result (self.new ≡ self.old) }
+    {
+        let Some(message) = self.messages.remove(n) else {
+            return Err(NoMessage(n));
+        };
+        self.bytes -= u128::from(frame_len(&message));
+        Ok(())
+    }
+
+    /// The number of the oldest message; none where the wire is empty. One search.
+    pub fn oldest(&self) -> Option<u64>
+        ensures { result ≡ number_at 1 self.now }
+    {
+        self.at(1)
+    }
+
+    /// The number of the message at a place among those that are there, counted from 1, the oldest first. A step for
+    /// each message up to there.
+    pub fn at(&self, place: u32) -> Option<u64>
+        ensures { result ≡ number_at place self.now }
+    {
+        if place == 0 {
+            return None;
+        }
+        self.messages.number_at(place as usize - 1)
+    }
+
+    /// How many messages are there.
+    pub fn count(&self) -> u64
+        ensures count { result ≡ len self.now.messages }
+        ensures numbers { HasSentNumbers self.now }
+    {
+        self.messages.count()
+    }
+
+    /// The bytes of the frames of all messages that are there; 2^64 - 1 where they are more.
+    pub fn bytes(&self) -> u64
+        ensures { result ≡ min (bytes_on self.now) (2 ^ 64 - 1) }
+    {
+        u64::try_from(self.bytes).unwrap_or(u64::MAX)
+    }
+
+    /// The receiver of the message of this number. `NoMessage` comes exactly where it was never sent or is forgotten.
+    /// One search.
+    pub fn address(&self, n: u64) -> Result<Node, NoMessage>
+        ensures ok { IfOk result (λ to. receiver_of n self.now ≡ Some to) }
+        ensures err { IfErr result (λ e. missing n self.now ≡ Some e) }
+    {
+        Ok(self.message(n)?.to)
+    }
+
+    /// The number of the kind of the message of this number, from 1 to 22. `NoMessage` comes exactly where it was
+    /// never sent or is forgotten. One search.
+    pub fn kind(&self, n: u64) -> Result<u8, NoMessage>
+        ensures ok { IfOk result (λ kind. kind_of n self.now ≡ Some kind) }
+        ensures err { IfErr result (λ e. missing n self.now ≡ Some e) }
+    {
+        Ok(self.message(n)?.body.number())
+    }
+}
