@@ -1,0 +1,7 @@
+pub mod Scene
+pub mod Granted
+mod Writing
+mod Migrating
+mod Fetching
+mod TargetCrash
+mod SourceCrash

@@ -1,0 +1,57 @@
+-- Worked examples: the source of a move crashes.
+use Rattle.std.specs.Prelude.{◌≡◌, [], ◌∷◌, refl}
+use Rattle.rk_types.specs.Hashing.{hash_of}
+use Rattle.rk_types.specs.Held.{spelled_of}
+use Rattle.rk_types.specs.declared.call.Op.TheVariants.{Get}
+use Rattle.rk_types.specs.declared.call.Outcome.TheVariants.{Found}
+use Rattle.rk_types.specs.declared.node.Node.TheVariants as nodes
+use Rattle.rk_entry.specs.Ends.{range_bytes, outcome_bytes, end_bytes, read_range, read_version, read_absent, read_tagged, read_outcome, read_end}
+use Rattle.rk_entry.specs.Entries.{spelled_all, entries_within, entries_of}
+use Rattle.rk_entry.specs.Lists.{ends_bytes, segments_bytes, read_ends, read_segment, read_segments}
+use Rattle.rk_entry.specs.Numbers.{number_bytes, read_number, read_from}
+use Rattle.rk_entry.specs.Reading.{read_kind, read_body_length, read_head, read_tombstone, read_object, read_why, read_refused, read_carried, read_joined, read_mark, read_entry}
+use Rattle.rk_entry.specs.Spelling.{head_bytes, held_bytes, refused_bytes, carried_bytes, joined_bytes, body_length, front_bytes, spelled, mark_of}
+use Rattle.rk_entry.specs.Texts.{key_bytes, value_bytes, read_key_length, read_key, read_value_length, read_value}
+use Rattle.rk_tablet_map.specs.Phase.{member}
+use Rattle.rk_tablet_map.specs.declared.phase.Phase.TheVariants.{Owned, Rebuilding}
+use Rattle.rk_world.specs.declared.event.Event.TheVariants as events
+use Rattle.rk_world.proofs.Scene.{Scene, Does, Calls, Asks, Delivers, played, answers_of, phases_of, a, i, x, y}
+use Rattle.rk_world.proofs.Granted.{filled, granted, overwritten}
+
+-- the source crashes before the write is committed and before anything was pulled
+crashed : Scene
+crashed =
+    played overwritten (
+    Does (events.Crash 1) ∷ Does (events.Notice 1) ∷ [])
+
+-- the target is to rebuild the tablet from both logs
+crashed_row : phases_of crashed ≡ Rebuilding (member 1 0 ∷ member 2 0 ∷ []) 2 ∷ []
+unfolding crashed overwritten granted filled hash_of spelled_of spelled_all spelled front_bytes body_length head_bytes held_bytes refused_bytes carried_bytes joined_bytes mark_of number_bytes key_bytes value_bytes range_bytes outcome_bytes end_bytes ends_bytes segments_bytes
+crashed_row = refl
+
+-- it gathers what backup 1 has of the source, merges it, and tells that
+rebuilt : Scene
+rebuilt =
+    played crashed (
+    Does (events.Turn nodes.Coordinator) ∷ Delivers 26 ∷ Does (events.Turn (nodes.Master 2)) ∷ Delivers 27
+    ∷ Delivers 28 ∷ Delivers 29 ∷ Delivers 30 ∷ Delivers 31 ∷ Delivers 32 ∷ Delivers 33
+    ∷ Does (events.Turn (nodes.Master 2)) ∷ Delivers 34 ∷ Delivers 35 ∷ Does (events.Turn (nodes.Master 2))
+    ∷ Delivers 36 ∷ Delivers 37 ∷ Delivers 38 ∷ Delivers 39 ∷ Does (events.Turn (nodes.Master 2)) ∷ Delivers 40
+    ∷ Delivers 41 ∷ [])
+
+-- the target owns the tablet
+rebuilt_row : phases_of rebuilt ≡ Owned 2 0 ∷ []
+unfolding rebuilt crashed overwritten granted filled hash_of spelled_of spelled_all spelled front_bytes body_length head_bytes held_bytes refused_bytes carried_bytes joined_bytes mark_of number_bytes key_bytes value_bytes range_bytes outcome_bytes end_bytes ends_bytes segments_bytes entries_of entries_within read_entry read_kind read_body_length read_head read_tombstone read_object read_why read_refused read_carried read_joined read_mark read_number read_from read_key_length read_key read_value_length read_value read_range read_version read_absent read_tagged read_outcome read_end read_ends read_segment read_segments
+rebuilt_row = refl
+
+-- another client reads both records
+reads : Scene
+reads =
+    played rebuilt (
+    Calls 2 a Get ∷ Asks 2 ∷ Delivers 42 ∷ Delivers 43 ∷ Asks 2 ∷ Delivers 44 ∷ Delivers 45 ∷ Calls 2 i Get
+    ∷ Asks 2 ∷ Delivers 46 ∷ Delivers 47 ∷ [])
+
+-- as they were written last
+read_answers : answers_of reads 2 ≡ Found 3 y ∷ Found 2 x ∷ []
+unfolding reads rebuilt crashed overwritten granted filled hash_of spelled_of spelled_all spelled front_bytes body_length head_bytes held_bytes refused_bytes carried_bytes joined_bytes mark_of number_bytes key_bytes value_bytes range_bytes outcome_bytes end_bytes ends_bytes segments_bytes entries_of entries_within read_entry read_kind read_body_length read_head read_tombstone read_object read_why read_refused read_carried read_joined read_mark read_number read_from read_key_length read_key read_value_length read_value read_range read_version read_absent read_tagged read_outcome read_end read_ends read_segment read_segments
+read_answers = refl

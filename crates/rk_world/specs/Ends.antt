@@ -1,0 +1,90 @@
+-- How calls ended: what the entries of a log tell of it, and the last end of each client.
+use Rattle.std.specs.Prelude.{ℕ, if◌then◌else◌, List, [], ◌∷◌, map, Option, Some, None}
+use Rattle.std.specs.List.{flat_map}
+use Rattle.rk_types.specs.declared.call.End.{End}
+use Rattle.rk_types.specs.declared.call.End.TheVariants as ends
+use Rattle.rk_types.specs.declared.call.Ended.{Ended}
+use Rattle.rk_types.specs.declared.call.Outcome.{Outcome}
+use Rattle.rk_types.specs.declared.call.Outcome.TheVariants as outcomes
+use Rattle.rk_types.specs.declared.held.Held.{Held}
+use Rattle.rk_entry.specs.declared.entry.Entry.{Entry}
+use Rattle.rk_entry.specs.declared.entry.Entry.TheVariants as entries
+use Rattle.rk_entry.specs.declared.entry.Refused.{Refused}
+use Rattle.rk_done.specs.Completions.{ended_of, is_later, look_of}
+use Rattle.rk_done.specs.declared.kept.Kept.{Kept}
+use Rattle.rk_done.specs.declared.kept.Look.{Look}
+use Rattle.rk_world.specs.Tables.{Table, look_up, with_at}
+
+-- the outcome that tells an end
+abbrev pub outcome_of : End → Outcome
+outcome_of (ends.Written version) = outcomes.Written version
+outcome_of (ends.Deleted version) = outcomes.Deleted version
+outcome_of ends.Absent = outcomes.Absent
+outcome_of (ends.Mismatch version) = outcomes.Mismatch version
+
+-- a call that left an item wrote a value, or removed the record
+abbrev pub end_of_item : ℕ → Option (List ℕ) → End
+end_of_item version (Some value) = ends.Written version
+end_of_item version None = ends.Deleted version
+
+-- the end of the call that left an item
+abbrev pub item_end : Held → Ended
+item_end held = record { client = held.client; seq = held.seq; end = end_of_item held.version held.value }
+
+-- a refused removal found nothing, and a refused conditional put another version
+abbrev pub end_of_refusal : Refused → End
+end_of_refusal refused = if refused.absent then ends.Absent else ends.Mismatch refused.found
+
+-- the end of a refused call
+abbrev pub refusal_end : Refused → Ended
+refusal_end refused = record { client = refused.client; seq = refused.seq; end = end_of_refusal refused }
+
+-- the ends that an entry tells
+abbrev pub told_by : Entry → List Ended
+told_by (entries.Held held) = item_end held ∷ []
+told_by (entries.Refused refused) = refusal_end refused ∷ []
+told_by (entries.Carried carried) = carried.ends
+told_by (entries.Joined joined) = []
+
+-- the ends that entries tell, in their order
+abbrev pub told : List Entry → List Ended
+told entries = flat_map told_by entries
+
+-- the item that an entry is, if it is one
+abbrev pub items_in : Entry → List Held
+items_in (entries.Held held) = held ∷ []
+items_in (entries.Refused refused) = []
+items_in (entries.Carried carried) = []
+items_in (entries.Joined joined) = []
+
+-- the items among entries, in their order
+abbrev pub items_of : List Entry → List Held
+items_of entries = flat_map items_in entries
+
+-- the last end of each client, by rising client
+abbrev pub Completions : Type 0
+Completions = Table Kept
+
+-- the last ends after one more: a later call of its client takes the place of the one that is kept
+abbrev pub noted : Completions → Ended → Completions
+noted kept ended =
+    if is_later (look_up kept ended.client) ended.seq
+    then with_at kept ended.client (record { seq = ended.seq; end = ended.end })
+    else kept
+
+-- the last ends after these, begun with those that are kept
+abbrev pub completions_from : Completions → List Ended → Completions
+completions_from kept [] = kept
+completions_from kept (ended ∷ later) = completions_from (noted kept ended) later
+
+-- the last ends that entries tell
+abbrev pub completions : List Entry → Completions
+completions entries = completions_from [] (told entries)
+
+-- the last ends, as they are told
+abbrev pub ends_of : Completions → List Ended
+ends_of kept = map ended_of kept
+
+-- what is known of the call of a client with a seq
+abbrev pub look : Completions → ℕ → ℕ → Look
+look kept client seq = look_of (look_up kept client) seq

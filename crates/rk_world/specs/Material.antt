@@ -1,0 +1,93 @@
+-- Material: the entries of logs that count for a range of hashes.
+use Rattle.std.specs.Prelude.{ℕ, suc, ◌-◌, Bool, false, ◌==◌, ◌&&◌, nat_lt, nat_le, if◌then◌else◌, List, [], ◌∷◌, ◌++◌, filter, fold, drop, slice_index_or, map}
+use Rattle.std.specs.List.{flat_map, list_any}
+use Rattle.rk_types.specs.Hashing.{hash_of}
+use Rattle.rk_types.specs.Range.{has, meets}
+use Rattle.rk_types.specs.declared.held.Held.{Held}
+use Rattle.rk_types.specs.declared.range.Range.{Range}
+use Rattle.rk_entry.specs.Lists.{is_among}
+use Rattle.rk_entry.specs.declared.entry.Entry.{Entry}
+use Rattle.rk_entry.specs.declared.entry.Entry.TheVariants as entries
+use Rattle.rk_entry.specs.declared.lists.TheConstants.{FIRST_SIDE_SEGMENT}
+
+-- whether a key of a table is in a range, by its hash
+abbrev pub has_key : Range → ℕ → List ℕ → Bool
+has_key range table key = has range table (hash_of key)
+
+-- whether a range has all of another one
+abbrev pub has_all : Range → Range → Bool
+has_all outer inner = outer.table == inner.table && nat_le outer.first inner.first && nat_le inner.last outer.last
+
+-- whether an entry counts for a range: an item or a refusal whose key is in it, or a Carried whose range has all of it
+abbrev pub counts : Range → Entry → Bool
+counts range (entries.Held held) = has_key range held.table held.key
+counts range (entries.Refused refused) = has_key range refused.table refused.key
+counts range (entries.Carried carried) = has_all carried.range range
+counts range (entries.Joined joined) = false
+
+-- the entries that count for a range
+abbrev pub counting : Range → List Entry → List Entry
+counting range entries = filter (counts range) entries
+
+-- the side segments that an entry makes part of the log for a range
+abbrev pub named_by : Range → Entry → List ℕ
+named_by range (entries.Held held) = []
+named_by range (entries.Refused refused) = []
+named_by range (entries.Carried carried) = []
+named_by range (entries.Joined joined) = if meets joined.range range then joined.segments else []
+
+-- the numbers with one more, unless it is among them
+abbrev pub with_number : List ℕ → ℕ → List ℕ
+with_number numbers number = if is_among number numbers then numbers else numbers ++ number ∷ []
+
+-- the side segments that entries make part of the log for a range, each once
+abbrev pub named : Range → List Entry → List ℕ
+named range entries = fold with_number [] (flat_map (named_by range) entries)
+
+-- what counts for a range of these entries of a log: those that count themselves, and then those of the side segments
+-- that they name, where `side` gives the entries of each side segment
+abbrev pub material_of : Range → (ℕ → List Entry) → List Entry → List Entry
+material_of range side entries = counting range entries ++ counting range (flat_map side (named range entries))
+
+-- a piece of a log that a rebuild made, from the place `first` on and before the place `past`, until it is told
+pub record Mark : Type 0 where
+  pub first : ℕ
+  pub past : ℕ
+  pub tablet : ℕ
+  pub term : ℕ
+
+-- whether the entry at a place is of such a piece
+abbrev pub is_marked : List Mark → ℕ → Bool
+is_marked marks place = list_any (λ mark. nat_le mark.first place && nat_lt place mark.past) marks
+
+-- the entries that bear no mark, where the first of them stands at `place`
+abbrev pub unmarked : List Mark → ℕ → List Entry → List Entry
+unmarked marks place [] = []
+unmarked marks place (entry ∷ entries) =
+    if is_marked marks place then unmarked marks (suc place) entries else entry ∷ unmarked marks (suc place) entries
+
+-- the entries of a log from a place on that bear no mark
+abbrev pub unmarked_from : List Mark → ℕ → List Entry → List Entry
+unmarked_from marks place entries = unmarked marks place (drop place entries)
+
+-- items as the entries of a log
+abbrev pub as_entries : List Held → List Entry
+as_entries items = map entries.Held items
+
+-- the entries of the side segment of this number, where `sides` has the items of each, from the first one on
+abbrev pub side_entries : List (List Held) → ℕ → List Entry
+side_entries sides number =
+    if nat_lt number FIRST_SIDE_SEGMENT then [] else as_entries (slice_index_or sides (number - FIRST_SIDE_SEGMENT) [])
+
+-- what counts for a range of these entries of a log: those from a place on that bear no mark, and the items of the side
+-- segments that they name
+abbrev pub log_material : Range → List Mark → List (List Held) → ℕ → List Entry → List Entry
+log_material range marks sides place entries = material_of range (side_entries sides) (unmarked_from marks place entries)
+
+-- the part of a range below a hash
+abbrev pub range_below : Range → ℕ → Range
+range_below range at = record { table = range.table; first = range.first; last = at - 1 }
+
+-- the part of a range from a hash on
+abbrev pub range_from : Range → ℕ → Range
+range_from range at = record { table = range.table; first = at; last = range.last }

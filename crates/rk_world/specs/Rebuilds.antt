@@ -1,0 +1,146 @@
+-- How a master rebuilds a tablet from the logs of its lineage.
+use Rattle.std.specs.Prelude.{ℕ, suc, ◌==◌, ◌&&◌, Bool, true, false, if◌then◌else◌, List, [], ◌∷◌, drop, find, length, Option, Some, None}
+use Rattle.rk_types.specs.declared.lineage.Member.{Member}
+use Rattle.rk_types.specs.declared.range.Range.{Range}
+use Rattle.rk_entry.specs.declared.entry.Entry.{Entry}
+use Rattle.rk_entry.specs.declared.entry.Entry.TheVariants as entries
+use Rattle.rk_message.specs.declared.rebuilding.CopySegment.{CopySegment}
+use Rattle.rk_message.specs.declared.rebuilding.Rebuild.{Rebuild}
+use Rattle.rk_transfer.specs.Handover.{rebuilt, carried}
+use Rattle.rk_transfer.specs.declared.handover.Handover.{Handover}
+use Rattle.rk_transfer.specs.declared.role.Role.{Role}
+use Rattle.rk_transfer.specs.declared.role.Role.TheVariants as roles
+use Rattle.rk_world.specs.declared.work.Merged.{Merged}
+use Rattle.rk_world.specs.declared.work.Reading.{Reading}
+use Rattle.rk_world.specs.Ends.{completions_from, ends_of}
+use Rattle.rk_world.specs.Material.{material_of, side_entries, as_entries}
+use Rattle.rk_world.specs.Gather.{by_member, gather_begun, gathering, is_awaited, next_reading, merge, no_merge}
+use Rattle.rk_world.specs.Tablet.{Tablet, pulling_from}
+use Rattle.rk_world.specs.Master.{Master, Worked, tablet_at, changed, with_tablet, with_appended, with_all, without_items}
+use Rattle.rk_world.specs.Handovers.{is_greater, with_others_given_up}
+
+-- the place from which the own log counts for a tablet that is rebuilt
+abbrev pub own_place : Role → ℕ
+own_place (roles.Rebuilding from entry) = from
+own_place _ = 0
+
+-- the own entries that count for a tablet that is rebuilt
+abbrev pub own_material : Master → Tablet → List Entry
+own_material master tablet =
+    material_of tablet.handover.range (side_entries master.sides)
+    (drop (own_place tablet.handover.role) master.log.entries)
+
+-- the entry that closes a rebuild
+abbrev pub rebuilt_entry : Tablet → Merged → Entry
+rebuilt_entry tablet merged = entries.Carried (record {
+  range = tablet.handover.range;
+  term = tablet.handover.term;
+  floor = merged.floor;
+  ends = ends_of (completions_from [] merged.ends);
+})
+
+-- a tablet goes on with what was merged of these entries, member by member
+abbrev pub with_merged : Tablet → List (List Entry) → Merged → Handover → Tablet
+with_merged tablet members merged handover = record tablet {
+  handover = handover;
+  completions = completions_from [] merged.ends;
+  merged = merged;
+  merged_of = members;
+}
+
+-- the copies and the entry that closes the rebuild are appended, as one piece of the log
+abbrev pub merging : Master → ℕ → Tablet → List (List Entry) → Merged → Option Handover → Worked
+merging master number tablet members merged None = changed master
+merging master number tablet members merged (Some handover) =
+    let copied = with_all master (as_entries merged.copies) in
+    record {
+      master = with_tablet (with_appended copied (rebuilt_entry tablet merged)) number (with_merged tablet members merged handover);
+      sends = [];
+      served = [];
+      marked = (record {
+        first = length master.log.entries;
+        past = suc (length copied.log.entries);
+        tablet = number;
+        term = handover.term;
+      }) ∷ [];
+    }
+
+-- all is gathered, and merged: the copies and the entry that closes the rebuild are appended
+abbrev pub merged_at : Master → ℕ → Tablet → List (List Entry) → Merged → Worked
+merged_at master number tablet members merged =
+    let place = length (with_all master (as_entries merged.copies)).log.entries in
+    merging master number tablet members merged (carried tablet.handover tablet.handover.term place merged.floor)
+
+-- a rebuild goes on: it gathers while there is a segment to read, and then merges
+abbrev pub rebuilding_on : Master → ℕ → Option Reading → Worked
+rebuilding_on master number (Some reading) = changed master
+rebuilding_on master number None =
+    let tablet = tablet_at master number in
+    let members = by_member tablet.gather (own_material master tablet) in
+    merged_at master number tablet members (merge (own_material master tablet) members)
+
+-- a rebuild goes on by what it has gathered
+abbrev pub rebuild_goes_on : Master → ℕ → Worked
+rebuild_goes_on master number = rebuilding_on master number (next_reading (tablet_at master number).gather)
+
+-- the master's own place in a lineage
+abbrev pub own_member : List Member → ℕ → Option Member
+own_member lineage number = find (λ member. member.master == number) lineage
+
+-- a master of the lineage keeps its items, and its log counts from its place there
+abbrev pub begun_from : Master → Option Member → ℕ
+begun_from master (Some member) = member.from
+begun_from master None = length master.log.entries
+
+-- a master outside the lineage drops the items of the range
+abbrev pub without_foreign : Master → Range → Option Member → Master
+without_foreign master range (Some member) = master
+without_foreign master range None = without_items master range
+
+-- a tablet is rebuilt: what was pulled and is not sealed is dropped, and nothing is gathered so far
+abbrev pub with_begun : Master → Rebuild → Option Handover → Master
+with_begun master rebuild None = master
+with_begun master rebuild (Some handover) =
+    let tablet = tablet_at master rebuild.tenure.tablet in
+    with_tablet master rebuild.tenure.tablet
+    (record tablet {
+      handover = handover;
+      pulling = pulling_from tablet.pulling.source;
+      gather = gather_begun rebuild.range rebuild.lineage master.number;
+      merged = no_merge;
+      merged_of = [];
+    })
+
+-- a master begins to rebuild a tablet
+abbrev pub beginning : Master → Rebuild → Worked
+beginning master rebuild =
+    let own = own_member rebuild.lineage master.number in
+    let from = begun_from master own in
+    let number = rebuild.tenure.tablet in
+    let now = with_others_given_up (without_foreign master rebuild.range own) number rebuild.range in
+    rebuild_goes_on (with_begun now rebuild (rebuilt (tablet_at now number).handover rebuild.tenure.term rebuild.range from)) number
+
+-- a master takes a Rebuild
+abbrev pub rebuild_taken : Master → Rebuild → Worked
+rebuild_taken master rebuild =
+    if is_greater master rebuild.tenure.tablet rebuild.tenure.term rebuild.range
+    then beginning master rebuild
+    else changed master
+
+-- whether a rebuild still gathers
+abbrev pub is_gathering : Role → Bool
+is_gathering (roles.Rebuilding from None) = true
+is_gathering _ = false
+
+-- a tablet gathers a segment
+abbrev pub with_gathered : Tablet → CopySegment → Tablet
+with_gathered tablet copy = record tablet { gather = gathering tablet.gather copy.master copy.segment copy.bytes }
+
+-- a master takes the copy of a segment, where it awaits just that
+abbrev pub copy_taken : Master → CopySegment → Worked
+copy_taken master copy =
+    let tablet = tablet_at master copy.tenure.tablet in
+    if is_gathering tablet.handover.role && (tablet.handover.term == copy.tenure.term)
+    && is_awaited (next_reading tablet.gather) copy.master copy.segment
+    then rebuild_goes_on (with_tablet master copy.tenure.tablet (with_gathered tablet copy)) copy.tenure.tablet
+    else changed master

@@ -1,0 +1,64 @@
+-- Runs: what a list of events makes of a world, and which lists of events are calm.
+use Rattle.std.specs.Prelude.{◌≡◌, ℕ, ◌==◌, Bool, true, not, List, [], ◌∷◌, Option, Result, Ok, Err, ⊤}
+use Rattle.std.specs.List.{list_any}
+use Rattle.rk_world.specs.declared.error.StepError.{StepError}
+use Rattle.rk_world.specs.declared.event.Event.{Event}
+use Rattle.rk_world.specs.declared.event.Event.TheVariants as events
+use Rattle.rk_world.specs.Calls.{Visited, ask, accept}
+use Rattle.rk_world.specs.Client.{Session, IsSession}
+use Rattle.rk_world.specs.Step.{Stepped, step}
+use Rattle.rk_world.specs.World.{World, live_masters}
+
+-- something that happens in a lane: an event with what the replica answered, or a client's turn or answer, for the session
+-- that the client has then
+pub data Happening : Type 0 where
+  Happens : (event : Event) (failed : Option ℕ) → Happening
+  Asks : (session : Session) → Happening
+  Accepts : (number : ℕ) (session : Session) → Happening
+
+-- the world after an event; one that is refused changes nothing
+abbrev pub world_stepped : World → Result Stepped StepError → World
+world_stepped w (Ok stepped) = stepped.world
+world_stepped w (Err error) = w
+
+-- the world after a client's turn or answer
+abbrev pub world_visited : World → Result Visited StepError → World
+world_visited w (Ok visited) = visited.world
+world_visited w (Err error) = w
+
+-- the world after something happened
+abbrev pub after : World → Happening → World
+after w (Happens event failed) = world_stepped w (step w event failed)
+after w (Asks session) = world_visited w (ask w session)
+after w (Accepts number session) = world_visited w (accept w number session)
+
+-- the world after a list of these
+abbrev pub run : World → List Happening → World
+run w [] = w
+run w (happening ∷ later) = run (after w happening) later
+
+-- whether another master than this one lives
+abbrev pub lives_another : World → ℕ → Bool
+lives_another w master = list_any (λ entry. not (entry.0 == master)) (live_masters w)
+
+-- a crash comes only while another master lives
+abbrev pub IsCalmEvent : World → Event → Type 0
+IsCalmEvent w (events.Crash master) = lives_another w master ≡ true
+IsCalmEvent w _ = ⊤
+
+-- only a crash may break the calm
+abbrev pub IsCalmHappening : World → Happening → Type 0
+IsCalmHappening w (Happens event failed) = IsCalmEvent w event
+IsCalmHappening w (Asks session) = ⊤
+IsCalmHappening w (Accepts number session) = ⊤
+
+-- each crash of a list comes only while another master lives
+abbrev pub IsCalm : World → List Happening → Type 0
+IsCalm w [] = ⊤
+IsCalm w (happening ∷ later) = IsCalmHappening w happening × IsCalm (after w happening) later
+
+-- a client acts by a session
+abbrev pub HasSession : Happening → Type 0
+HasSession (Happens event failed) = ⊤
+HasSession (Asks session) = IsSession session
+HasSession (Accepts number session) = IsSession session

@@ -1,0 +1,145 @@
+-- The world of a lane: what all its nodes know, and what lies between them.
+use Rattle.std.specs.Prelude.{ℕ, ◌==◌, Bool, not, max, List, [], ◌∷◌, ◌++◌, filter, fold, map, replicate, sum, take}
+use Rattle.std.specs.List.{flat_map, list_any, range_with_len}
+use Rattle.rk_types.specs.declared.call.Ended.{Ended}
+use Rattle.rk_types.specs.declared.held.Held.{Held}
+use Rattle.rk_types.specs.declared.lineage.Member.{Member}
+use Rattle.rk_entry.specs.declared.entry.Entry.{Entry}
+use Rattle.rk_outside.specs.Segments.{Segments}
+use Rattle.rk_tablet_map.specs.Phase.{lineage_of}
+use Rattle.rk_tablet_map.specs.declared.row.Row.{Row}
+use Rattle.rk_log.specs.Known.{nothing}
+use Rattle.rk_world.specs.Tables.{Table, look_up_or, with_at}
+use Rattle.rk_world.specs.Material.{log_material}
+use Rattle.rk_world.specs.Master.{Master, new_master, log_bytes}
+use Rattle.rk_world.specs.Coordinator.{Coordinator, new_coordinator}
+use Rattle.rk_world.specs.Backup.{no_segments}
+use Rattle.rk_world.specs.Desk.{Desk, new_desk, marks_of, last_stamp, seen_of}
+
+-- what a history starts from: the items that were there, and the last end of each client
+pub record Base : Type 0 where
+  pub items : List Held
+  pub ends : List Ended
+
+-- nothing was there
+abbrev pub no_base : Base
+no_base = record { items = []; ends = [] }
+
+-- the world of a lane: its number; its masters, crashed ones too; what its backups keep; the coordinator; the desk; the masters that
+-- have crashed; the greatest number that has stood in it; and what its history starts from
+pub record World : Type 0 where
+  pub lane : ℕ
+  pub masters : Table Master
+  pub backups : Table Segments
+  pub coordinator : Coordinator
+  pub desk : Desk
+  pub crashed : List ℕ
+  pub top : ℕ
+  pub base : Base
+
+-- masters that know nothing yet, each with so many backups
+abbrev pub new_masters : ℕ → ℕ → Table Master
+new_masters masters backups =
+    map (λ number. (number, new_master number (replicate backups nothing))) (range_with_len 1 masters)
+
+-- backups that keep nothing yet
+abbrev pub new_backups : ℕ → Table Segments
+new_backups backups = map (λ number. (number, no_segments)) (range_with_len 1 backups)
+
+-- the lane of a number where nothing has happened, with so many masters and backups
+abbrev pub new_world : Base → ℕ → ℕ → ℕ → World
+new_world base lane masters backups = record {
+  lane = lane;
+  masters = new_masters masters backups;
+  backups = new_backups backups;
+  coordinator = new_coordinator masters;
+  desk = new_desk;
+  crashed = [];
+  top = 0;
+  base = base;
+}
+
+-- a master
+abbrev pub master_at : World → ℕ → Master
+master_at w number = look_up_or (new_master number []) w.masters number
+
+-- what a backup keeps
+abbrev pub backup_at : World → ℕ → Segments
+backup_at w number = look_up_or no_segments w.backups number
+
+-- whether a master has crashed
+abbrev pub has_crashed : World → ℕ → Bool
+has_crashed w master = list_any (λ crashed. crashed == master) w.crashed
+
+-- the masters that have crashed, by rising number
+abbrev pub crashed_masters : World → List ℕ
+crashed_masters w = filter (has_crashed w) (map (λ entry. entry.0) w.masters)
+
+-- the masters that live, by rising number
+abbrev pub live_masters : World → Table Master
+live_masters w = filter (λ entry. not (has_crashed w entry.0)) w.masters
+
+-- the small changes
+
+-- a master is so
+abbrev pub with_master : World → ℕ → Master → World
+with_master w number master = record w { masters = with_at w.masters number master }
+
+-- a backup keeps this
+abbrev pub with_backup : World → ℕ → Segments → World
+with_backup w number segments = record w { backups = with_at w.backups number segments }
+
+-- the coordinator is so
+abbrev pub with_coordinator : World → Coordinator → World
+with_coordinator w coordinator = record w { coordinator = coordinator }
+
+-- the desk is so
+abbrev pub with_desk : World → Desk → World
+with_desk w desk = record w { desk = desk }
+
+-- a master stops for ever; its log stays as it is
+abbrev pub with_crash : World → ℕ → World
+with_crash w master = record w { crashed = w.crashed ++ master ∷ [] }
+
+-- the greatest of numbers, and 0
+abbrev pub greatest : List ℕ → ℕ
+greatest numbers = fold max 0 numbers
+
+-- the counters of a master's tablets
+abbrev pub counters_of : Master → List ℕ
+counters_of master = map (λ entry. entry.1.handover.counter) master.tablets
+
+-- the numbers that stand in a world and may grow: how many messages were sent, the last stamp, what clients had seen, the
+-- terms of rows and the counters of tablets; each version, floor and term elsewhere is at most one of these
+abbrev pub standing : World → List ℕ
+standing w =
+    w.desk.sent ∷ last_stamp w.desk.journal ∷ map (λ entry. seen_of entry.1) w.desk.clients
+    ++ map (λ row. row.term) w.coordinator.rows
+    ++ flat_map (λ entry. counters_of entry.1) w.masters
+
+-- the greatest number that has stood in the world is kept
+abbrev pub with_top : World → World
+with_top w = record w { top = max w.top (greatest (standing w)) }
+
+-- how many bytes the masters' segments have, crashed ones too
+abbrev pub bytes_of_logs : World → ℕ
+bytes_of_logs w = sum (map (λ entry. log_bytes entry.1) w.masters)
+
+-- what counts for a row of a member of its lineage, of these entries of its log: those from its place on that bear no mark
+abbrev pub member_material : World → Row → (Master → List Entry) → Member → List Entry
+member_material w row entries member =
+    let master = master_at w member.master in
+    log_material row.range (marks_of w.desk member.master) master.sides member.from (entries master)
+
+-- what counts for a row over its lineage, member by member
+abbrev pub material : World → Row → List Entry
+material w row =
+    flat_map (member_material w row (λ master. master.log.entries)) (lineage_of row.phase)
+
+-- the committed entries of a master
+abbrev pub committed_entries : Master → List Entry
+committed_entries master = take master.committed master.log.entries
+
+-- the truth of a row: what counts for it of the committed parts of its lineage's logs
+abbrev pub truth : World → Row → List Entry
+truth w row = flat_map (member_material w row committed_entries) (lineage_of row.phase)

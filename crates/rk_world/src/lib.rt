@@ -1,0 +1,14 @@
+//! The whole protocol as data: what each node knows, and what it does with a message, on its turn, at a crash and after
+//! it. Definitions stand in `specs`, one file a subject; here stand the few types that they share with code.
+//!
+//! It stands on the crates whose types and definitions the protocol speaks of, and promises nothing by itself: code is
+//! proved to do what it says, and laws are proved of it.
+#![tactic(auto)]
+
+pub use error::{MoveError, StepError};
+pub use event::{Event, Seen, Taken};
+pub use work::{Merged, Reading, Served};
+
+mod error;
+mod event;
+mod work;

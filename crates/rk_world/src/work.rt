@@ -1,0 +1,24 @@
+use rk_types::{Call, Ended, Held, Listed, Outcome};
+
+/// A call that a master served, with its outcome.
+#[derive(Debug, Drop, PartialEq, Eq)]
+pub struct Served {
+    pub call: Call,
+    pub outcome: Outcome,
+}
+
+/// A segment of a master's log that a rebuild reads.
+#[derive(Clone, Copy, Debug, PartialEq, Eq)]
+pub struct Reading {
+    pub master: u8,
+    pub segment: u32,
+}
+
+/// What a rebuild adds to its log: items that are copied, by rising version, a number above each version, and the last
+/// end of each client, in the order of the logs that tell them.
+#[derive(Debug, Drop, PartialEq, Eq)]
+pub struct Merged {
+    pub copies: Listed<Held>,
+    pub floor: u64,
+    pub ends: Listed<Ended>,
+}
