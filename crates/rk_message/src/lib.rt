@@ -3,7 +3,12 @@
 //!
 //! It stands on `rk_types` and `rk_entry`. What it promises: [`encode_frame`] writes the frame of a message, and
 //! [`decode_frame`] reads a message exactly where its frame begins the bytes, and else names the first fault from the
-//! left; no frame begins another; a duplicate equals what it was made from; a [`Wire`] keeps what was sent, by number.
+//! left; no frame begins another; a duplicate equals what it was made from.
+//!
+//! A [`Wire`] numbers messages from 1, in the order in which they are sent, hands each out until it is forgotten, and
+//! counts the bytes of their frames without walking over them. Contracts see it as a finite map from numbers to
+//! messages and the number sent. What it promises: the next number is free, so each names one message; a message stays
+//! as it was sent; only [`Wire::forget`] takes it away; want of memory and a number without a message change nothing.
 #![tactic(auto)]
 
 pub use calls::{Located, Lookup, Reply, Request};

@@ -49,7 +49,7 @@ impl Wire {
     }
 
     /// Puts a message on the wire and answers its number. After `NoMemory` the wire is as it was, and the message is
-    /// dropped. One search.
+    /// dropped. One search, and a step for each entry of a Pulled or a Got, whose lengths make that of the frame.
     pub fn send(&mut self, message: Message) -> Result<u64, NoMemory>
         requires room { self.old.sent < 2 ^ 60 }
         requires lawful { IsLawfulMessage message }
@@ -74,8 +74,8 @@ impl Wire {
         self.messages.get(n).ok_or(NoMessage(n))
     }
 
-    /// Takes the message of this number off the wire. `NoMessage` comes exactly where it was never sent or is
-    /// forgotten, and leaves the wire as it was. One search.
+    /// Takes the message of this number off the wire and drops it. `NoMessage` comes exactly where it was never sent or
+    /// is forgotten, and leaves the wire as it was. One search, and a step for each entry of a Pulled or a Got.
     pub fn forget(&mut self, n: u64) -> Result<(), NoMessage>
         ensures ok { OnOk result (missing n self.old ≡ None) }
         ensures forgotten { OnOk result (self.new ≡ without_message n self.old) }
