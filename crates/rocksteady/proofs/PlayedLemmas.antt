@@ -1,8 +1,8 @@
 -- A run goes on from what it has written and what is pending; these lemmas know of no command.
-use Rattle.std.proofs.Common.{◌≡◌, ℕ, ◌+◌, ◌<◌, List, [], ◌∷◌, ◌++◌, length, take, refl, sym, ◌∙◌, ap, subst, arith, append_assoc, length-append, ⊎_elim}
+use Rattle.std.proofs.Common.{◌≡◌, ℕ, ◌+◌, ◌<◌, List, [], ◌∷◌, ◌++◌, length, take, refl, sym, ◌∙◌, ap, subst, arith, append_assoc, length-append, Bool, true, false}
 use Rattle.std.specs.Prelude.{Option}
 use Rattle.std.specs.List.{concat}
-use Rattle.std.specs.Io.KnownBytes.{Appends, Keeps}
+use Rattle.std.specs.Io.KnownBytes.{Appends}
 use Rattle.std.proofs.KnownBytes.{Appends-nil, Appends-trans, Appends-kept}
 use Rattle.std.proofs.lemmas.List.Folds.{concat-append}
 use Rattle.std.proofs.lemmas.List.{append-nil}
@@ -94,28 +94,25 @@ Reached-piece whole old now pending text rest reached = record {
 }
 
 -- what was pending still is, or is written
-pub Reached-spill : (whole : Played) (old mid new : Option (List ℕ)) (pending left : List ℕ) (rest : Played) → Reached whole old mid pending rest → Spills mid new pending left → Reached whole old new left rest
-Reached-spill whole old mid new pending left rest reached spills =
-    ⊎_elim
-    (λ (kept : Keeps mid new × (left ≡ pending)). record {
-      out = reached.out;
-      held = reached.held;
-      whole_is = reached.whole_is;
-      pending_is = reached.pending_is ∙ sym kept.1;
-      written = Appends-kept old mid new (concat reached.out) reached.written kept.0;
-    })
-    (λ (wrote : Appends mid new pending × (left ≡ [])). record {
-      out = reached.out ++ reached.held;
-      held = [];
-      whole_is =
-          reached.whole_is
-          ∙ ap (λ (pieces : List (List ℕ)). record rest { pieces = pieces }) (sym (append_assoc reached.out reached.held rest.pieces));
-      pending_is = sym wrote.1;
-      written =
-          rw (concat-append reached.out reached.held, reached.pending_is)
-          (Appends-trans old mid new (concat reached.out) pending reached.written wrote.0);
-    })
-    spills
+pub Reached-spill : (whole : Played) (old mid new : Option (List ℕ)) (pending left : List ℕ) (rest : Played) (held : Bool) → Reached whole old mid pending rest → Spills held mid new pending left → Reached whole old new left rest
+Reached-spill whole old mid new pending left rest true reached kept = record {
+  out = reached.out;
+  held = reached.held;
+  whole_is = reached.whole_is;
+  pending_is = reached.pending_is ∙ sym kept.1;
+  written = Appends-kept old mid new (concat reached.out) reached.written kept.0;
+}
+Reached-spill whole old mid new pending left rest false reached wrote = record {
+  out = reached.out ++ reached.held;
+  held = [];
+  whole_is =
+      reached.whole_is
+      ∙ ap (λ (pieces : List (List ℕ)). record rest { pieces = pieces }) (sym (append_assoc reached.out reached.held rest.pieces));
+  pending_is = sym wrote.1;
+  written =
+      rw (concat-append reached.out reached.held, reached.pending_is)
+      (Appends-trans old mid new (concat reached.out) pending reached.written wrote.0);
+}
 
 -- the rest ends in some way, and so does the whole
 pub Reached-ends : (whole : Played) (old mid new : Option (List ℕ)) (pending : List ℕ) (rest : Played) (status : Status) → Reached whole old mid pending rest → 0 < length rest.pieces → (status ≡ ReadFault → ⊥) → ((held : List (List ℕ)) → concat held ≡ pending → Runs (after_pieces held rest) status mid new) → Runs whole status old new

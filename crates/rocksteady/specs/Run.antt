@@ -1,5 +1,5 @@
 -- What a run of the program says of a run that was played: its status, and what its sink holds after it.
-use Rattle.std.specs.Prelude.{◌≡◌, ℕ, ◌-◌, ◌≤◌, ◌⊎◌, List, [], ◌∷◌, ◌++◌, length, take, Result, Ok, Option, Bool, false, bytes_eq, codes}
+use Rattle.std.specs.Prelude.{◌≡◌, ℕ, ◌-◌, ◌≤◌, List, [], ◌∷◌, ◌++◌, length, take, Result, Ok, Option, Bool, true, false, bytes_eq, codes}
 use Rattle.std.specs.List.{concat}
 use Rattle.std.specs.Io.KnownBytes.{Appends, Keeps}
 use Rattle.rk_types.specs.declared.status.Status.{Status}
@@ -42,6 +42,7 @@ pub record Adds (ran : Result (List ℕ × World) ℕ) (next : World) (was now :
   pub ok : ran ≡ Ok (text, next)
   pub added : now ≡ was ++ text
 
--- what was pending still is, or it was written
-abbrev pub Spills : Option (List ℕ) → Option (List ℕ) → List ℕ → List ℕ → Type 0
-Spills old new was now = (Keeps old new × (now ≡ was)) ⊎ (Appends old new was × (now ≡ []))
+-- what was pending still is where it is held back, and else all of it was written
+abbrev pub Spills : Bool → Option (List ℕ) → Option (List ℕ) → List ℕ → List ℕ → Type 0
+Spills true old new was now = Keeps old new × (now ≡ was)
+Spills false old new was now = Appends old new was × (now ≡ [])

@@ -1,4 +1,4 @@
-ghost use Rattle.std.specs.Prelude.{◌≡◌, ◌≤◌, ◌^◌, List, ℕ, IfErr, OnOk, OnErr, vec_len};
+ghost use Rattle.std.specs.Prelude.{◌≡◌, ◌≤◌, ◌^◌, List, ℕ, length, nat_lt, IfErr, OnOk, OnErr, vec_len};
 ghost use Rattle.std.specs.List.{concat};
 ghost use Rattle.rk_outside.specs.Faults.{HasCause, Rose};
 ghost use Rattle.rk_outside.specs.Parts.{AppendsPart};
@@ -73,7 +73,7 @@ fn run_command(
 
 // Writes what is pending once it is a piece or more.
 fn spill<K: Sink>(pending: &mut Vec<u8>, sink: &mut K) -> Result<(), Failed>
-    ensures ok { OnOk result (Spills (K.written sink.old) (K.written sink.new) pending.old.items pending.new.items) }
+    ensures ok { OnOk result (Spills (nat_lt (length pending.old.items) PIECE) (K.written sink.old) (K.written sink.new) pending.old.items pending.new.items) }
     ensures err { OnErr result (AppendsPart (K.written sink.old) (K.written sink.new) pending.old.items) }
     ensures cause { HasCause (K.faults sink.old) (K.faults sink.new) result }
 {

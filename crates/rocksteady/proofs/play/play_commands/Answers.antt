@@ -1,7 +1,8 @@
 -- The run goes on by one command a turn, and ends as what is left of it does.
-use Rattle.std.proofs.Common.{◌≡◌, [], ◌∷◌, refl, arith, sym, ◌∙◌}
+use Rattle.std.proofs.Common.{◌≡◌, [], ◌∷◌, length, nat_lt, refl, arith, sym, ◌∙◌}
 use Rattle.std.proofs.lemmas.List.{nil_from_length}
 use Rattle.std.specs.Vec.Iter.{into_iter_items}
+use Rattle.rk_outside.specs.declared.reading.TheConstants.{PIECE}
 use Rattle.rocksteady.specs.Played.{played_from}
 use Rattle.rocksteady.specs.World.{new_world, step}
 use Rattle.rocksteady.proofs.PlayedLemmas.{Reached-done, Reached-ends, Reached-fault, Reached-spill, Reached-start}
@@ -33,7 +34,7 @@ pub commands-preserved : goal.commands-preserved
 commands-preserved g c = record {
   reached =
       Reached-spill (played_from c.args.commands.items new_world) (g.K.Sink.written c.args.sink.now) (g.K.Sink.written c.commands.sink) (g.K.Sink.written c.spill.new.sink) c.run_command.new.pending.items c.spill.new.pending.items
-      (played_from (into_iter_items c.next.new.self) c.run_command.new.cluster)
+      (played_from (into_iter_items c.next.new.self) c.run_command.new.cluster) (nat_lt (length c.run_command.new.pending.items) PIECE)
       (Reached-step (played_from c.args.commands.items new_world) (g.K.Sink.written c.args.sink.now) (g.K.Sink.written c.commands.sink) c.commands.pending.items c.run_command.new.pending.items c.in-Some.line c.in-Some.command (into_iter_items c.next.new.self) c.commands.cluster c.run_command.new.cluster
       (rw c.in-Some.ensures.steps.0 at c.commands.invariant.reached) c.in-Ok-run_command.ensures.ok)
       c.in-Ok-spill.ensures.ok;
