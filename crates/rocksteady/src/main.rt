@@ -15,13 +15,15 @@ mod script;
 mod tests;
 mod words;
 
-ghost use Rattle.std.specs.Prelude.{◌≡◌, IfOk, vec_len};
+ghost use Rattle.std.specs.Prelude.{◌≡◌, IfOk, drop, vec_len};
+ghost use Rattle.std.specs.Vec.Iter.{into_iter_items};
 
 use rk_outside::{MemoryReplica, OpenGate, StdSink, StdSource};
 use rk_types::{NoMemory, Status};
 use std::alloc::Global;
+use std::env::{self, Args};
+use std::io;
 use std::process::ExitCode;
-use std::{env, io};
 
 /// How many replicas a run has: one for each of four backups and eight lanes.
 const REPLICAS: usize = 32;
@@ -37,18 +39,19 @@ fn replicas(alloc: Global) -> Result<Vec<MemoryReplica<'static>>, NoMemory>
     Ok(replicas)
 }
 
-// The words after the program's name.
-fn arguments(rt: &HostRuntime) -> io::Result<Vec<String>> {
-    let mut words = Vec::new(rt.alloc());
-    for word in env::args(rt)?.skip(1) {
-        words.push(word)?;
-    }
-    Ok(words)
+// The words after the first, which is the name of the program.
+fn after_name(alloc: Global, words: Args) -> Result<Vec<String>, NoMemory>
+    ensures { IfOk result (λ after. after.items ≡ drop 1 (into_iter_items words)) }
+{
+    Ok(words.skip(1).collect(alloc)?)
 }
 
 fn main(rt: HostRuntime) -> ExitCode {
     let alloc = rt.alloc();
-    let Ok(words) = arguments(&rt) else {
+    let Ok(all) = env::args(&rt) else {
+        return ExitCode::from(Status::NoMemory.number());
+    };
+    let Ok(words) = after_name(alloc, all) else {
         return ExitCode::from(Status::NoMemory.number());
     };
     let Ok(mut replicas) = replicas(alloc) else {
