@@ -16,7 +16,8 @@ use Rattle.rk_world.specs.Client.{Session, new_session, with_next_call}
 use Rattle.rk_world.specs.Master.{tablet_at}
 use Rattle.rk_world.specs.Step.{Stepped, step}
 use Rattle.rk_world.specs.Tables.{Table, look_up, look_up_or, with_at}
-use Rattle.rk_world.specs.World.{World, no_base, new_world, master_at}
+use Rattle.rk_world.specs.Base.{no_base}
+use Rattle.rk_world.specs.World.{World, new_world, master_at}
 
 -- the world of a lane, and the session of each client
 pub record Scene : Type 0 where

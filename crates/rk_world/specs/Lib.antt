@@ -1,6 +1,7 @@
 pub mod Tables
 pub mod Ends
 pub mod Material
+pub mod Base
 pub mod Gather
 pub mod Tablet
 pub mod Master
@@ -14,9 +15,11 @@ pub mod Coordinator
 pub mod Backup
 pub mod Client
 pub mod Desk
+pub mod Written
 pub mod World
 pub mod Refusals
 pub mod Step
 pub mod Calls
 pub mod Runs
 pub mod Owed
+pub mod Sound

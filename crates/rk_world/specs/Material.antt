@@ -1,5 +1,5 @@
 -- Material: the entries of logs that count for a range of hashes.
-use Rattle.std.specs.Prelude.{ℕ, suc, ◌-◌, Bool, false, ◌==◌, ◌&&◌, nat_lt, nat_le, if◌then◌else◌, List, [], ◌∷◌, ◌++◌, filter, fold, drop, slice_index_or, map}
+use Rattle.std.specs.Prelude.{ℕ, suc, ◌-◌, Bool, true, false, bytes_eq, ◌==◌, ◌&&◌, nat_lt, nat_le, if◌then◌else◌, List, [], ◌∷◌, ◌++◌, filter, fold, drop, slice_index_or, map}
 use Rattle.std.specs.List.{flat_map, list_any}
 use Rattle.rk_types.specs.Hashing.{hash_of}
 use Rattle.rk_types.specs.Range.{has, meets}
@@ -9,6 +9,7 @@ use Rattle.rk_entry.specs.Lists.{is_among}
 use Rattle.rk_entry.specs.declared.entry.Entry.{Entry}
 use Rattle.rk_entry.specs.declared.entry.Entry.TheVariants as entries
 use Rattle.rk_entry.specs.declared.lists.TheConstants.{FIRST_SIDE_SEGMENT}
+use Rattle.rk_overlay.specs.Newest.{is_of}
 
 -- whether a key of a table is in a range, by its hash
 abbrev pub has_key : Range → ℕ → List ℕ → Bool
@@ -29,6 +30,17 @@ counts range (entries.Joined joined) = false
 abbrev pub counting : Range → List Entry → List Entry
 counting range entries = filter (counts range) entries
 
+-- whether an entry tells of a key: an item or a refusal of the key does, and a Carried of every key
+abbrev pub tells_of : ℕ → List ℕ → Entry → Bool
+tells_of table key (entries.Held held) = is_of table key held
+tells_of table key (entries.Refused refused) = refused.table == table && bytes_eq refused.key key
+tells_of table key (entries.Carried carried) = true
+tells_of table key (entries.Joined joined) = false
+
+-- the entries that tell of a key
+abbrev pub of_key : ℕ → List ℕ → List Entry → List Entry
+of_key table key entries = filter (tells_of table key) entries
+
 -- the side segments that an entry makes part of the log for a range
 abbrev pub named_by : Range → Entry → List ℕ
 named_by range (entries.Held held) = []
@@ -43,6 +55,15 @@ with_number numbers number = if is_among number numbers then numbers else number
 -- the side segments that entries make part of the log for a range, each once
 abbrev pub named : Range → List Entry → List ℕ
 named range entries = fold with_number [] (flat_map (named_by range) entries)
+
+-- whether an entry is a Joined of a range
+abbrev pub is_joined_in : Range → Entry → Bool
+is_joined_in range (entries.Joined joined) = meets joined.range range
+is_joined_in range _ = false
+
+-- the Joined entries of a range from a place on
+abbrev pub joined_from : Range → ℕ → List Entry → List Entry
+joined_from range from list = filter (is_joined_in range) (drop from list)
 
 -- what counts for a range of these entries of a log: those that count themselves, and then those of the side segments
 -- that they name, where `side` gives the entries of each side segment

@@ -1,17 +1,15 @@
 -- What a world owes: when a call may be refused for now, when it is quiet, what a finished migration leaves, and what the
 -- replicas stand for.
-use Rattle.std.specs.Prelude.{◌≡◌, ◌≤◌, ℕ, ◌==◌, true, false, List, [], ◌∷◌, Option, Some, None, All, drop}
+use Rattle.std.specs.Prelude.{◌≡◌, ◌≤◌, ℕ, ◌==◌, true, false, List, [], Option, Some, None, All, drop}
 use Rattle.std.specs.List.{flat_map, list_any}
 use Rattle.rk_types.specs.Hashing.{hash_of, bucket_of}
 use Rattle.rk_types.specs.declared.call.Call.{Call}
-use Rattle.rk_types.specs.declared.held.Held.{Held}
 use Rattle.rk_types.specs.declared.lineage.Member.{Member}
 use Rattle.rk_types.specs.declared.range.Range.{Range}
 use Rattle.rk_entry.specs.Entries.{entries_of}
 use Rattle.rk_entry.specs.declared.entry.Entry.{Entry}
 use Rattle.rk_log.specs.Stored.{stored_entries}
-use Rattle.rk_model.specs.History.{Map, with_entry, empty_map, live_after}
-use Rattle.rk_model.specs.Machine.{Entry as MapEntry, live, gone}
+use Rattle.rk_model.specs.History.{live_after}
 use Rattle.rk_outside.specs.Segments.{Segments, bytes_of}
 use Rattle.rk_overlay.specs.Live.{live as live_items}
 use Rattle.rk_overlay.specs.Overlay.{overlay}
@@ -30,7 +28,9 @@ use Rattle.rk_world.specs.Master.{Master, tablet_at, staged, serving}
 use Rattle.rk_world.specs.Material.{material_of, counting, has_key}
 use Rattle.rk_world.specs.Requests.{needs_state, state_of}
 use Rattle.rk_world.specs.Tables.{Table}
-use Rattle.rk_world.specs.World.{Base, World, master_at, member_material, committed_entries}
+use Rattle.rk_world.specs.Base.{base_map}
+use Rattle.rk_world.specs.Written.{committed_entries, member_truth}
+use Rattle.rk_world.specs.World.{World, written_in}
 
 -- Moved may be answered only where no tablet that is served here has the key
 abbrev pub MayAnswerMoved : Master → Call → Type 0
@@ -59,20 +59,6 @@ pub record IsQuiet (rows : List Row) (crashed : List ℕ) (live : Table Master) 
   pub settled : All (λ entry. staged entry.1 ≡ []) live
   pub answered : All (λ session. session.outstanding ≡ None) sessions
 
--- the entry of the map that an item leaves
-abbrev pub map_entry_of : Held → Option (List ℕ) → MapEntry
-map_entry_of item (Some value) = live item.version value
-map_entry_of item None = gone item.version
-
--- a map after items were put into it, one after the other
-abbrev pub map_from : Map → List Held → Map
-map_from map [] = map
-map_from map (item ∷ items) = map_from (with_entry map item.table item.key (map_entry_of item item.value)) items
-
--- the map that a base leaves
-abbrev pub base_map : Base → Map
-base_map base = map_from empty_map base.items
-
 -- the version and value of the record at each key, where there is one
 abbrev pub Records : Type 0
 Records = ℕ → List ℕ → Option (ℕ × List ℕ)
@@ -89,7 +75,7 @@ IsFinished range source target own =
 -- the target's own writes: its committed main entries from its place on that count
 abbrev pub own_entries : World → Row → Member → List Entry
 own_entries w row member =
-    counting row.range (drop member.from (committed_entries (master_at w member.master)))
+    counting row.range (drop member.from (committed_entries (written_in w member.master)))
 
 -- the step that ends a migration: a row that moved is owned by its target, and the migration is finished
 pub record Finishes (before after : World) (row : Row) (source target : Member) : Type 0 where
@@ -97,8 +83,8 @@ pub record Finishes (before after : World) (row : Row) (source target : Member) 
   pub owned :
       row_of after.coordinator.rows row.tablet ≡ Some (record row { phase = Owned target.master target.from })
   pub finished :
-      IsFinished row.range (member_material before row committed_entries source)
-      (member_material after row committed_entries target) (own_entries before row target)
+      IsFinished row.range (member_truth (written_in before) row.range source)
+      (member_truth (written_in after) row.range target) (own_entries before row target)
 
 -- what a backup stores of a member of a lineage that counts for a range
 abbrev pub stored_material : Segments → Range → Member → List Entry

@@ -1,5 +1,5 @@
 -- Things that are kept by number, by rising number.
-use Rattle.std.specs.Prelude.{ℕ, not, List, Option, unwrap_or}
+use Rattle.std.specs.Prelude.{◌≡◌, ℕ, not, List, Option, Some, unwrap_or}
 use Rattle.std.specs.Ordering.{nat_cmp, eq_by_cmp}
 use Rattle.std.specs.FinMap.{find, put}
 use Rattle.std.specs.FinMap.Entries.{where_key}
@@ -23,3 +23,7 @@ with_at table number thing = put nat_cmp number thing table
 -- the table that keeps nothing under a number
 abbrev pub without_at : {X : Type 0} → Table X → ℕ → Table X
 without_at table number = where_key nat_cmp (λ other. not (eq_by_cmp nat_cmp number other)) table
+
+-- each thing that is kept has a property
+abbrev pub EachIn : {X : Type 0} → (ℕ → X → Type 0) → Table X → Type 0
+EachIn {X} Fits table = (number : ℕ) (thing : X) → look_up table number ≡ Some thing → Fits number thing

@@ -1,29 +1,21 @@
 -- The world of a lane: what all its nodes know, and what lies between them.
-use Rattle.std.specs.Prelude.{ℕ, ◌==◌, Bool, not, max, List, [], ◌∷◌, ◌++◌, filter, fold, map, replicate, sum, take}
+use Rattle.std.specs.Prelude.{ℕ, ◌==◌, Bool, not, max, List, [], ◌∷◌, ◌++◌, filter, fold, map, replicate, sum}
 use Rattle.std.specs.List.{flat_map, list_any, range_with_len}
-use Rattle.rk_types.specs.declared.call.Ended.{Ended}
+use Rattle.rk_types.specs.declared.call.Call.{Call}
 use Rattle.rk_types.specs.declared.held.Held.{Held}
-use Rattle.rk_types.specs.declared.lineage.Member.{Member}
 use Rattle.rk_entry.specs.declared.entry.Entry.{Entry}
 use Rattle.rk_outside.specs.Segments.{Segments}
-use Rattle.rk_tablet_map.specs.Phase.{lineage_of}
 use Rattle.rk_tablet_map.specs.declared.row.Row.{Row}
 use Rattle.rk_log.specs.Known.{nothing}
+use Rattle.rk_log.specs.Log.{Log}
 use Rattle.rk_world.specs.Tables.{Table, look_up_or, with_at}
-use Rattle.rk_world.specs.Material.{log_material}
-use Rattle.rk_world.specs.Master.{Master, new_master, log_bytes}
+use Rattle.rk_world.specs.Base.{Base}
+use Rattle.rk_world.specs.Tablet.{Tablet}
+use Rattle.rk_world.specs.Master.{Master, new_master, tablet_at, log_bytes}
 use Rattle.rk_world.specs.Coordinator.{Coordinator, new_coordinator}
 use Rattle.rk_world.specs.Backup.{no_segments}
 use Rattle.rk_world.specs.Desk.{Desk, new_desk, marks_of, last_stamp, seen_of}
-
--- what a history starts from: the items that were there, and the last end of each client
-pub record Base : Type 0 where
-  pub items : List Held
-  pub ends : List Ended
-
--- nothing was there
-abbrev pub no_base : Base
-no_base = record { items = []; ends = [] }
+use Rattle.rk_world.specs.Written.{Written, written_by, truth_of}
 
 -- the world of a lane: its number; its masters, crashed ones too; what its backups keep; the coordinator; the desk; the masters that
 -- have crashed; the greatest number that has stood in it; and what its history starts from
@@ -125,21 +117,30 @@ with_top w = record w { top = max w.top (greatest (standing w)) }
 abbrev pub bytes_of_logs : World → ℕ
 bytes_of_logs w = sum (map (λ entry. log_bytes entry.1) w.masters)
 
--- what counts for a row of a member of its lineage, of these entries of its log: those from its place on that bear no mark
-abbrev pub member_material : World → Row → (Master → List Entry) → Member → List Entry
-member_material w row entries member =
-    let master = master_at w member.master in
-    log_material row.range (marks_of w.desk member.master) master.sides member.from (entries master)
+-- whether a master lives
+abbrev pub lives : World → ℕ → Bool
+lives w master = not (has_crashed w master)
 
--- what counts for a row over its lineage, member by member
-abbrev pub material : World → Row → List Entry
-material w row =
-    flat_map (member_material w row (λ master. master.log.entries)) (lineage_of row.phase)
+-- a master's log
+abbrev pub log_in : World → ℕ → Log
+log_in w master = (master_at w master).log
 
--- the committed entries of a master
-abbrev pub committed_entries : Master → List Entry
-committed_entries master = take master.committed master.log.entries
+-- a master's table
+abbrev pub table_in : World → ℕ → List Held
+table_in w master = (master_at w master).table
 
--- the truth of a row: what counts for it of the committed parts of its lineage's logs
-abbrev pub truth : World → Row → List Entry
-truth w row = flat_map (member_material w row committed_entries) (lineage_of row.phase)
+-- the calls whose entries a master has not committed
+abbrev pub calls_in : World → ℕ → Table Call
+calls_in w master = (master_at w master).calls
+
+-- what a master keeps of a tablet
+abbrev pub kept_in : World → ℕ → ℕ → Tablet
+kept_in w master tablet = tablet_at (master_at w master) tablet
+
+-- what a master has written
+abbrev pub written_in : World → ℕ → Written
+written_in w master = written_by (master_at w master) (marks_of w.desk master)
+
+-- the truth of a row
+abbrev pub truth_in : World → Row → List Entry
+truth_in w row = truth_of w.base (written_in w) row

@@ -1,0 +1,24 @@
+-- Sound: what holds of a lane between any two small changes, part by part.
+pub mod Nodes
+pub mod Rows
+pub mod Terms
+pub mod Cover
+pub mod Posts
+pub mod Roles
+pub mod Logs
+pub mod Truth
+pub mod Order
+pub mod Handing
+pub mod Calls
+pub mod Counters
+pub mod Rest
+pub mod Tables
+pub mod Receives
+pub mod Rebuilds
+pub mod Messages
+pub mod Asked
+pub mod Room
+pub mod Whole
+pub mod Changes
+pub mod Moves
+pub mod Small

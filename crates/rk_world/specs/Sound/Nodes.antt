@@ -1,0 +1,31 @@
+-- Nodes: who is there. Each master has its own number, there is at least one backup, and each master knows of all; no row names
+-- a master that is not there, and some master is left. The steps that send, that commit and that notice a crash need it.
+use Rattle.std.specs.Prelude.{◌≡◌, ◌≤◌, ℕ, Bool, true, false, List, length, All}
+use Rattle.rk_tablet_map.specs.declared.row.Row.{Row}
+use Rattle.rk_world.specs.Coordinator.{names}
+use Rattle.rk_world.specs.Master.{Master}
+
+-- the masters of a lane are numbered from 1
+pub record IsMaster (count number : ℕ) : Type 0 where
+  pub first : 1 ≤ number
+  pub last : number ≤ count
+
+-- a master of the lane lives
+pub record SomeLives (count : ℕ) (live : ℕ → Bool) : Type 0 where
+  pub master : ℕ
+  pub there : IsMaster count master
+  pub lives : live master ≡ true
+
+-- the masters, of which there are so many, with so many backups
+pub record Nodes (masters : ℕ → Master) (count backups : ℕ) (rows : List Row) (noticed : List ℕ) (live : ℕ → Bool) : Type 0 where
+  -- each master has its own number
+  pub numbered : (master : ℕ) → (masters master).number ≡ master
+  -- there is a backup, and each master knows of all of them
+  pub backed : 1 ≤ backups
+  pub known : (master : ℕ) → IsMaster count master → length (masters master).log.known ≡ backups
+  -- each master that a row names is there
+  pub named : (master : ℕ) → All (λ row. names row.phase master ≡ true → IsMaster count master) rows
+  -- each master that was noticed dead has crashed
+  pub crashed : All (λ master. live master ≡ false) noticed
+  -- where one has crashed, another one is left
+  pub left : (master : ℕ) → live master ≡ false → SomeLives count live

@@ -1,0 +1,184 @@
+-- Receives: what a target has that pulls. Each record that arrived is kept, beside the log or under a newer one of the target's
+-- own, and the table has the newest of all that came; so calls may be answered while records are fetched, and once all is
+-- fetched the target's log alone has the tablet. The steps that replay, seal, and take a Joined need it.
+use Rattle.std.specs.Prelude.{◌≡◌, ◌≤◌, ◌<◌, ℕ, Bool, true, false, List, [], ◌∷◌, Option, Some, Contains, IfSome, All, drop, take, fold, filter, is_some, length, slice_get, ⊤, ◌⊎◌, if◌then◌else◌, None}
+use Rattle.std.specs.List.{flat_map, list_any}
+use Rattle.rk_types.specs.declared.held.Held.{Held}
+use Rattle.rk_types.specs.declared.lineage.Member.{Member}
+use Rattle.rk_types.specs.declared.range.Range.{Range}
+use Rattle.rk_entry.specs.declared.entry.Entry.{Entry}
+use Rattle.rk_entry.specs.declared.entry.Entry.TheVariants as entries
+use Rattle.rk_overlay.specs.Newest.{is_of}
+use Rattle.rk_overlay.specs.Overlay.{newest_items}
+use Rattle.rk_priority.specs.Hashes.{contains}
+use Rattle.rk_table.specs.Items.{is_in, with_item}
+use Rattle.rk_table.specs.Order.{item_hash}
+use Rattle.rk_table.specs.Scans.{passed, end}
+use Rattle.rk_tablet_map.specs.Phase.{lineage_of}
+use Rattle.rk_tablet_map.specs.declared.row.Row.{Row}
+use Rattle.rk_transfer.specs.declared.role.Role.{Role}
+use Rattle.rk_transfer.specs.declared.role.Role.TheVariants as roles
+use Rattle.rk_world.specs.Coordinator.{Handed}
+use Rattle.rk_world.specs.Ends.{items_of, ends_of}
+use Rattle.rk_world.specs.Master.{touches}
+use Rattle.rk_world.specs.Material.{counting, side_entries, joined_from}
+use Rattle.rk_world.specs.Tables.{Table, look_up}
+use Rattle.rk_world.specs.Tablet.{Tablet, Pulling, is_receiving}
+use Rattle.rk_world.specs.Written.{Written, member_material, member_truth, committed_entries}
+use Rattle.rk_world.specs.Commits.{joined_entry}
+
+-- the records that entries leave, as items in scan order
+abbrev pub scan_items : List Entry → List Held
+scan_items material =
+    fold (λ items item. with_item item items) [] (filter (λ item. is_some item.value) (newest_items (items_of material)))
+
+-- an item of the source has arrived at a target: the scan has passed it, or its hash was asked for first and came; a target
+-- that pulls no more has all
+abbrev pub HasArrived : Role → Pulling → List Held → Held → Type 0
+HasArrived role pulling items item =
+    is_receiving role ≡ true
+    → Contains (passed pulling.token items) item ⊎ (contains pulling.hashes.resolved (item_hash item) ≡ true)
+
+-- an item is there: it is the target's own, or one of the source's that arrived
+abbrev pub HasCome : (Held → Type 0) → List Held → List Held → Held → Type 0
+HasCome Arrived items own item = Contains own item ⊎ (Contains items item × Arrived item)
+
+-- a newer item of the key is there
+pub record IsOutdone (own : List Held) (item : Held) : Type 0 where
+  pub newer : Held
+  pub stands : Contains own newer
+  pub same_key : is_of item.table item.key newer ≡ true
+  pub above : item.version < newer.version
+
+-- the table has the key, with as great a version
+pub record IsFound (table : List Held) (item : Held) : Type 0 where
+  pub there : Held
+  pub stands : Contains table there
+  pub same_key : is_of item.table item.key there ≡ true
+  pub as_new : item.version ≤ there.version
+
+-- what has come stands where it should: `items` are the source's, `own` those that the target committed itself, `sides` those
+-- that it copied
+pub record IsReceived (Arrived : Held → Type 0) (range : Range) (items own sides table : List Held) : Type 0 where
+  -- what is copied is the source's, and what arrived is copied or outdone
+  pub within : (item : Held) → Contains sides item → Contains items item
+  pub copied : (item : Held) → Contains items item → Arrived item → Contains sides item ⊎ IsOutdone own item
+  -- the table has nothing else, and of what has come nothing newer is missing
+  pub come : (item : Held) → Contains table item → is_in range item ≡ true → Contains own item ⊎ Contains sides item
+  pub found : (item : Held) → HasCome Arrived items own item → IsFound table item
+
+-- a target's own entries of a range: those of its log from a place on
+abbrev pub entries_from : Range → ℕ → List Entry → List Entry
+entries_from range from entries = counting range (drop from entries)
+
+-- the items that a target copied: while it pulls they are in its lists, and then in the side segments that it sealed
+abbrev pub copied_items : Role → Pulling → List (List Held) → List Held
+copied_items role pulling sides =
+    if is_receiving role then flat_map (λ items. items) pulling.sides
+    else items_of (flat_map (side_entries sides) pulling.sealed)
+
+-- whether a target joins: it has pulled all
+abbrev pub is_joining : Role → Bool
+is_joining (roles.Joining entry) = true
+is_joining role = false
+
+-- the place of the entry that closes the role of a target, if it has one
+abbrev pub joined_place : Role → Option ℕ
+joined_place (roles.Joining entry) = entry
+joined_place role = None
+
+-- a log has a closing entry at a place, and no other Joined of the range from a place on
+pub record IsClosedAt (closing : Entry) (range : Range) (from : ℕ) (list : List Entry) (place : ℕ) : Type 0 where
+  pub stands : slice_get list place ≡ Some closing
+  pub alone : joined_from range from list ≡ closing ∷ []
+  pub behind : from ≤ place
+
+-- a log has the closing entry of a target, if that has one, and no other Joined
+abbrev pub HasClosing : Option ℕ → Entry → Range → ℕ → List Entry → Type 0
+HasClosing None closing range from list = joined_from range from list ≡ []
+HasClosing (Some place) closing range from list = IsClosedAt closing range from list place
+
+-- a target that has pulled all has no item in its lists
+pub record HasPulled (pulling : Pulling) : Type 0 where
+  pub at_end : pulling.token ≡ end
+  pub sealed : flat_map (λ items. items) pulling.sides ≡ []
+
+-- the entry that begins what a target has of a tablet, by what the source told
+abbrev pub beginning_of : Tablet → Handed → Entry
+beginning_of tablet handed = entries.Carried (record {
+  range = tablet.handover.range;
+  term = tablet.handover.term;
+  floor = handed.floor;
+  ends = handed.ends;
+})
+
+-- the entries before the closing entry, where there is one
+abbrev pub before_closing : Option ℕ → List Entry → List Entry
+before_closing None entries = entries
+before_closing (Some place) entries = take place entries
+
+-- a target that pulls, or has all: `truth` counts for the range of what is committed at its source, `material` of all that the source
+-- has written, and its own entries count from the place `from` on
+pub record IsTarget (range : Range) (source : ℕ) (truth material : List Entry) (from : ℕ) (written : Written) (tablet : Tablet) (handed : Option Handed) (table : List Held) : Type 0 where
+  pub from_source : tablet.pulling.source ≡ source
+  pub workers : length tablet.pulling.sides ≡ 4
+  pub pulled : is_joining tablet.handover.role ≡ true → HasPulled tablet.pulling
+  pub received :
+      IsReceived (HasArrived tablet.handover.role tablet.pulling (scan_items truth)) range (scan_items truth)
+      (items_of (entries_from range from (committed_entries written)))
+      (copied_items tablet.handover.role tablet.pulling written.sides) table
+  -- each of its own versions is above each of the source's
+  pub above :
+      All (λ own. All (λ other. other.version < own.version) (items_of material))
+      (items_of (entries_from range from written.entries))
+  -- its log has what the source told, before its closing entry
+  pub told :
+      IfSome handed
+      (λ h. Contains (drop from (before_closing (joined_place tablet.handover.role) written.entries)) (beginning_of tablet h))
+  -- what it had not committed before its place is of other ranges
+  pub early : list_any (touches range) (drop written.committed (take from written.entries)) ≡ false
+  pub closing : HasClosing (joined_place tablet.handover.role) (joined_entry tablet) range from written.entries
+
+-- whether a target has been granted its tablet, and has not begun to rebuild it
+abbrev pub is_granted : Role → Bool
+is_granted roles.Receiving = true
+is_granted (roles.Joining entry) = true
+is_granted _ = false
+
+-- what the coordinator keeps of a tablet that moves is what the frozen source keeps
+abbrev pub IsHandedBy : Option Handed → Tablet → Type 0
+IsHandedBy handed source = handed ≡ Some (record { floor = source.handover.counter; ends = ends_of source.completions })
+
+-- what holds of the two members of a lineage, where the second one was granted the tablet
+abbrev pub MembersFit : Row → (ℕ → Written) → (ℕ → ℕ → Tablet) → (ℕ → List Held) → Table Handed → List Member → Type 0
+MembersFit row written keeps tables handed (source ∷ target ∷ []) =
+    is_granted (keeps target.master row.tablet).handover.role ≡ true
+    → IsTarget row.range source.master (member_truth written row.range source) (member_material written row.range source)
+    target.from (written target.master) (keeps target.master row.tablet) (look_up handed row.tablet) (tables target.master)
+MembersFit row written keeps tables handed _ = ⊤
+
+-- what the coordinator keeps, while source and target keep one term
+abbrev pub HandedFits : Row → (ℕ → ℕ → Tablet) → Table Handed → List Member → Type 0
+HandedFits row keeps handed (source ∷ target ∷ []) =
+    (keeps target.master row.tablet).handover.term ≡ (keeps source.master row.tablet).handover.term
+    → IsHandedBy (look_up handed row.tablet) (keeps source.master row.tablet)
+HandedFits row keeps handed _ = ⊤
+
+-- a master that made ready for a tablet has nothing of it: its entries begin at this place, and none stands there, nor in its table
+pub record IsBare (range : Range) (from : ℕ) (written : Written) (table : List Held) : Type 0 where
+  pub placed : from ≤ length written.entries
+  pub nothing : list_any (touches range) (drop from written.entries) ≡ false
+  pub empty : list_any (is_in range) table ≡ false
+
+-- the place from which the entries of a master are to count that made ready, if it did
+abbrev pub wanted_place : Role → Option ℕ
+wanted_place (roles.Wanting from) = Some from
+wanted_place role = None
+
+pub record Receives (rows : List Row) (written : ℕ → Written) (keeps : ℕ → ℕ → Tablet) (tables : ℕ → List Held) (handed : Table Handed) : Type 0 where
+  pub targets : All (λ row. MembersFit row written keeps tables handed (lineage_of row.phase)) rows
+  pub handed_on : All (λ row. HandedFits row keeps handed (lineage_of row.phase)) rows
+  pub bare :
+      (master tablet : ℕ)
+      → IfSome (wanted_place (keeps master tablet).handover.role)
+      (λ from. IsBare (keeps master tablet).handover.range from (written master) (tables master))

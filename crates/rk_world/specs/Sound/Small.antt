@@ -1,0 +1,54 @@
+-- Small changes of the world that the first laws are about, and their conditions there.
+use Rattle.std.specs.Prelude.{ℕ, List, Option}
+use Rattle.rk_types.specs.declared.call.Call.{Call}
+use Rattle.rk_entry.specs.declared.entry.Entry.TheVariants as entries
+use Rattle.rk_message.specs.declared.message.Message.{Message}
+use Rattle.rk_transfer.specs.declared.role.Role.TheVariants as roles
+use Rattle.rk_world.specs.Desk.{asked_by, with_sent}
+use Rattle.rk_world.specs.Master.{Master, tablet_at, with_tablet}
+use Rattle.rk_world.specs.Requests.{item_of, counted_up, with_staged}
+use Rattle.rk_world.specs.Tablet.{Tablet, with_handover}
+use Rattle.rk_world.specs.Written.{truth_of, rest_of}
+use Rattle.rk_world.specs.World.{World, master_at, backup_at, lives, log_in, kept_in, written_in, with_master, with_desk}
+use Rattle.rk_world.specs.Sound.Changes.{MayBeSent, MayBeStaged}
+use Rattle.rk_world.specs.Sound.Moves.{MayBeFrozen}
+
+-- a message is sent
+abbrev pub message_sent : World → Message → World
+message_sent w message = with_desk w (with_sent w.desk message)
+
+-- a message may be sent in this world
+abbrev pub MaySend : World → Message → Type 0
+MaySend w message =
+    MayBeSent w.coordinator.rows (truth_of w.base (written_in w)) (rest_of (written_in w)) (log_in w) (written_in w)
+    (backup_at w) (kept_in w) (lives w) w.coordinator.handed w.desk.journal (asked_by w.desk) message
+
+-- a write or a removal is staged at a master, for the tablet of this number, whose counter rises
+abbrev pub write_staged : Master → ℕ → Call → Option (List ℕ) → Master
+write_staged master number call value =
+    with_tablet
+    (with_staged master call (entries.Held (item_of call (tablet_at master number).handover.counter value)))
+    number (counted_up (tablet_at master number))
+
+-- a write or a removal is staged at a master of the world
+abbrev pub call_staged : World → ℕ → ℕ → Call → Option (List ℕ) → World
+call_staged w master number call value = with_master w master (write_staged (master_at w master) number call value)
+
+-- a write or a removal may be staged in this world
+abbrev pub MayStage : World → ℕ → Call → Option (List ℕ) → Type 0
+MayStage w master call value =
+    MayBeStaged w.base w.coordinator.rows (rest_of (written_in w)) (log_in w master) (kept_in w master) (lives w master) w.desk.journal
+    (asked_by w.desk) master call value
+
+-- a tablet that froze
+abbrev pub as_frozen : Tablet → Tablet
+as_frozen tablet = with_handover tablet (record tablet.handover { role = roles.Frozen })
+
+-- a tablet freezes at a master of the world
+abbrev pub tablet_frozen : World → ℕ → ℕ → World
+tablet_frozen w master number =
+    with_master w master (with_tablet (master_at w master) number (as_frozen (kept_in w master number)))
+
+-- a tablet may freeze in this world
+abbrev pub MayFreeze : World → ℕ → ℕ → Type 0
+MayFreeze w master number = MayBeFrozen (kept_in w master number).handover (written_in w master) (lives w master)
