@@ -1,0 +1,203 @@
+-- The part Counters through small changes.
+use Rattle.std.proofs.Common.{◌≡◌, ℕ, Bool, true, List, ◌+◌, Some, None, ◌++◌, Option, refl, sym, ap, subst, ◌∙◌, ⊎_elim}
+use Rattle.std.specs.Prelude.{All, IfSome}
+use Rattle.std.specs.List.{Contains}
+use Rattle.std.proofs.lemmas.Bool.{cases_eq, cond-false}
+use Rattle.std.proofs.lemmas.List.Elements.{All-weaker, All-contains}
+use Rattle.rk_types.specs.declared.call.Call.{Call}
+use Rattle.rk_types.specs.declared.held.Held.{Held}
+use Rattle.rk_types.specs.declared.history.Placed.{Placed}
+use Rattle.rk_entry.specs.declared.entry.Entry.{Entry}
+use Rattle.rk_entry.specs.declared.entry.Entry.TheVariants as entries
+use Rattle.rk_message.specs.declared.message.Message.{Message}
+use Rattle.rk_tablet_map.specs.declared.row.Row.{Row}
+use Rattle.rk_transfer.specs.Handover.{is_serving}
+use Rattle.rk_transfer.specs.declared.role.Role.TheVariants as roles
+use Rattle.rk_world.specs.Base.{Base}
+use Rattle.rk_world.specs.Coordinator.{Handed}
+use Rattle.rk_outside.specs.Segments.{Segments}
+use Rattle.rk_world.specs.Sound.Changes.{IsServed}
+use Rattle.rk_world.specs.Sound.Messages.{Messages, SaysOf}
+use Rattle.rk_world.specs.Sound.Roles.{Roles, RoleFits}
+use Rattle.rk_world.specs.Sound.Rows.{Rows, IsFormed}
+use Rattle.rk_world.specs.Sound.Counters.{Counters, IsFloor, IsNext}
+use Rattle.rk_world.specs.Sound.Handing.{handed_by, kept_handed}
+use Rattle.rk_world.specs.Sound.Posts.{post_of, speaks, StillCounts}
+use Rattle.rk_world.specs.Tables.{Table, look_up, with_at}
+use Rattle.rk_world.specs.Tablet.{Tablet}
+use Rattle.rk_world.specs.Written.{Written}
+use Rattle.rk_laws_parts.proofs.Alike.{AreAlike, alike_all, alike_frozen, speaks_alike, kept_handed_alike, handed_by_alike}
+use Rattle.rk_laws_parts.proofs.Changing.{Lane, Freezes, Stages, with_one_more}
+use Rattle.rk_laws_parts.proofs.Differs.{keeps_each, still_counts}
+use Rattle.rk_laws_parts.proofs.Lists.{all_in}
+use Rattle.rk_laws_parts.proofs.Nexts.{next_of_all, floor_of_all, next_push}
+use Rattle.rk_laws_parts.proofs.Speakers.{speaker_of, speaker_is, none_waits, none_hands}
+use Rattle.rk_laws_parts.proofs.Staged.{Serves, serves_row, staged_alike, staged_speaker}
+use Rattle.rk_laws_parts.proofs.Found.{each_with, each_weaker}
+
+-- a message is put on the wire
+pub counters_sent : (base : Base) (rows : List Row) (truths rests : Row → List Entry) (written : ℕ → Written) (keeps : ℕ → ℕ → Tablet) (live : ℕ → Bool) (handed : Table Handed) (journal : List Placed) (wire : Table Message) (number : ℕ) (message : Message) → Counters base rows truths rests written keeps live handed journal wire → All (λ row. IfSome (handed_by row keeps message.body) (λ h. IsFloor row (truths row ++ rests row) written h.floor)) rows → Counters base rows truths rests written keeps live handed journal (with_at wire number message)
+counters_sent base rows truths rests written keeps live handed journal wire number message old floors = record {
+  low = old.low;
+  counted = old.counted;
+  handed_on = old.handed_on;
+  sent =
+      each_with (λ number message. All (λ row. IfSome (handed_by row keeps message.body) (λ h. IsFloor row (truths row ++ rests row) written h.floor)) rows) wire number message
+      old.sent floors;
+}
+
+-- a tablet freezes
+pub counters_frozen : (base : Base) (rows : List Row) (truths rests : Row → List Entry) (written : ℕ → Written) (keeps now : ℕ → ℕ → Tablet) (live : ℕ → Bool) (handed : Table Handed) (journal : List Placed) (wire : Table Message) (master number : ℕ) → Counters base rows truths rests written keeps live handed journal wire → (keeps master number).handover.role ≡ roles.Closing → Freezes master number keeps now → Counters base rows truths rests written now live handed journal wire
+counters_frozen base rows truths rests written keeps now live handed journal wire master number old closing freezes =
+    let alike : AreAlike keeps now = alike_all master number _ keeps now freezes (alike_frozen (keeps master number) closing) in
+    record {
+      low = old.low;
+      counted = λ q.
+          All-weaker
+          (λ row. StillCounts (live q) (keeps q row.tablet).handover.term row.term
+          → speaks (post_of row.phase q) (keeps q row.tablet).handover row.term ≡ true
+          → IsNext row.range (truths row ++ rests row) (written q) (keeps q row.tablet).handover.counter)
+          (λ row. StillCounts (live q) (now q row.tablet).handover.term row.term
+          → speaks (post_of row.phase q) (now q row.tablet).handover row.term ≡ true
+          → IsNext row.range (truths row ++ rests row) (written q) (now q row.tablet).handover.counter)
+          (λ row next counts says.
+          subst (IsNext row.range (truths row ++ rests row) (written q))
+          (sym (keeps_each (λ old new. new.handover.counter ≡ old.handover.counter) master number _ keeps now freezes (λ tablet. refl) refl q row.tablet))
+          (next
+          (still_counts (live q) (keeps q row.tablet).handover.term (now q row.tablet).handover.term row.term (alike q row.tablet).same_term counts)
+          (sym (speaks_alike (post_of row.phase q) row.term (keeps q row.tablet) (now q row.tablet) (alike q row.tablet)) ∙ says)))
+          rows (old.counted q);
+      handed_on =
+          All-weaker
+          (λ row. IfSome (kept_handed row keeps handed) (λ h. IsFloor row (truths row ++ rests row) written h.floor))
+          (λ row. IfSome (kept_handed row now handed) (λ h. IsFloor row (truths row ++ rests row) written h.floor))
+          (λ row floor. subst (λ (o : Option Handed). IfSome o (λ h. IsFloor row (truths row ++ rests row) written h.floor)) (sym (kept_handed_alike row keeps now handed alike)) floor)
+          rows old.handed_on;
+      sent =
+          each_weaker
+          (λ number message. All (λ row. IfSome (handed_by row keeps message.body) (λ h. IsFloor row (truths row ++ rests row) written h.floor)) rows)
+          (λ number message. All (λ row. IfSome (handed_by row now message.body) (λ h. IsFloor row (truths row ++ rests row) written h.floor)) rows)
+          wire
+          (λ number message.
+          All-weaker
+          (λ row. IfSome (handed_by row keeps message.body) (λ h. IsFloor row (truths row ++ rests row) written h.floor))
+          (λ row. IfSome (handed_by row now message.body) (λ h. IsFloor row (truths row ++ rests row) written h.floor))
+          (λ row floor. subst (λ (o : Option Handed). IfSome o (λ h. IsFloor row (truths row ++ rests row) written h.floor)) (sym (handed_by_alike row keeps now message.body alike)) floor)
+          rows)
+          old.sent;
+    }
+
+module _ (rows : List Row) (truths : Row → List Entry) (before after : Lane) (live : ℕ → Bool) (handed : Table Handed) (journal : List Placed) (master : ℕ) (row : Row) (call : Call) (item : Held) (stages : Stages rows before after master row call item) (roles_fit : Roles rows before.keeps before.written live) (rows_fit : Rows rows before.written journal) (here : Serves (before.keeps master) (live master) master row) where
+  alike : AreAlike before.keeps after.keeps
+  alike = staged_alike rows before after master row call item stages
+
+  speaker : master ≡ speaker_of row.phase
+  speaker = staged_speaker rows before after master row call item stages live roles_fit here
+
+  formed : IsFormed row.phase
+  formed = All-contains (λ row. IsFormed row.phase) rows row rows_fit.formed stages.has_row
+
+  -- what a master counts for a row
+  abbrev Counts : Lane → ℕ → Row → Type 0
+  Counts lane q r =
+      StillCounts (live q) (lane.keeps q r.tablet).handover.term r.term
+      → speaks (post_of r.phase q) (lane.keeps q r.tablet).handover r.term ≡ true → IsNext r.range (truths r ++ lane.rests r) (lane.written q) (lane.keeps q r.tablet).handover.counter
+
+  -- of the row itself only the master counts
+  counted_here : (q : ℕ) → Counts before q row → Counts after q row
+  counted_here q old counts says =
+      let counted : StillCounts (live q) (before.keeps q row.tablet).handover.term row.term =
+      still_counts (live q) (before.keeps q row.tablet).handover.term (after.keeps q row.tablet).handover.term row.term (alike q row.tablet).same_term counts in
+      let said : speaks (post_of row.phase q) (before.keeps q row.tablet).handover row.term ≡ true =
+      sym (speaks_alike (post_of row.phase q) row.term (before.keeps q row.tablet) (after.keeps q row.tablet) (alike q row.tablet)) ∙ says in
+      let fits : RoleFits row q (before.keeps q row.tablet).handover (before.written q).committed =
+      All-contains
+      (λ row. StillCounts (live q) (before.keeps q row.tablet).handover.term row.term
+      → RoleFits row q (before.keeps q row.tablet).handover (before.written q).committed) rows row (roles_fit.fitting q) stages.has_row counted in
+      let same : q ≡ master = speaker_is row q (before.keeps q row.tablet).handover (before.written q).committed fits said ∙ sym speaker in
+      let next : IsNext row.range (truths row ++ before.rests row) (before.written master) (before.keeps master row.tablet).handover.counter =
+      subst (λ (m : ℕ). IsNext row.range (truths row ++ before.rests row) (before.written m) (before.keeps m row.tablet).handover.counter) same (old counted said) in
+      let pushed = next_push row.range (truths row) (before.rests row) (before.written master) (before.keeps master row.tablet).handover.counter item stages.version next in
+      subst (λ (m : ℕ). IsNext row.range (truths row ++ after.rests row) (after.written m) (after.keeps m row.tablet).handover.counter) (sym same)
+      (subst (λ (w : Written). IsNext row.range (truths row ++ after.rests row) w (after.keeps master row.tablet).handover.counter) (sym stages.written_differ.here)
+      (subst (λ (t : Tablet). IsNext row.range (truths row ++ after.rests row) (with_one_more (before.written master) (entries.Held item)) t.handover.counter) (sym stages.keeps_differ.here)
+      (subst (λ (l : List Entry). IsNext row.range (truths row ++ l) (with_one_more (before.written master) (entries.Held item)) ((before.keeps master row.tablet).handover.counter + 1)) (sym stages.rest_here) pushed)))
+
+  -- of another row all counts as before
+  counted_beside : (q : ℕ) (r : Row) → Contains rows r → (r.tablet ≡ row.tablet → ⊥) → Counts before q r → Counts after q r
+  counted_beside q r stands apart old counts says =
+      let counted : StillCounts (live q) (before.keeps q r.tablet).handover.term r.term =
+      still_counts (live q) (before.keeps q r.tablet).handover.term (after.keeps q r.tablet).handover.term r.term (alike q r.tablet).same_term counts in
+      let said : speaks (post_of r.phase q) (before.keeps q r.tablet).handover r.term ≡ true =
+      sym (speaks_alike (post_of r.phase q) r.term (before.keeps q r.tablet) (after.keeps q r.tablet) (alike q r.tablet)) ∙ says in
+      subst (λ (t : Tablet). IsNext r.range (truths r ++ after.rests r) (after.written q) t.handover.counter) (sym (stages.keeps_differ.others q r.tablet (λ a b. apart b)))
+      (subst (λ (l : List Entry). IsNext r.range (truths r ++ l) (after.written q) (before.keeps q r.tablet).handover.counter) (sym (stages.rest_others r stands apart))
+      (next_of_all r.range (truths r ++ before.rests r) before.written after.written master (before.keeps q r.tablet).handover.counter item stages.written_differ (stages.outside r stands apart) q (old counted said)))
+
+  -- what floors are handed over for a row
+  abbrev Floors : Lane → Row → Option Handed → Type 0
+  Floors lane r given = IfSome given (λ h. IsFloor r (truths r ++ lane.rests r) lane.written h.floor)
+
+  floors_beside : (r : Row) → Contains rows r → (r.tablet ≡ row.tablet → ⊥) → (given : Option Handed) → Floors before r given → Floors after r given
+  floors_beside r stands apart None floor = tt
+  floors_beside r stands apart (Some h) floor =
+      subst (λ (l : List Entry). IsFloor r (truths r ++ l) after.written h.floor) (sym (stages.rest_others r stands apart))
+      (floor_of_all r (truths r ++ before.rests r) before.written after.written master h.floor item stages.written_differ (stages.outside r stands apart) floor)
+
+  -- where none is handed over for the row itself, each stays one
+  floors_kept : (r : Row) → Contains rows r → (given given' : Row → Option Handed) → ((r : Row) → given' r ≡ given r) → given row ≡ None → Floors before r (given r) → Floors after r (given' r)
+  floors_kept r stands given given' same none floor =
+      subst (Floors after r) (sym (same r))
+      (⊎_elim
+      (λ (at : r.tablet ≡ row.tablet).
+      let none_there : given r ≡ None = ap given (stages.same_row r stands at) ∙ none in
+      subst (Floors after r) (sym none_there) tt)
+      (λ (apart : r.tablet ≡ row.tablet → ⊥). floors_beside r stands apart (given r) floor)
+      (cases_eq r.tablet row.tablet))
+
+  serves_last : is_serving (before.keeps here.last.master row.tablet).handover.role ≡ true
+  serves_last = subst (λ (m : ℕ). is_serving (before.keeps m row.tablet).handover.role ≡ true) (sym here.here) here.serves
+
+  none_kept : kept_handed row before.keeps handed ≡ None
+  none_kept =
+      cond-false _ (look_up handed row.tablet) None
+      (none_waits row before.keeps row.phase here.last formed here.is_last serves_last)
+
+  counters_with : (base : Base) (stored : ℕ → Segments) (wire : Table Message) → Counters base rows truths before.rests before.written before.keeps live handed journal wire → Messages rows before.logs before.written stored before.keeps live handed journal wire
+      → Counters base rows truths after.rests after.written after.keeps live handed journal wire
+  counters_with base stored wire old messages = record {
+    low = old.low;
+    counted = λ q.
+        all_in (Counts before q) (Counts after q) rows
+        (λ r stands counts.
+        ⊎_elim
+        (λ (at : r.tablet ≡ row.tablet).
+        let same : r ≡ row = stages.same_row r stands at in
+        subst (Counts after q) (sym same) (counted_here q (subst (Counts before q) same counts)))
+        (λ (apart : r.tablet ≡ row.tablet → ⊥). counted_beside q r stands apart counts)
+        (cases_eq r.tablet row.tablet))
+        (old.counted q);
+    handed_on =
+        all_in (λ r. Floors before r (kept_handed r before.keeps handed)) (λ r. Floors after r (kept_handed r after.keeps handed)) rows
+        (λ r stands floor.
+        floors_kept r stands (λ r. kept_handed r before.keeps handed) (λ r. kept_handed r after.keeps handed) (λ r. kept_handed_alike r before.keeps after.keeps handed alike) none_kept floor)
+        old.handed_on;
+    sent = λ number message found.
+        let none : handed_by row before.keeps message.body ≡ None =
+        none_hands row before.logs before.written stored before.keeps live handed message.from message.to message.body here.last
+        (All-contains (λ row. SaysOf row before.logs before.written stored before.keeps live handed message.from message.to message.body) rows row (messages.of_rows number message found) stages.has_row)
+        formed here.is_last (here.here ∙ speaker) serves_last in
+        all_in (λ r. Floors before r (handed_by r before.keeps message.body)) (λ r. Floors after r (handed_by r after.keeps message.body)) rows
+        (λ r stands floor.
+        floors_kept r stands (λ r. handed_by r before.keeps message.body) (λ r. handed_by r after.keeps message.body) (λ r. handed_by_alike r before.keeps after.keeps message.body alike) none floor)
+        (old.sent number message found);
+  }
+
+-- a write is staged
+pub counters_staged : (base : Base) (rows : List Row) (truths : Row → List Entry) (before after : Lane) (stored : ℕ → Segments) (live : ℕ → Bool) (handed : Table Handed) (journal : List Placed) (wire : Table Message) (master : ℕ) (row : Row) (call : Call) (item : Held) → Counters base rows truths before.rests before.written before.keeps live handed journal wire
+    → Stages rows before after master row call item → IsServed rows (before.keeps master) (live master) master item.table item.key → Rows rows before.written journal → Roles rows before.keeps before.written live
+    → Messages rows before.logs before.written stored before.keeps live handed journal wire → Counters base rows truths after.rests after.written after.keeps live handed journal wire
+counters_staged base rows truths before after stored live handed journal wire master row call item old stages served rows_fit roles_fit messages =
+    counters_with rows truths before after live handed journal master row call item stages roles_fit rows_fit
+    (serves_row rows before after master row call item stages (live master) served)
+    base stored wire old messages

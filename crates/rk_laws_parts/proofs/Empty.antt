@@ -1,0 +1,245 @@
+-- The world where nothing has happened is sound, whatever its history starts from, with any number of masters and backups.
+use Rattle.std.proofs.Common.{◌≡◌, ℕ, zero, suc, ◌+◌, ◌≤◌, ◌-◌, true, false, List, [], ◌∷◌, ◌++◌, length, get_or, replicate, map, Some, None, refl, sym, ap, subst, ◌∙◌, arith, All, ◌⊎◌, slice_get}
+use Rattle.std.specs.List.{range_with_len, flat_map}
+use Rattle.std.specs.List.Sorted.{IsStrictlySortedBy}
+use Rattle.std.proofs.lemmas.List.Elements.{All-nil}
+use Rattle.rk_log.specs.Known.{Known, known_length, nothing}
+use Rattle.rk_log.specs.Log.{new_log, known_of}
+use Rattle.rk_outside.specs.Segments.{Segments, bytes_of as stored_bytes}
+use Rattle.rk_world.specs.Backup.{no_segments}
+use Rattle.rk_world.specs.Base.{Base}
+use Rattle.rk_world.specs.Ends.{ends_of}
+use Rattle.rk_world.specs.Master.{Master, new_master, tablet_at}
+use Rattle.rk_world.specs.Tables.{EachIn}
+use Rattle.rk_world.specs.Tablet.{Tablet, no_tablet, is_absent}
+use Rattle.rk_world.specs.World.{new_world, new_backups, master_at, backup_at, kept_in, written_in, log_in, table_in, calls_in, lives}
+use Rattle.rk_world.specs.Written.{written_by, truth_of, rest_of}
+use Rattle.rk_world.specs.Sound.Asked.{Asked}
+use Rattle.rk_table.specs.Order.{IsInScanOrder}
+use Rattle.rk_world.specs.Sound.Calls.{Calls, IsKnown, IsStagedEnd}
+use Rattle.rk_world.specs.Sound.Counters.{Counters}
+use Rattle.rk_world.specs.Sound.Logs.{Logs, IsLog, stored_of}
+use Rattle.rk_world.specs.Sound.Nodes.{Nodes}
+use Rattle.rk_world.specs.Sound.Order.{Order}
+use Rattle.rk_world.specs.Sound.Rebuilds.{Rebuilds}
+use Rattle.rk_world.specs.Sound.Rest.{Rest, Waits, IsLast}
+use Rattle.rk_world.specs.Sound.Roles.{Roles}
+use Rattle.rk_world.specs.Sound.Tables.{Tables}
+use Rattle.rk_world.specs.Sound.Terms.{Terms}
+use Rattle.rk_world.specs.Sound.Truth.{Truth}
+use Rattle.rk_world.specs.Sound.Whole.{IsSound}
+use Rattle.rk_laws_parts.proofs.Fresh.{each_fresh, there_fresh, each_backup_fresh}
+use Rattle.rk_world.specs.Sound.Cover.{Cover, IsEntryWithin, IsItemWithin, IsOfWholeRows}
+use Rattle.rk_world.specs.Sound.Receives.{IsBare, wanted_place}
+use Rattle.std.specs.Prelude.{IfSome}
+
+-- nothing is kept
+nothing_kept : {X : Type 0} (Fits : ℕ → X → Type 0) → EachIn Fits []
+nothing_kept Fits number thing e = absurd (cc)
+
+-- an absent tablet is not another
+not_absent : (tablet : Tablet) → tablet ≡ no_tablet → is_absent tablet.handover.role ≡ false → ⊥
+not_absent tablet is apart =
+    let e : true ≡ false = sym (ap (λ (t : Tablet). is_absent t.handover.role) is) ∙ apart in absurd (cc)
+
+-- no items are in order
+in_order_none : IsInScanOrder []
+unfolding IsStrictlySortedBy
+in_order_none = tt
+
+-- of so many numbers there are so many
+length_numbers : (start count : ℕ) → length (range_with_len start count) ≡ count
+length_numbers start zero = refl
+length_numbers start (suc count) = let e = length_numbers (start + 1) count in omega (arith, e)
+
+length_with : {X : Type 0} (thing : ℕ → X) (numbers : List ℕ) → length {A = ℕ × X} (map (λ number. (number, thing number)) numbers) ≡ length numbers
+length_with {X} thing [] = refl
+length_with {X} thing (n ∷ numbers) = ap (λ (k : ℕ). suc k) (length_with thing numbers)
+
+length_replicated : {X : Type 0} (count : ℕ) (thing : X) → length (replicate count thing) ≡ count
+length_replicated zero thing = refl
+length_replicated (suc count) thing = ap (λ (k : ℕ). suc k) (length_replicated count thing)
+
+module _ (base : Base) (lane masters backups : ℕ) where
+  nothing_of : (master tablet : ℕ) → kept_in (new_world base lane masters backups) master tablet ≡ no_tablet
+  nothing_of master tablet = ap (λ (m : Master). tablet_at m tablet) (each_fresh base lane masters backups master).is_new
+
+  count_is : length (new_backups backups) ≡ backups
+  count_is = length_with (λ number. no_segments) (range_with_len 1 backups) ∙ length_numbers 1 backups
+
+  nodes_empty : 1 ≤ backups → Nodes (master_at (new_world base lane masters backups)) masters (length (new_backups backups)) [] [] (lives (new_world base lane masters backups))
+  nodes_empty some = record {
+    numbered = λ master. ap (λ (m : Master). m.number) (each_fresh base lane masters backups master).is_new;
+    backed = subst (λ (n : ℕ). 1 ≤ n) (sym count_is) some;
+    known = λ master there.
+        ap (λ (m : Master). length m.log.known) (there_fresh base lane masters backups master there)
+        ∙ length_replicated backups nothing ∙ sym count_is;
+    named = λ master. All-nil _;
+    crashed = All-nil _;
+    left = λ master dead. absurd (cc);
+  }
+
+  terms_empty : Terms [] (kept_in (new_world base lane masters backups)) []
+  terms_empty = record {
+    kept = λ master tablet. All-nil _;
+    apart = λ master a b apart first second. absurd (not_absent _ (nothing_of master a) first);
+    sent = nothing_kept _;
+  }
+
+  roles_empty : Roles [] (kept_in (new_world base lane masters backups)) (written_in (new_world base lane masters backups)) (lives (new_world base lane masters backups))
+  roles_empty = record {
+    fitting = λ master. All-nil _;
+    ranged = λ master. All-nil _;
+    at_term = All-nil _;
+    known = λ master tablet live apart. absurd (not_absent _ (nothing_of master tablet) apart);
+  }
+
+-- a new log, of which nothing is known, with what was written to it and a backup that stores nothing
+log_empty : (known : List Known) (stored : ℕ → ℕ → List ℕ) → ((place : ℕ) → get_or known place nothing ≡ nothing) → ((backup segment : ℕ) → stored backup segment ≡ []) → IsLog (new_log known) (written_by (new_master 0 known) []) stored
+log_empty known stored nothing_known nothing_stored = record {
+  entries_are = refl;
+  held = omega arith;
+  copies = λ backup there. record {
+    front = λ segment. record { more = []; parts = ap (λ (bytes : List ℕ). bytes ++ []) (sym (nothing_stored backup segment)) };
+    in_order = λ segment some. absurd (some (nothing_stored backup segment));
+    told = λ segment.
+        let e : known_length (known_of (new_log known) backup) segment ≡ 0 = ap (λ (k : Known). known_length k segment) (nothing_known (backup - 1)) in
+        omega (arith, e);
+  };
+  spelled = refl;
+  named = All-nil _;
+  marked = All-nil _;
+}
+
+module _ (base : Base) (lane masters backups : ℕ) where
+  logs_empty : Logs (log_in (new_world base lane masters backups)) (written_in (new_world base lane masters backups)) (backup_at (new_world base lane masters backups)) []
+  logs_empty = record {
+    kept = λ master.
+        let fresh = each_fresh base lane masters backups master in
+        subst
+        (λ (m : Master). IsLog m.log (written_by m []) (stored_of (backup_at (new_world base lane masters backups)) master))
+        (sym fresh.is_new)
+        (log_empty fresh.known _ fresh.nothing_known
+        (λ backup segment. ap (λ (s : Segments). stored_bytes (s master segment)) (each_backup_fresh base lane masters backups backup)));
+    sent = nothing_kept _;
+  }
+
+  truth_empty : Truth base [] (truth_of base (written_in (new_world base lane masters backups))) [] (λ client. None)
+  truth_empty = record { legal = tt; rising = tt; seen = All-nil _; true = All-nil _ }
+
+  order_empty : Order [] (truth_of base (written_in (new_world base lane masters backups))) (rest_of (written_in (new_world base lane masters backups)))
+  order_empty = record { above = All-nil _ }
+
+  calls_empty : Calls base [] (truth_of base (written_in (new_world base lane masters backups))) (rest_of (written_in (new_world base lane masters backups))) (kept_in (new_world base lane masters backups)) (lives (new_world base lane masters backups)) [] [] []
+  calls_empty = record {
+    once = λ i j a b first second same. absurd (cc);
+    reached = All-nil _;
+    recorded = All-nil _;
+    kept = λ master. All-nil _;
+    handed_on = All-nil _;
+    sent = nothing_kept _;
+    known = λ master tablet live.
+        subst
+        (λ (t : Tablet). All
+        (λ end. IsKnown base [] end
+        ⊎ IsStagedEnd [] (rest_of (written_in (new_world base lane masters backups))) master tablet t.handover.term end)
+        (ends_of t.completions))
+        (sym (nothing_of base lane masters backups master tablet)) (All-nil _);
+  }
+
+  counters_empty : Counters base [] (truth_of base (written_in (new_world base lane masters backups))) (rest_of (written_in (new_world base lane masters backups))) (written_in (new_world base lane masters backups)) (kept_in (new_world base lane masters backups)) (lives (new_world base lane masters backups)) [] [] []
+  counters_empty = record {
+    low = All-nil _;
+    counted = λ master. All-nil _;
+    handed_on = All-nil _;
+    sent = nothing_kept _;
+  }
+
+  rest_empty : Rest base [] (truth_of base (written_in (new_world base lane masters backups))) (rest_of (written_in (new_world base lane masters backups))) (written_in (new_world base lane masters backups)) (kept_in (new_world base lane masters backups)) (calls_in (new_world base lane masters backups)) (lives (new_world base lane masters backups)) [] (λ client. None)
+  rest_empty = record {
+    goes_on = All-nil _;
+    done = All-nil _;
+    unnamed = All-nil _;
+    idle = λ master. All-nil _;
+    waiting = λ master live.
+        subst
+        (λ (m : Master). EachIn
+        (λ place call. Waits [] (kept_in (new_world base lane masters backups) master) (written_by m []) master place call) m.calls)
+        (sym (each_fresh base lane masters backups master).is_new) (nothing_kept _);
+    are_last = λ master live.
+        subst (λ (m : Master). EachIn (λ place call. IsLast None call) m.calls)
+        (sym (each_fresh base lane masters backups master).is_new) (nothing_kept _);
+    found = λ master live place entry behind stands is_call unmarked.
+        let e : None ≡ Some entry =
+        sym (ap (λ (m : Master). slice_get m.log.entries place) (each_fresh base lane masters backups master).is_new) ∙ stands in
+        absurd (cc);
+  }
+
+  tables_empty : Tables [] (written_in (new_world base lane masters backups)) (kept_in (new_world base lane masters backups)) (table_in (new_world base lane masters backups)) (lives (new_world base lane masters backups))
+  tables_empty = record {
+    ordered = λ master. subst (λ (m : Master). IsInScanOrder m.table) (sym (each_fresh base lane masters backups master).is_new) in_order_none;
+    items = λ master live. All-nil _;
+  }
+
+  rebuilds_empty : Rebuilds [] (truth_of base (written_in (new_world base lane masters backups))) (log_in (new_world base lane masters backups)) (written_in (new_world base lane masters backups)) (backup_at (new_world base lane masters backups)) (kept_in (new_world base lane masters backups)) (table_in (new_world base lane masters backups)) (lives (new_world base lane masters backups))
+  rebuilds_empty = record { rebuilt = All-nil _; marks = λ master. All-nil _; pieces = λ master. All-nil _ }
+
+  cover_empty : Cover [] (written_in (new_world base lane masters backups)) (kept_in (new_world base lane masters backups)) (table_in (new_world base lane masters backups)) []
+  cover_empty = record {
+    unknown = λ master tablet none.
+        ap (λ (t : Tablet). t.handover.term) (nothing_of base lane masters backups master tablet);
+    marks = λ master. All-nil _;
+    sent = nothing_kept _;
+    ranges = λ master tablet some.
+        let e : (kept_in (new_world base lane masters backups) master tablet).handover.term ≡ 0 =
+        ap (λ (t : Tablet). t.handover.term) (nothing_of base lane masters backups master tablet) in
+        absurd (omega (arith, some, e));
+    ordered = nothing_kept _;
+    entries = λ master.
+        subst (λ (m : Master). All (IsEntryWithin []) m.log.entries) (sym (each_fresh base lane masters backups master).is_new) (All-nil _);
+    sides = λ master.
+        subst (λ (m : Master). All (IsItemWithin []) (flat_map (λ items. items) m.sides))
+        (sym (each_fresh base lane masters backups master).is_new) (All-nil _);
+    items = λ master.
+        subst (λ (m : Master). All (IsItemWithin []) m.table) (sym (each_fresh base lane masters backups master).is_new) (All-nil _);
+    wholes = λ master.
+        subst (λ (m : Master). All (IsOfWholeRows []) m.log.entries) (sym (each_fresh base lane masters backups master).is_new) (All-nil _);
+  }
+
+  asked_empty : Asked lane (λ client. None) [] [] []
+  asked_empty = record {
+    last = λ client. tt;
+    own_keys = All-nil _;
+    recorded = All-nil _;
+    once = λ i j a b first second same. absurd (cc);
+    sent = nothing_kept _;
+    again = nothing_kept _;
+  }
+
+  pub empty_is_sound : 1 ≤ backups → IsSound (new_world base lane masters backups)
+  empty_is_sound some = record {
+    nodes = nodes_empty base lane masters backups some;
+    rows = record { apart = tt; begun = All-nil _; formed = All-nil _; placed = All-nil _; covered = All-nil _ };
+    terms = terms_empty base lane masters backups;
+    cover = cover_empty;
+    roles = roles_empty base lane masters backups;
+    logs = logs_empty;
+    truth = truth_empty;
+    order = order_empty;
+    calls = calls_empty;
+    counters = counters_empty;
+    rest = rest_empty;
+    tables = tables_empty;
+    receives = record {
+      targets = All-nil _;
+      handed_on = All-nil _;
+      bare = λ master tablet.
+          subst
+          (λ (t : Tablet). IfSome (wanted_place t.handover.role)
+          (λ from. IsBare t.handover.range from (written_in (new_world base lane masters backups) master) (table_in (new_world base lane masters backups) master)))
+          (sym (nothing_of base lane masters backups master tablet)) tt;
+    };
+    rebuilds = rebuilds_empty;
+    messages = record { of_rows = nothing_kept _; others = nothing_kept _ };
+    asked = asked_empty;
+  }

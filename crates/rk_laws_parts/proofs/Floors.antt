@@ -1,0 +1,48 @@
+-- The number from which the next version is taken is above each version, and does not fall with more entries.
+use Rattle.std.proofs.Common.{◌≡◌, ℕ, ◌≤◌, ◌<◌, ◌+◌, List, [], ◌∷◌, ◌++◌, subst, ⊎_elim, arith}
+use Rattle.std.specs.Prelude.{fold, max}
+use Rattle.std.specs.List.{Contains}
+use Rattle.rk_types.specs.declared.held.Held.{Held}
+use Rattle.rk_entry.specs.declared.entry.Entry.{Entry}
+use Rattle.rk_entry.specs.declared.entry.Entry.TheVariants as entries
+use Rattle.rk_overlay.proofs.Members.{none_stands, stands_cases}
+use Rattle.rk_world.specs.Ends.{items_of}
+use Rattle.rk_world.specs.Gather.{floor_by, floor_of}
+
+-- a floor does not fall with an entry
+floor_step : (floor : ℕ) (entry : Entry) → floor ≤ floor_by floor entry
+floor_step floor (entries.Held held) = omega arith
+floor_step floor (entries.Refused refused) = omega arith
+floor_step floor (entries.Carried carried) = omega arith
+floor_step floor (entries.Joined joined) = omega arith
+
+-- nor with several
+pub floor_rises : (floor : ℕ) (list : List Entry) → floor ≤ fold floor_by floor list
+floor_rises floor [] = omega arith
+floor_rises floor (entry ∷ list) =
+    let step = floor_step floor entry in
+    let rest = floor_rises (floor_by floor entry) list in
+    omega (arith, step, rest)
+
+-- from a floor on, it is above each version
+above_from : (floor : ℕ) (list : List Entry) (item : Held) → Contains (items_of list) item → item.version < fold floor_by floor list
+above_from floor [] item at = absurd (none_stands item at)
+above_from floor (entries.Held held ∷ list) item at =
+    ⊎_elim
+    (λ (same : held ≡ item).
+    subst (λ (x : Held). x.version < fold floor_by (max floor (held.version + 1)) list) same
+    (omega (arith, floor_rises (max floor (held.version + 1)) list)))
+    (λ (behind : Contains (items_of list) item). above_from (max floor (held.version + 1)) list item behind)
+    (stands_cases held (items_of list) item at)
+above_from floor (entries.Refused refused ∷ list) item at = above_from floor list item at
+above_from floor (entries.Carried carried ∷ list) item at = above_from (max floor carried.floor) list item at
+above_from floor (entries.Joined joined ∷ list) item at = above_from floor list item at
+
+-- it is above each version
+pub floor_above : (list : List Entry) (item : Held) → Contains (items_of list) item → item.version < floor_of list
+floor_above list item at = above_from 1 list item at
+
+-- it is as great with more entries behind
+pub floor_append : (floor : ℕ) (list more : List Entry) → fold floor_by floor list ≤ fold floor_by floor (list ++ more)
+floor_append floor [] more = floor_rises floor more
+floor_append floor (entry ∷ list) more = floor_append (floor_by floor entry) list more

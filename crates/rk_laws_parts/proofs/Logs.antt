@@ -1,0 +1,142 @@
+-- The part Logs through small changes.
+use Rattle.std.proofs.Common.{◌≡◌, ℕ, ◌≤◌, true, List, [], ◌∷◌, ◌++◌, length, refl, sym, ap, subst, ◌∙◌, ⊎_elim, arith, append_assoc, length-append}
+use Rattle.std.specs.Prelude.{◌≢◌, All}
+use Rattle.std.proofs.lemmas.Bool.{cases_eq}
+use Rattle.std.proofs.lemmas.List.Elements.{All-nil, All-push, All-weaker}
+use Rattle.rk_types.specs.declared.call.Call.{Call}
+use Rattle.rk_types.specs.declared.held.Held.{Held}
+use Rattle.rk_types.specs.declared.node.Node.{Node}
+use Rattle.rk_types.specs.declared.node.Node.TheVariants as nodes
+use Rattle.rk_entry.specs.declared.entry.Entry.{Entry}
+use Rattle.rk_entry.specs.declared.entry.Entry.TheVariants as entries
+use Rattle.rk_world.specs.Sound.Changes.{HasSegmentLeft}
+use Rattle.rk_log.proofs.LogLaws.{committed_entry}
+use Rattle.rk_log.specs.Known.{Known}
+use Rattle.rk_log.specs.Log.{Log, bytes_of, is_side_stored, known_of, with_entry}
+use Rattle.rk_message.specs.declared.message.Body.{Body}
+use Rattle.rk_message.specs.declared.message.Body.TheVariants as bodies
+use Rattle.rk_message.specs.declared.message.Message.{Message}
+use Rattle.rk_message.specs.declared.replication.Append.{Append}
+use Rattle.rk_outside.specs.Segments.{Segments}
+use Rattle.rk_tablet_map.specs.declared.row.Row.{Row}
+use Rattle.rk_world.specs.Material.{Mark}
+use Rattle.rk_world.specs.Sound.Logs.{IsFirstPart, IsCopy, IsKnownBefore, IsLog, IsFromLog, Logs, LogSays, segments_in, stored_of}
+use Rattle.rk_world.specs.Tables.{Table, with_at}
+use Rattle.rk_world.specs.Written.{Written}
+use Rattle.rk_laws_parts.proofs.Changing.{Lane, Stages, DiffersAt, with_one_more}
+use Rattle.rk_laws_parts.proofs.Found.{each_with, each_weaker}
+use Rattle.rk_laws_parts.proofs.Segments.{Grows, grows_entry}
+
+-- a message is put on the wire
+pub logs_sent : (logs : ℕ → Log) (written : ℕ → Written) (stored : ℕ → Segments) (wire : Table Message) (number : ℕ) (message : Message) → Logs logs written stored wire → LogSays logs stored message.from message.to message.body → Logs logs written stored (with_at wire number message)
+logs_sent logs written stored wire number message old says = record {
+  kept = old.kept;
+  sent = each_with (λ number message. LogSays logs stored message.from message.to message.body) wire number message old.sent says;
+}
+
+-- ---- a log grows at its end
+
+first_part_more : (a b c : List ℕ) → IsFirstPart a b → IsFirstPart b c → IsFirstPart a c
+first_part_more a b c first next = record {
+  more = first.more ++ next.more;
+  parts = next.parts ∙ ap (λ (l : List ℕ). l ++ next.more) first.parts ∙ append_assoc a first.more next.more;
+}
+
+-- bytes behind others are none where all are
+none_behind : (before bytes behind : List ℕ) → before ++ (bytes ++ behind) ≡ [] → bytes ≡ []
+none_behind [] [] behind none = refl
+none_behind [] (x ∷ bytes) behind none = absurd (cc)
+none_behind (x ∷ before) bytes behind none = absurd (cc)
+
+-- what is known of the segments before one that has bytes is known then
+known_before_grown : (old new : Log) (known : Known) (later : ℕ) → Grows old new → bytes_of old later ≢ [] → IsKnownBefore old known later → IsKnownBefore new known later
+known_before_grown old new known later grows filled before segment less sort =
+    omega (arith, before segment less sort, ap length (grows.full segment later less sort filled))
+
+copy_grown : (old new : Log) (stored : ℕ → List ℕ) (known : Known) → Grows old new → IsCopy old stored known → IsCopy new stored known
+copy_grown old new stored known grows copy = record {
+  front = λ segment. first_part_more (stored segment) (bytes_of old segment) (bytes_of new segment) (copy.front segment) (grows.front segment);
+  in_order = λ segment some.
+      known_before_grown old new known segment grows
+      (λ none. some (none_behind [] (stored segment) (copy.front segment).more (sym (copy.front segment).parts ∙ none)))
+      (copy.in_order segment some);
+  told = copy.told;
+}
+
+piece_grown : (old new : Log) (known : Known) (append : Append) → Grows old new → IsFromLog old known append → IsFromLog new known append
+piece_grown old new known append grows piece =
+    let more : List ℕ = (grows.front append.segment).more in
+    record {
+      before = piece.before;
+      behind = piece.behind ++ more;
+      bytes =
+          (grows.front append.segment).parts
+          ∙ ap (λ (l : List ℕ). l ++ more) piece.bytes
+          ∙ append_assoc piece.before (append.bytes ++ piece.behind) more
+          ∙ ap (λ (l : List ℕ). piece.before ++ l) (append_assoc append.bytes piece.behind more);
+      place = piece.place;
+      in_order = λ some.
+          known_before_grown old new known append.segment grows
+          (λ none. some (none_behind piece.before append.bytes piece.behind (sym piece.bytes ∙ none)))
+          (piece.in_order some);
+    }
+
+-- one more entry that names no side segment
+log_grown : (log : Log) (written : Written) (stored : ℕ → ℕ → List ℕ) (entry : Entry) → Grows log (with_entry log entry) → segments_in entry ≡ [] → IsLog log written stored → IsLog (with_entry log entry) (with_one_more written entry) stored
+log_grown log written stored entry grows none old = record {
+  entries_are = ap (λ (list : List Entry). list ++ entry ∷ []) old.entries_are;
+  held = omega (arith, old.held, committed_entry log entry);
+  copies = λ backup numbered.
+      copy_grown log (with_entry log entry) (stored backup) (known_of log backup) grows
+      (old.copies backup (record { first = numbered.first; last = numbered.last }));
+  spelled = old.spelled;
+  named =
+      All-push (λ entry. All (λ segment. is_side_stored log segment ≡ true) (segments_in entry)) written.entries entry old.named
+      (subst (All (λ segment. is_side_stored log segment ≡ true)) (sym none) (All-nil (λ segment. is_side_stored log segment ≡ true)));
+  marked =
+      All-weaker (λ (mark : Mark). mark.past ≤ length written.entries) (λ (mark : Mark). mark.past ≤ length (written.entries ++ entry ∷ []))
+      (λ mark past. omega (arith, past, length-append written.entries (entry ∷ []))) written.marks old.marked;
+}
+
+-- a message says of a log that grew what it said
+says_grown : (logs logs' : ℕ → Log) (stored : ℕ → Segments) (master : ℕ) (entry : Entry) → DiffersAt master (with_entry (logs master) entry) logs logs' → Grows (logs master) (with_entry (logs master) entry)
+    → (from to : Node) (body : Body) → LogSays logs stored from to body → LogSays logs' stored from to body
+says_grown logs logs' stored master entry differs grows (nodes.Master q) (nodes.Backup backup) (bodies.Append append) piece =
+    ⊎_elim
+    (λ (here : q ≡ master).
+    subst (λ (m : ℕ). IsFromLog (logs' m) (known_of (logs' m) backup) append) (sym here)
+    (subst (λ (l : Log). IsFromLog l (known_of l backup) append) (sym differs.here)
+    (piece_grown (logs master) (with_entry (logs master) entry) (known_of (logs master) backup) append grows
+    (subst (λ (m : ℕ). IsFromLog (logs m) (known_of (logs m) backup) append) here piece))))
+    (λ (apart : q ≡ master → ⊥). subst (λ (l : Log). IsFromLog l (known_of l backup) append) (sym (differs.others q apart)) piece)
+    (cases_eq q master)
+says_grown logs logs' stored master entry differs grows _ _ _ says = says
+
+-- one more entry at the end of a master's log, which names no side segment
+pub logs_grown : (logs logs' : ℕ → Log) (written written' : ℕ → Written) (stored : ℕ → Segments) (wire : Table Message) (master : ℕ) (entry : Entry) → Logs logs written stored wire
+    → DiffersAt master (with_entry (logs master) entry) logs logs' → DiffersAt master (with_one_more (written master) entry) written written' → segments_in entry ≡ [] → HasSegmentLeft (logs master) → Logs logs' written' stored wire
+logs_grown logs logs' written written' stored wire master entry old logs_differ written_differ none few =
+    let grows : Grows (logs master) (with_entry (logs master) entry) = grows_entry (logs master) entry few in
+    record {
+      kept = λ q.
+          ⊎_elim
+          (λ (here : q ≡ master).
+          subst (λ (m : ℕ). IsLog (logs' m) (written' m) (stored_of stored m)) (sym here)
+          (subst (λ (l : Log). IsLog l (written' master) (stored_of stored master)) (sym logs_differ.here)
+          (subst (λ (w : Written). IsLog (with_entry (logs master) entry) w (stored_of stored master)) (sym written_differ.here)
+          (log_grown (logs master) (written master) (stored_of stored master) entry grows none (old.kept master)))))
+          (λ (apart : q ≡ master → ⊥).
+          subst (λ (l : Log). IsLog l (written' q) (stored_of stored q)) (sym (logs_differ.others q apart))
+          (subst (λ (w : Written). IsLog (logs q) w (stored_of stored q)) (sym (written_differ.others q apart)) (old.kept q)))
+          (cases_eq q master);
+      sent =
+          each_weaker (λ number message. LogSays logs stored message.from message.to message.body) (λ number message. LogSays logs' stored message.from message.to message.body) wire
+          (λ number message. says_grown logs logs' stored master entry logs_differ grows message.from message.to message.body)
+          old.sent;
+    }
+
+-- a write is staged
+pub logs_staged : (rows : List Row) (before after : Lane) (stored : ℕ → Segments) (wire : Table Message) (master : ℕ) (row : Row) (call : Call) (item : Held) → Logs before.logs before.written stored wire
+    → Stages rows before after master row call item → HasSegmentLeft (before.logs master) → Logs after.logs after.written stored wire
+logs_staged rows before after stored wire master row call item old stages few =
+    logs_grown before.logs after.logs before.written after.written stored wire master (entries.Held item) old stages.logs_differ stages.written_differ refl few

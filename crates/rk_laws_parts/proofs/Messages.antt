@@ -1,0 +1,312 @@
+-- Laws of the part Messages: what a message that is sent, and tablets that look the same, keep of it.
+use Rattle.std.specs.Prelude.{◌≡◌, ◌≤◌, ◌<◌, ◌-◌, ℕ, Bool, List, [], ◌∷◌, Option, None, All, slice_index_or}
+use Rattle.std.specs.List.{flat_map}
+use Rattle.std.proofs.Common.{sym, ap, subst, ◌∙◌, refl}
+use Rattle.std.proofs.lemmas.List.Elements.{All-weaker}
+use Rattle.rk_types.specs.declared.history.Placed.{Placed}
+use Rattle.rk_types.specs.declared.lineage.Member.{Member}
+use Rattle.rk_types.specs.declared.node.Node.{Node}
+use Rattle.rk_types.specs.declared.node.Node.TheVariants as nodes
+use Rattle.rk_types.specs.declared.call.Call.{Call}
+use Rattle.rk_types.specs.declared.held.Held.{Held}
+use Rattle.rk_entry.specs.declared.entry.Entry.{Entry}
+use Rattle.rk_log.specs.Known.{Known, nothing}
+use Rattle.rk_log.specs.Log.{Log}
+use Rattle.rk_message.specs.declared.handover.Grant.{Grant}
+use Rattle.rk_message.specs.declared.handover.Prepare.{Prepare}
+use Rattle.rk_message.specs.declared.handover.Tenure.{Tenure}
+use Rattle.rk_message.specs.declared.handover.Transfer.{Transfer}
+use Rattle.rk_message.specs.declared.message.Body.{Body}
+use Rattle.rk_message.specs.declared.message.Body.TheVariants as bodies
+use Rattle.rk_message.specs.declared.message.Message.{Message}
+use Rattle.rk_message.specs.declared.pulling.Got.{Got}
+use Rattle.rk_message.specs.declared.pulling.Pulled.{Pulled}
+use Rattle.rk_message.specs.declared.rebuilding.CopySegment.{CopySegment}
+use Rattle.rk_message.specs.declared.rebuilding.Rebuild.{Rebuild}
+use Rattle.rk_message.specs.declared.rebuilding.Rebuilt.{Rebuilt}
+use Rattle.rk_outside.specs.Segments.{Segments, bytes_of as copied_bytes}
+use Rattle.rk_pull.specs.declared.batches.TheConstants.{BATCH_BYTES}
+use Rattle.rk_table.specs.Items.{at_hash}
+use Rattle.rk_table.specs.Scans.{batch_at, next_token}
+use Rattle.rk_tablet_map.specs.Phase.{lineage_of}
+use Rattle.rk_tablet_map.specs.declared.phase.Phase.{Phase}
+use Rattle.rk_tablet_map.specs.declared.phase.Phase.TheVariants.{Opening, Moving, Rebuilding}
+use Rattle.rk_tablet_map.specs.declared.row.Row.{Row}
+use Rattle.rk_transfer.specs.declared.role.Role.TheVariants as roles
+use Rattle.rk_world.specs.Coordinator.{Handed}
+use Rattle.rk_world.specs.Ends.{Completions, ends_of}
+use Rattle.rk_world.specs.Material.{as_entries}
+use Rattle.rk_world.specs.Tables.{Table, look_up, with_at}
+use Rattle.rk_world.specs.Tablet.{Tablet}
+use Rattle.rk_world.specs.declared.work.Merged.{Merged}
+use Rattle.rk_world.specs.Written.{Written}
+use Rattle.rk_world.specs.Sound.Logs.{stored_of}
+use Rattle.rk_world.specs.Sound.Messages.{Messages, SaysOf, Says, IfMaster, ByMaster, IsOf, IsOfTarget, PrepareFits, CloseFits, RebuildFits, OwnFits, IsOwner, ReleaseFits, ReadyIn, TransferIn, IsFrozenSource, JoinedIn, RebuiltIn, GrantAgrees, AskAgrees, IsFromSource, PulledAgrees, GotAgrees, CopyIn}
+use Rattle.rk_world.specs.Sound.Posts.{post_of}
+use Rattle.rk_world.specs.Sound.Rebuilds.{READ_BACKUP, IsReadPart}
+use Rattle.rk_world.specs.Sound.Receives.{scan_items}
+use Rattle.rk_world.specs.Sound.Changes.{IsServed}
+use Rattle.rk_laws_parts.proofs.Found.{each_with, each_weaker}
+use Rattle.rk_laws_parts.proofs.Seen.{LooksAs, AllLook, each_looks_frozen}
+use Rattle.rk_laws_parts.proofs.Changing.{Lane, Freezes, Stages}
+use Rattle.rk_laws_parts.proofs.Staged.{staged_looks, staged_known}
+
+-- a message is sent that agrees with its sender
+pub messages_sent : (rows : List Row) (logs : ℕ → Log) (written : ℕ → Written) (stored : ℕ → Segments) (keeps : ℕ → ℕ → Tablet) (live : ℕ → Bool) (handed : Table Handed) (journal : List Placed) (wire : Table Message) (number : ℕ) (message : Message) → Messages rows logs written stored keeps live handed journal wire → All (λ row. SaysOf row logs written stored keeps live handed message.from message.to message.body) rows → Says journal message.to message.body → Messages rows logs written stored keeps live handed journal (with_at wire number message)
+messages_sent rows logs written stored keeps live handed journal wire number message old of_rows others = record {
+  of_rows =
+      each_with (λ n m. All (λ row. SaysOf row logs written stored keeps live handed m.from m.to m.body) rows) wire number message
+      old.of_rows of_rows;
+  others = each_with (λ n m. Says journal m.to m.body) wire number message old.others others;
+}
+
+-- what is said where a node is a master, it says as well where that follows
+if_master : (node : Node) (Fits Gives : ℕ → Type 0) → ((master : ℕ) → Fits master → Gives master) → IfMaster node Fits → IfMaster node Gives
+if_master (nodes.Master master) Fits Gives gives fits = gives master fits
+if_master node Fits Gives gives fits = fits
+
+by_master : (node : Node) (Fits Gives : ℕ → Type 0) → ((master : ℕ) → Fits master → Gives master) → ByMaster node Fits → ByMaster node Gives
+by_master (nodes.Master master) Fits Gives gives fits = gives master fits
+by_master node Fits Gives gives fits = fits
+
+-- ---- orders
+
+prepare_looks : (row : Row) (old new : Tablet) (live : Bool) (master : ℕ) (prepare : Prepare) → LooksAs old new → PrepareFits row old.handover live master prepare → PrepareFits row new.handover live master prepare
+prepare_looks row old new live master prepare looks fits = record {
+  range = fits.range;
+  invited = λ is lives below. fits.invited is lives (subst (λ (term : ℕ). term < row.term) looks.term below);
+  members = λ meet lives member.
+      subst (λ (term : ℕ). prepare.tenure.term ≤ term) (sym looks.term) (fits.members meet lives member);
+}
+
+close_looks : (row : Row) (old new : Tablet) (live : Bool) (master : ℕ) (tenure : Tenure) → LooksAs old new → CloseFits row old.handover live master tenure → CloseFits row new.handover live master tenure
+close_looks row old new live master tenure looks fits = record {
+  source = fits.source;
+  may_follow = λ same lives below. fits.may_follow same lives (subst (λ (term : ℕ). term < tenure.term) looks.term below);
+}
+
+rebuild_looks : (row : Row) (old new : Tablet) (live : Bool) (master : ℕ) (rebuild : Rebuild) → LooksAs old new → RebuildFits row old.handover live master rebuild → RebuildFits row new.handover live master rebuild
+rebuild_looks row old new live master rebuild looks fits = record {
+  range = fits.range;
+  lineage = fits.lineage;
+  ordered = λ same lives below. fits.ordered same lives (subst (λ (term : ℕ). term < rebuild.tenure.term) looks.term below);
+}
+
+own_looks : (row : Row) (old new : Tablet) (live : Bool) (master : ℕ) (tenure : Tenure) → LooksAs old new → OwnFits row old.handover live master tenure → OwnFits row new.handover live master tenure
+own_looks row old new live master tenure looks fits = record {
+  owned = fits.owned;
+  owner = λ same lives at.
+      subst (λ (term : ℕ). IsOwner (post_of row.phase master) term row.term) (sym looks.term)
+      (fits.owner same lives (sym looks.term ∙ at));
+}
+
+release_looks : (row : Row) (old new : Tablet) (live : Bool) (master : ℕ) (tenure : Tenure) → LooksAs old new → ReleaseFits row old.handover live master tenure → ReleaseFits row new.handover live master tenure
+release_looks row old new live master tenure looks fits = record {
+  owned = fits.owned;
+  outside = λ same lives within. fits.outside same lives (subst (λ (term : ℕ). term ≤ tenure.term) looks.term within);
+}
+
+-- ---- reports
+
+ready_looks : (phase : Phase) (old new : Tablet) (term master place : ℕ) → LooksAs old new → ReadyIn phase old.handover term master place → ReadyIn phase new.handover term master place
+ready_looks (Opening source sfrom target None) old new term master place looks says =
+    (says.0, looks.role.waits place says.1, looks.term ∙ says.2)
+ready_looks phase old new term master place looks says = says
+
+source_looks : (old new : Tablet) (term : ℕ) (transfer : Transfer) → LooksAs old new → IsFrozenSource old term transfer → IsFrozenSource new term transfer
+source_looks old new term transfer looks frozen = record {
+  role_is = looks.role.frozen frozen.role_is;
+  term_is = looks.term ∙ frozen.term_is;
+  floor_is = frozen.floor_is ∙ sym (looks.counter frozen.role_is);
+  ends_are = frozen.ends_are ∙ ap (λ (kept : Completions). ends_of kept) (sym (looks.completions frozen.role_is));
+}
+
+transfer_looks : (phase : Phase) (old new : Tablet) (term master : ℕ) (transfer : Transfer) → LooksAs old new → TransferIn phase old term master transfer → TransferIn phase new term master transfer
+transfer_looks (Opening source sfrom target dfrom) old new term master transfer looks says =
+    (says.0, source_looks old new term transfer looks says.1)
+transfer_looks phase old new term master transfer looks says = says
+
+joined_looks : (phase : Phase) (old new : Tablet) (committed committed' term master : ℕ) → LooksAs old new → committed' ≡ committed → JoinedIn phase old.handover committed term master → JoinedIn phase new.handover committed' term master
+joined_looks (Moving source sfrom target dfrom) old new committed committed' term master looks same says =
+    (says.0, looks.term ∙ says.1, looks.role.joined committed' (rw same says.2))
+joined_looks phase old new committed committed' term master looks same says = says
+
+rebuilt_looks : (phase : Phase) (old new : Tablet) (committed committed' term master : ℕ) (rebuilt : Rebuilt) → LooksAs old new → committed' ≡ committed → RebuiltIn phase old committed term master rebuilt → RebuiltIn phase new committed' term master rebuilt
+rebuilt_looks (Rebuilding lineage to) old new committed committed' term master rebuilt looks same says = (
+  says.0,
+  looks.term ∙ says.1,
+  looks.role.rebuilt committed' rebuilt.place (rw same says.2),
+  says.3 ∙ ap (λ (merged : Merged). merged.ends) (sym looks.merged),
+)
+rebuilt_looks phase old new committed committed' term master rebuilt looks same says = says
+
+-- ---- between source and target
+
+of_target : (row : Row) (old new : Tablet) (tenure : Tenure) → LooksAs old new → IsOfTarget row new.handover tenure → IsOfTarget row old.handover tenure
+of_target row old new tenure looks is = record { tablet = is.tablet; term = is.term ∙ looks.term }
+
+grant_looks : (row : Row) (old new : Tablet) (live : Bool) (handed : Option Handed) (master : ℕ) (grant : Grant) → LooksAs old new → GrantAgrees row old.handover live handed master grant → GrantAgrees row new.handover live handed master grant
+grant_looks row old new live handed master grant looks agrees = record {
+  reached = λ same lives. subst (λ (term : ℕ). grant.tenure.term ≤ term) (sym looks.term) (agrees.reached same lives);
+  told = λ same lives at waits. agrees.told same lives (at ∙ looks.term) (sym looks.role.wanting ∙ waits);
+}
+
+ask_looks : (row : Row) (keeps keeps' : ℕ → ℕ → Tablet) (lineage : List Member) (master : ℕ) (to : Node) (tenure : Tenure) → LooksAs (keeps master row.tablet) (keeps' master row.tablet) → AskAgrees row keeps lineage master to tenure → AskAgrees row keeps' lineage master to tenure
+ask_looks row keeps keeps' (source ∷ target ∷ []) master to tenure looks agrees = λ here is.
+    agrees here (of_target row (keeps master row.tablet) (keeps' master row.tablet) tenure looks is)
+ask_looks row keeps keeps' lineage master to tenure looks agrees = agrees
+
+pulled_looks : (row : Row) (written written' : ℕ → Written) (keeps keeps' : ℕ → ℕ → Tablet) (live : ℕ → Bool) (lineage : List Member) (from : Node) (master : ℕ) (pulled : Pulled) → AllLook written written' keeps keeps' → PulledAgrees row written keeps live lineage from master pulled → PulledAgrees row written' keeps' live lineage from master pulled
+pulled_looks row written written' keeps keeps' live (source ∷ target ∷ []) from master pulled looks agrees = λ here lives is.
+    let seen = looks.tablets master row.tablet in
+    subst
+    (λ (truth : List Entry).
+    IsFromSource source from (as_entries (batch_at pulled.token BATCH_BYTES (scan_items truth))) pulled.entries
+    × (pulled.next ≡ next_token pulled.token BATCH_BYTES (scan_items truth)))
+    (sym (looks.truths row.range source))
+    (agrees here lives (of_target row (keeps master row.tablet) (keeps' master row.tablet) pulled.tenure seen is))
+pulled_looks row written written' keeps keeps' live lineage from master pulled looks agrees = agrees
+
+got_looks : (row : Row) (written written' : ℕ → Written) (keeps keeps' : ℕ → ℕ → Tablet) (live : ℕ → Bool) (lineage : List Member) (from : Node) (master : ℕ) (got : Got) → AllLook written written' keeps keeps' → GotAgrees row written keeps live lineage from master got → GotAgrees row written' keeps' live lineage from master got
+got_looks row written written' keeps keeps' live (source ∷ target ∷ []) from master got looks agrees = λ here lives is.
+    let seen = looks.tablets master row.tablet in
+    subst
+    (λ (truth : List Entry).
+    IsFromSource source from (as_entries (flat_map (λ hash. at_hash hash (scan_items truth)) got.hashes)) got.entries)
+    (sym (looks.truths row.range source))
+    (agrees here lives (of_target row (keeps master row.tablet) (keeps' master row.tablet) got.tenure seen is))
+got_looks row written written' keeps keeps' live lineage from master got looks agrees = agrees
+
+-- ---- between a rebuilding master and backup 1
+
+copy_looks : (phase : Phase) (logs logs' : ℕ → Log) (stored : ℕ → Segments) (live : ℕ → Bool) (copy : CopySegment) → (logs' copy.master).known ≡ (logs copy.master).known → CopyIn phase logs stored live copy → CopyIn phase logs' stored live copy
+copy_looks (Rebuilding lineage to) logs logs' stored live copy same says = (
+  says.0,
+  subst
+      (λ (known : List Known).
+      IsReadPart (slice_index_or known (READ_BACKUP - 1) nothing) (stored_of stored copy.master READ_BACKUP) copy.segment
+      (copied_bytes copy.bytes))
+      (sym same) says.1,
+)
+copy_looks phase logs logs' stored live copy same says = says
+
+-- ---- all kinds
+
+-- what a message says of a row, it says where each tablet looks as before, and backups are known to hold as much
+says_of_looks : (row : Row) (logs logs' : ℕ → Log) (written written' : ℕ → Written) (stored : ℕ → Segments) (keeps keeps' : ℕ → ℕ → Tablet) (live : ℕ → Bool) (handed : Table Handed) (from to : Node) (body : Body) → AllLook written written' keeps keeps' → ((q : ℕ) → (logs' q).known ≡ (logs q).known) → SaysOf row logs written stored keeps live handed from to body → SaysOf row logs' written' stored keeps' live handed from to body
+says_of_looks row logs logs' written written' stored keeps keeps' live handed from to (bodies.Prepare prepare) looks same says =
+    if_master to (λ m. PrepareFits row (keeps m row.tablet).handover (live m) m prepare)
+    (λ m. PrepareFits row (keeps' m row.tablet).handover (live m) m prepare)
+    (λ m. prepare_looks row (keeps m row.tablet) (keeps' m row.tablet) (live m) m prepare (looks.tablets m row.tablet)) says
+says_of_looks row logs logs' written written' stored keeps keeps' live handed from to (bodies.Ready ready) looks same says =
+    by_master from (λ m. IsOf row ready.tenure → ReadyIn row.phase (keeps m row.tablet).handover row.term m ready.place)
+    (λ m. IsOf row ready.tenure → ReadyIn row.phase (keeps' m row.tablet).handover row.term m ready.place)
+    (λ m told is.
+    ready_looks row.phase (keeps m row.tablet) (keeps' m row.tablet) row.term m ready.place (looks.tablets m row.tablet)
+    (told is)) says
+says_of_looks row logs logs' written written' stored keeps keeps' live handed from to (bodies.Close tenure) looks same says =
+    if_master to (λ m. CloseFits row (keeps m row.tablet).handover (live m) m tenure)
+    (λ m. CloseFits row (keeps' m row.tablet).handover (live m) m tenure)
+    (λ m. close_looks row (keeps m row.tablet) (keeps' m row.tablet) (live m) m tenure (looks.tablets m row.tablet)) says
+says_of_looks row logs logs' written written' stored keeps keeps' live handed from to (bodies.Transfer transfer) looks same says =
+    by_master from (λ m. IsOf row transfer.tenure → TransferIn row.phase (keeps m row.tablet) row.term m transfer)
+    (λ m. IsOf row transfer.tenure → TransferIn row.phase (keeps' m row.tablet) row.term m transfer)
+    (λ m told is.
+    transfer_looks row.phase (keeps m row.tablet) (keeps' m row.tablet) row.term m transfer (looks.tablets m row.tablet)
+    (told is)) says
+says_of_looks row logs logs' written written' stored keeps keeps' live handed from to (bodies.Grant grant) looks same says = (
+  says.0,
+  if_master to (λ m. GrantAgrees row (keeps m row.tablet).handover (live m) (look_up handed row.tablet) m grant)
+      (λ m. GrantAgrees row (keeps' m row.tablet).handover (live m) (look_up handed row.tablet) m grant)
+      (λ m.
+      grant_looks row (keeps m row.tablet) (keeps' m row.tablet) (live m) (look_up handed row.tablet) m grant
+      (looks.tablets m row.tablet)) says.1,
+)
+says_of_looks row logs logs' written written' stored keeps keeps' live handed from to (bodies.Pull pull) looks same says = (
+  says.0,
+  by_master from (λ m. AskAgrees row keeps (lineage_of row.phase) m to pull.tenure)
+      (λ m. AskAgrees row keeps' (lineage_of row.phase) m to pull.tenure)
+      (λ m. ask_looks row keeps keeps' (lineage_of row.phase) m to pull.tenure (looks.tablets m row.tablet)) says.1,
+)
+says_of_looks row logs logs' written written' stored keeps keeps' live handed from to (bodies.Pulled pulled) looks same says = (
+  says.0,
+  if_master to (λ m. PulledAgrees row written keeps live (lineage_of row.phase) from m pulled)
+      (λ m. PulledAgrees row written' keeps' live (lineage_of row.phase) from m pulled)
+      (λ m. pulled_looks row written written' keeps keeps' live (lineage_of row.phase) from m pulled looks) says.1,
+)
+says_of_looks row logs logs' written written' stored keeps keeps' live handed from to (bodies.Want want) looks same says = (
+  says.0,
+  by_master from (λ m. AskAgrees row keeps (lineage_of row.phase) m to want.tenure)
+      (λ m. AskAgrees row keeps' (lineage_of row.phase) m to want.tenure)
+      (λ m. ask_looks row keeps keeps' (lineage_of row.phase) m to want.tenure (looks.tablets m row.tablet)) says.1,
+)
+says_of_looks row logs logs' written written' stored keeps keeps' live handed from to (bodies.Got got) looks same says = (
+  says.0,
+  if_master to (λ m. GotAgrees row written keeps live (lineage_of row.phase) from m got)
+      (λ m. GotAgrees row written' keeps' live (lineage_of row.phase) from m got)
+      (λ m. got_looks row written written' keeps keeps' live (lineage_of row.phase) from m got looks) says.1,
+)
+says_of_looks row logs logs' written written' stored keeps keeps' live handed from to (bodies.Joined tenure) looks same says =
+    by_master from
+    (λ m. IsOf row tenure → JoinedIn row.phase (keeps m row.tablet).handover (written m).committed row.term m)
+    (λ m. IsOf row tenure → JoinedIn row.phase (keeps' m row.tablet).handover (written' m).committed row.term m)
+    (λ m told is.
+    joined_looks row.phase (keeps m row.tablet) (keeps' m row.tablet) (written m).committed (written' m).committed row.term m
+    (looks.tablets m row.tablet) (looks.committed m) (told is)) says
+says_of_looks row logs logs' written written' stored keeps keeps' live handed from to (bodies.Own tenure) looks same says =
+    if_master to (λ m. OwnFits row (keeps m row.tablet).handover (live m) m tenure)
+    (λ m. OwnFits row (keeps' m row.tablet).handover (live m) m tenure)
+    (λ m. own_looks row (keeps m row.tablet) (keeps' m row.tablet) (live m) m tenure (looks.tablets m row.tablet)) says
+says_of_looks row logs logs' written written' stored keeps keeps' live handed from to (bodies.Release tenure) looks same says =
+    if_master to (λ m. ReleaseFits row (keeps m row.tablet).handover (live m) m tenure)
+    (λ m. ReleaseFits row (keeps' m row.tablet).handover (live m) m tenure)
+    (λ m. release_looks row (keeps m row.tablet) (keeps' m row.tablet) (live m) m tenure (looks.tablets m row.tablet)) says
+says_of_looks row logs logs' written written' stored keeps keeps' live handed from to (bodies.Rebuild rebuild) looks same says =
+    if_master to (λ m. RebuildFits row (keeps m row.tablet).handover (live m) m rebuild)
+    (λ m. RebuildFits row (keeps' m row.tablet).handover (live m) m rebuild)
+    (λ m. rebuild_looks row (keeps m row.tablet) (keeps' m row.tablet) (live m) m rebuild (looks.tablets m row.tablet)) says
+says_of_looks row logs logs' written written' stored keeps keeps' live handed from to (bodies.Copy copy) looks same says = λ is.
+    copy_looks row.phase logs logs' stored live copy (same copy.master) (says is)
+says_of_looks row logs logs' written written' stored keeps keeps' live handed from to (bodies.Rebuilt rebuilt) looks same says =
+    by_master from
+    (λ m. IsOf row rebuilt.tenure
+    → RebuiltIn row.phase (keeps m row.tablet) (written m).committed row.term m rebuilt)
+    (λ m. IsOf row rebuilt.tenure
+    → RebuiltIn row.phase (keeps' m row.tablet) (written' m).committed row.term m rebuilt)
+    (λ m told is.
+    rebuilt_looks row.phase (keeps m row.tablet) (keeps' m row.tablet) (written m).committed (written' m).committed row.term m
+    rebuilt (looks.tablets m row.tablet) (looks.committed m) (told is)) says
+says_of_looks row logs logs' written written' stored keeps keeps' live handed from to body looks same says = says
+
+-- each tablet looks as before, as much is committed and counts as before, and backups are known to hold as much
+pub messages_looks : (rows : List Row) (logs logs' : ℕ → Log) (written written' : ℕ → Written) (stored : ℕ → Segments) (keeps keeps' : ℕ → ℕ → Tablet) (live : ℕ → Bool) (handed : Table Handed) (journal : List Placed) (wire : Table Message) → Messages rows logs written stored keeps live handed journal wire → AllLook written written' keeps keeps' → ((q : ℕ) → (logs' q).known ≡ (logs q).known) → Messages rows logs' written' stored keeps' live handed journal wire
+messages_looks rows logs logs' written written' stored keeps keeps' live handed journal wire old looks same = record {
+  of_rows =
+      each_weaker (λ n m. All (λ row. SaysOf row logs written stored keeps live handed m.from m.to m.body) rows)
+      (λ n m. All (λ row. SaysOf row logs' written' stored keeps' live handed m.from m.to m.body) rows) wire
+      (λ n m.
+      All-weaker (λ row. SaysOf row logs written stored keeps live handed m.from m.to m.body)
+      (λ row. SaysOf row logs' written' stored keeps' live handed m.from m.to m.body)
+      (λ row.
+      says_of_looks row logs logs' written written' stored keeps keeps' live handed m.from m.to m.body looks same) rows)
+      old.of_rows;
+  others = old.others;
+}
+
+-- a tablet that closes is frozen
+pub messages_frozen : (rows : List Row) (logs : ℕ → Log) (written : ℕ → Written) (stored : ℕ → Segments) (keeps now : ℕ → ℕ → Tablet) (live : ℕ → Bool) (handed : Table Handed) (journal : List Placed) (wire : Table Message) (master number : ℕ) → Messages rows logs written stored keeps live handed journal wire → (keeps master number).handover.role ≡ roles.Closing → Freezes master number keeps now → Messages rows logs written stored now live handed journal wire
+messages_frozen rows logs written stored keeps now live handed journal wire master number old closing change =
+    messages_looks rows logs logs written written stored keeps now live handed journal wire old
+    (record {
+      tablets = each_looks_frozen master number keeps now closing change;
+      committed = λ q. refl;
+      truths = λ range member. refl;
+    })
+    (λ q. refl)
+
+-- a write is staged at a master that answers calls for its key
+pub messages_staged : (rows : List Row) (before after : Lane) (stored : ℕ → Segments) (live : ℕ → Bool) (handed : Table Handed) (journal : List Placed) (wire : Table Message) (alive : Bool) (master : ℕ) (row : Row) (call : Call) (item : Held) → Messages rows before.logs before.written stored before.keeps live handed journal wire → Stages rows before after master row call item → IsServed rows (before.keeps master) alive master item.table item.key → Messages rows after.logs after.written stored after.keeps live handed journal wire
+messages_staged rows before after stored live handed journal wire alive master row call item old stages served =
+    messages_looks rows before.logs after.logs before.written after.written stored before.keeps after.keeps live handed journal wire old
+    (staged_looks rows before after master row call item stages alive served)
+    (staged_known rows before after master row call item stages)

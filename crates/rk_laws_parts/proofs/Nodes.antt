@@ -1,0 +1,18 @@
+-- Laws of the part Nodes: masters of the same number that know of the same backups.
+use Rattle.std.specs.Prelude.{◌≡◌, ℕ, Bool, List, length}
+use Rattle.std.proofs.Common.{ap, ◌∙◌}
+use Rattle.rk_log.specs.Known.{Known}
+use Rattle.rk_tablet_map.specs.declared.row.Row.{Row}
+use Rattle.rk_world.specs.Master.{Master}
+use Rattle.rk_world.specs.Sound.Nodes.{Nodes}
+
+-- each master is of its old number and knows of as many backups
+pub nodes_staged : (masters masters' : ℕ → Master) (count backups : ℕ) (rows : List Row) (noticed : List ℕ) (live : ℕ → Bool) → Nodes masters count backups rows noticed live → ((q : ℕ) → (masters' q).number ≡ (masters q).number) → ((q : ℕ) → (masters' q).log.known ≡ (masters q).log.known) → Nodes masters' count backups rows noticed live
+nodes_staged masters masters' count backups rows noticed live old number_same known_same = record {
+  numbered = λ master. number_same master ∙ old.numbered master;
+  backed = old.backed;
+  known = λ master there. ap (λ (known : List Known). length known) (known_same master) ∙ old.known master there;
+  named = old.named;
+  crashed = old.crashed;
+  left = old.left;
+}

@@ -1,0 +1,166 @@
+-- What a master that rebuilds has, once a write was staged.
+use Rattle.rk_world.specs.Sound.Small.{as_frozen}
+use Rattle.std.proofs.lemmas.Option.{IfSome_then}
+use Rattle.std.proofs.Common.{refl, ◌≡◌, ℕ, ◌≤◌, ◌<◌, ◌-◌, suc, true, false, List, [], ◌∷◌, ◌++◌, length, Some, None, sym, ap, ◌∙◌, subst, ⊎_elim, arith}
+use Rattle.std.proofs.lemmas.Bool.{cases_lt, eq-eqb, false≢true, or_left, or_right}
+use Rattle.std.proofs.lemmas.List.{take-append-le, drop-append-le, length-append, length-drop}
+use Rattle.std.proofs.lemmas.List.Elements.{All-contains}
+use Rattle.std.specs.Prelude.{drop, filter, take, ◌==◌, Option, IfSome, None}
+use Rattle.std.specs.List.{All, Contains, flat_map}
+use Rattle.rk_types.specs.declared.held.Held.{Held}
+use Rattle.rk_types.specs.declared.lineage.Member.{Member}
+use Rattle.rk_types.specs.declared.range.Range.{Range}
+use Rattle.rk_entry.specs.declared.entry.Entry.{Entry}
+use Rattle.rk_entry.specs.declared.entry.Entry.TheVariants as entries
+use Rattle.rk_log.specs.Known.{Known}
+use Rattle.rk_table.specs.Items.{is_in}
+use Rattle.rk_tablet_map.specs.declared.row.Row.{Row}
+use Rattle.rk_transfer.specs.Handover.{is_serving}
+use Rattle.rk_transfer.specs.declared.role.Role.{Role}
+use Rattle.rk_transfer.specs.declared.role.Role.TheVariants as roles
+use Rattle.rk_world.specs.Coordinator.{is_member}
+use Rattle.rk_world.specs.Ends.{items_of}
+use Rattle.rk_world.specs.Master.{touches}
+use Rattle.rk_world.specs.Material.{Mark, has_key, is_marked, material_of, named, side_entries, unmarked_from}
+use Rattle.rk_world.specs.Requests.{counted_up}
+use Rattle.rk_world.specs.Sound.Rebuilds.{IsMergedOf, merged_place, IsPieceOf, IsRebuilder, IsRebuildTable, named_items, committed_from}
+use Rattle.rk_world.specs.Sound.Receives.{IsFound}
+use Rattle.rk_world.specs.Tablet.{Tablet}
+use Rattle.rk_world.specs.Written.{Written, committed_entries, last_of}
+use Rattle.rk_laws_parts.proofs.Changing.{with_one_more}
+use Rattle.rk_laws_parts.proofs.Places.{behind_none}
+use Rattle.rk_laws_parts.proofs.Shares.{named_same, unmarked_from_last}
+use Rattle.rk_world.specs.Rebuilds.{own_place}
+
+-- the last member of a lineage is one of it
+pub last_member : (lineage : List Member) (last : Member) (master : ℕ) → last_of lineage ≡ Some last → last.master ≡ master → is_member lineage master ≡ true
+last_member [] last master is here = absurd (cc)
+last_member (only ∷ []) last master is here =
+    let same : only ≡ last = cc is in
+    or_left (only.master == master) false (eq-eqb only.master master (ap (λ (m : Member). m.master) same ∙ here))
+last_member (first ∷ next ∷ more) last master is here =
+    or_right (first.master == master) (is_member (next ∷ more) master) (last_member (next ∷ more) last master is here)
+
+-- a piece of a list stands there with more behind the list
+pub piece_push : {X : Type 0} (first past : ℕ) (xs ys : List X) → past ≤ length xs → take (past - first) (drop first (xs ++ ys)) ≡ take (past - first) (drop first xs)
+piece_push first past xs ys within =
+    ⊎_elim
+    (λ (beyond : length xs < first).
+    let none : past - first ≡ 0 = omega arith in
+    ap (λ (n : ℕ). take n (drop first (xs ++ ys))) none ∙ sym (ap (λ (n : ℕ). take n (drop first xs)) none))
+    (λ (inside : first ≤ length xs).
+    let size = length-drop first xs in
+    ap (take (past - first)) (drop-append-le first xs ys inside)
+    ∙ take-append-le (past - first) (drop first xs) ys (omega (arith, size)))
+    (cases_lt (length xs) first)
+
+-- the piece of a rebuild stands where it did, and still nothing of its range stands behind it
+piece_staged : (number from : ℕ) (tablet : Tablet) (w : Written) (item : Held) (entry : ℕ) → All (λ mark. mark.past ≤ length w.entries) w.marks → has_key tablet.handover.range item.table item.key ≡ false → IsPieceOf number from tablet w entry → IsPieceOf number from tablet (with_one_more w (entries.Held item)) entry
+piece_staged number from tablet w item entry marked outside piece =
+    let mark : Mark = record { first = piece.first; past = suc entry; tablet = number; term = tablet.handover.term } in
+    let within : suc entry ≤ length w.entries = All-contains (λ (mark : Mark). mark.past ≤ length w.entries) w.marks mark marked piece.marked in
+    record {
+      first = piece.first;
+      behind = piece.behind;
+      marked = piece.marked;
+      alone = piece.alone;
+      stands = piece_push piece.first (suc entry) w.entries (entries.Held item ∷ []) within ∙ piece.stands;
+      last = behind_none (touches tablet.handover.range) w.entries (suc entry) (entries.Held item) piece.last outside;
+    }
+
+-- what was merged is what it was
+merged_staged : (number from : ℕ) (own : List Entry) (tablet : Tablet) (w : Written) (item : Held) (entry : ℕ) → All (λ mark. mark.past ≤ length w.entries) w.marks → has_key tablet.handover.range item.table item.key ≡ false → IsMergedOf number from own tablet w entry → IsMergedOf number from own tablet (with_one_more w (entries.Held item)) entry
+merged_staged number from own tablet w item entry marked outside merged = record {
+  gathered_all = merged.gathered_all;
+  members = merged.members;
+  merged = merged.merged;
+  piece = piece_staged number from tablet w item entry marked outside merged.piece;
+  counter = merged.counter;
+  completions = merged.completions;
+}
+
+-- a role that serves has merged nothing
+serving_merged : (role : Role) → is_serving role ≡ true → merged_place role ≡ None
+serving_merged (roles.Rebuilding from entry) serves = absurd (cc)
+serving_merged role serves = refl
+
+-- items are the truth's, and found in a table
+abbrev AreShared : List Entry → List Held → List Held → Type 0
+AreShared truth table items = (item : Held) → Contains items item → Contains (items_of truth) item × IsFound table item
+
+-- the committed entries are what they were
+committed_staged : (w : Written) (item : Held) → w.committed ≤ length w.entries → committed_entries (with_one_more w (entries.Held item)) ≡ committed_entries w
+committed_staged w item fits = take-append-le w.committed w.entries (entries.Held item ∷ []) fits
+
+-- the table of a master that rebuilds has what is committed, as before
+table_staged : (range : Range) (truth : List Entry) (from : ℕ) (w : Written) (item : Held) (table : List Held) → w.committed ≤ length w.entries → IsRebuildTable range truth (committed_from range from w) table → IsRebuildTable range truth (committed_from range from (with_one_more w (entries.Held item))) table
+table_staged range truth from w item table fits had =
+    subst (λ (sure : List Entry). IsRebuildTable range truth (material_of range (side_entries w.sides) (drop from sure)) table)
+    (sym (committed_staged w item fits)) had
+
+-- an item names no side segment
+named_staged : (range : Range) (from : ℕ) (w : Written) (item : Held) → from ≤ length w.entries → named_items range from (with_one_more w (entries.Held item)) ≡ named_items range from w
+named_staged range from w item within =
+    ap (λ (segments : List ℕ). filter (is_in range) (items_of (flat_map (side_entries w.sides) segments)))
+    (ap (named range) (unmarked_from_last w.marks from w.entries (entries.Held item) within)
+    ∙ named_same range item (unmarked_from w.marks from w.entries) (is_marked w.marks (length w.entries)))
+
+-- so the side segments that a master names have what they had
+sides_staged : (range : Range) (truth : List Entry) (from : ℕ) (w : Written) (item : Held) (table : List Held) → from ≤ length w.entries → AreShared truth table (named_items range from w) → AreShared truth table (named_items range from (with_one_more w (entries.Held item)))
+sides_staged range truth from w item table within shared =
+    subst (AreShared truth table) (sym (named_staged range from w item within)) shared
+
+-- and a place of its log is one of the longer one
+placed_staged : (from : ℕ) (w : Written) (item : Held) → from ≤ length w.entries → from ≤ length (w.entries ++ entries.Held item ∷ [])
+placed_staged from w item within = omega (arith, within, length-append w.entries (entries.Held item ∷ []))
+
+-- a master that rebuilds a row, and wrote an item of another one
+pub rebuilder_apart : (row : Row) (lineage : List Member) (master : ℕ) (truth own : List Entry) (known : ℕ → Known) (stored : ℕ → ℕ → List ℕ) (w : Written) (tablet : Tablet) (table : List Held) (item : Held) → w.committed ≤ length w.entries → All (λ mark. mark.past ≤ length w.entries) w.marks → has_key row.range item.table item.key ≡ false → IsRebuilder row lineage master truth own known stored w tablet table → IsRebuilder row lineage master truth own known stored (with_one_more w (entries.Held item)) tablet table
+rebuilder_apart row lineage master truth own known stored w tablet table item fits marked outside was =
+    let from : ℕ = own_place tablet.handover.role in
+    record {
+      range_is = was.range_is;
+      gather = was.gather;
+      read = was.read;
+      placed = placed_staged from w item was.placed;
+      merged =
+          IfSome_then (merged_place tablet.handover.role) was.merged
+          (λ entry merged.
+          merged_staged row.tablet from own tablet w item entry marked
+          (ap (λ (range : Range). has_key range item.table item.key) was.range_is ∙ outside) merged);
+      items = table_staged row.range truth from w item table fits was.items;
+      sides = sides_staged row.range truth from w item table was.placed was.sides;
+      outside = was.outside;
+    }
+
+-- a master that is to rebuild the row and still serves it, as a member of its lineage
+pub rebuilder_serving : (row : Row) (lineage : List Member) (master : ℕ) (truth own own' : List Entry) (known : ℕ → Known) (stored : ℕ → ℕ → List ℕ) (w : Written) (tablet : Tablet) (table : List Held) (item : Held) → w.committed ≤ length w.entries → is_serving tablet.handover.role ≡ true → is_member lineage master ≡ true → IsRebuilder row lineage master truth own known stored w tablet table → IsRebuilder row lineage master truth own' known stored (with_one_more w (entries.Held item)) (counted_up tablet) table
+rebuilder_serving row lineage master truth own own' known stored w tablet table item fits serves member was =
+    let from : ℕ = own_place tablet.handover.role in
+    record {
+      range_is = was.range_is;
+      gather = was.gather;
+      read = was.read;
+      placed = placed_staged from w item was.placed;
+      merged =
+          subst (λ (place : Option ℕ). IfSome place (λ entry. IsMergedOf row.tablet from own' (counted_up tablet) (with_one_more w (entries.Held item)) entry))
+          (sym (serving_merged tablet.handover.role serves)) tt;
+      items = table_staged row.range truth from w item table fits was.items;
+      sides = sides_staged row.range truth from w item table was.placed was.sides;
+      outside = λ apart. absurd (false≢true (sym apart ∙ member));
+    }
+
+-- a master that is to rebuild a row, with a tablet that froze
+pub rebuilder_frozen : (row : Row) (lineage : List Member) (master : ℕ) (truth : List Entry) (own : ℕ → List Entry) (known : ℕ → Known) (stored : ℕ → ℕ → List ℕ) (w : Written) (tablet : Tablet) (table : List Held) → tablet.handover.role ≡ roles.Closing → IsRebuilder row lineage master truth (own (own_place tablet.handover.role)) known stored w tablet table → IsRebuilder row lineage master truth (own 0) known stored w (as_frozen tablet) table
+rebuilder_frozen row lineage master truth own known stored w tablet table closing was =
+    let first : own_place tablet.handover.role ≡ 0 = ap own_place closing in
+    record {
+      range_is = was.range_is;
+      gather = was.gather;
+      read = was.read;
+      placed = subst (λ (n : ℕ). n ≤ length w.entries) first was.placed;
+      merged = tt;
+      items = subst (λ (n : ℕ). IsRebuildTable row.range truth (committed_from row.range n w) table) first was.items;
+      sides = subst (λ (n : ℕ). AreShared truth table (named_items row.range n w)) first was.sides;
+      outside = λ apart. subst (λ (n : ℕ). own n ≡ []) first (was.outside apart);
+    }

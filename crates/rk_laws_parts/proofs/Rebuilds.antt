@@ -1,0 +1,290 @@
+-- Laws of the part Rebuilds: what a frozen tablet and a staged write keep of it.
+use Rattle.rk_log.specs.Known.{Known}
+use Rattle.std.proofs.Common.{◌≡◌, ℕ, ◌≤◌, Bool, true, false, List, [], ◌∷◌, ◌++◌, length, Some, refl, sym, ap, ◌∙◌, subst, ⊎_elim}
+use Rattle.std.proofs.lemmas.Bool.{cases_eq, false≢true}
+use Rattle.std.proofs.lemmas.List.Elements.{All-weaker, Contains-get_or}
+use Rattle.std.specs.Prelude.{slice_index_or, drop, take}
+use Rattle.std.specs.List.{All, Contains}
+use Rattle.rk_types.specs.declared.call.Call.{Call}
+use Rattle.rk_types.specs.declared.held.Held.{Held}
+use Rattle.rk_types.specs.declared.history.Placed.{Placed}
+use Rattle.rk_types.specs.declared.lineage.Member.{Member}
+use Rattle.rk_types.specs.declared.range.Range.{Range}
+use Rattle.rk_entry.specs.declared.entry.Entry.{Entry}
+use Rattle.rk_log.specs.Log.{Log, known_of, with_entry}
+use Rattle.rk_message.specs.declared.message.Message.{Message}
+use Rattle.rk_outside.specs.Segments.{Segments}
+use Rattle.rk_tablet_map.specs.Phase.{lineage_of, member as member_at}
+use Rattle.rk_tablet_map.specs.declared.phase.Phase.{Phase}
+use Rattle.rk_tablet_map.specs.declared.phase.Phase.TheVariants.{Owned, Opening, Moving, Rebuilding}
+use Rattle.rk_tablet_map.specs.declared.row.Row.{Row}
+use Rattle.rk_transfer.specs.Handover.{is_serving}
+use Rattle.rk_world.specs.Coordinator.{is_member}
+use Rattle.rk_world.specs.Material.{Mark, counting, has_key, unmarked_from}
+use Rattle.rk_world.specs.Requests.{counted_up}
+use Rattle.rk_world.specs.Sound.Changes.{IsServed}
+use Rattle.rk_world.specs.Sound.Logs.{Logs, stored_of}
+use Rattle.rk_world.specs.Sound.Rebuilds.{Rebuilds, HasOwnRange, IsOfRange, IsRebuilder, MarkFits, MarkedFit, READ_BACKUP, TellNoMore, has_merged, marked_entries, member_marked, member_stored, stored_count, RowIsRebuilt}
+use Rattle.rk_world.specs.Sound.Rows.{Rows, AreApart}
+use Rattle.rk_world.specs.Sound.Small.{as_frozen}
+use Rattle.rk_world.specs.Tables.{Table}
+use Rattle.rk_world.specs.Tablet.{Tablet}
+use Rattle.rk_world.specs.Written.{Written, member_material, last_of}
+use Rattle.rk_laws_parts.proofs.Changing.{Lane, Freezes, Stages, with_one_more}
+use Rattle.rk_laws_parts.proofs.Freezing.{froze_cases, froze_same}
+use Rattle.rk_laws_parts.proofs.Grows.{Extends, counting_extends, extends_behind, extends_itself, stored_push, take_extends, tells_extended}
+use Rattle.rk_laws_parts.proofs.Differs.{differs_same}
+use Rattle.rk_laws_parts.proofs.Rebuilders.{last_member, piece_push, rebuilder_apart, rebuilder_serving, rebuilder_frozen}
+use Rattle.rk_laws_parts.proofs.Staged.{counted_same, first_apart, formed_apart, row_cases, written_cases, written_grown}
+use Rattle.rk_entry.specs.declared.entry.Entry.TheVariants as entries
+use Rattle.rk_transfer.specs.declared.role.Role.TheVariants as roles
+use Rattle.rk_laws_parts.proofs.Committed.{committed_within}
+use Rattle.rk_world.specs.Rebuilds.{own_place}
+
+-- a master that rebuilds a row, by what masters have written and backups store
+abbrev IsRebuilderIn : (ℕ → Log) → (ℕ → Written) → (ℕ → Segments) → Row → List Member → ℕ → List Entry → Tablet → List Held → Type 0
+IsRebuilderIn logs written stored row lineage master truth tablet table =
+    IsRebuilder row lineage master truth (member_material written row.range (member_at master (own_place tablet.handover.role)))
+    (λ q. known_of (logs q) READ_BACKUP) (λ q. stored_of stored q READ_BACKUP) (written master) tablet table
+
+-- a row that is rebuilt
+rebuilt_frozen : (row : Row) (phase : Phase) (truth : List Entry) (logs : ℕ → Log) (written : ℕ → Written) (stored : ℕ → Segments) (keeps now : ℕ → ℕ → Tablet) (tables : ℕ → List Held) (live : ℕ → Bool) (master number : ℕ) → (keeps master number).handover.role ≡ roles.Closing → Freezes master number keeps now → RowIsRebuilt row phase truth logs written stored keeps tables live → RowIsRebuilt row phase truth logs written stored now tables live
+rebuilt_frozen row (Owned owner from) truth logs written stored keeps now tables live master number closing froze fit = tt
+rebuilt_frozen row (Opening source sfrom target dfrom) truth logs written stored keeps now tables live master number closing froze fit = tt
+rebuilt_frozen row (Moving source sfrom target dfrom) truth logs written stored keeps now tables live master number closing froze fit = tt
+rebuilt_frozen row (Rebuilding lineage to) truth logs written stored keeps now tables live master number closing froze fit = (
+  λ term.
+      ⊎_elim
+      (λ (same : now to row.tablet ≡ keeps to row.tablet).
+      subst (λ (tablet : Tablet). IsRebuilderIn logs written stored row lineage to truth tablet (tables to)) (sym same)
+      (fit.0 (sym (ap (λ (tablet : Tablet). tablet.handover.term) same) ∙ term)))
+      (λ (at : (to ≡ master) × (row.tablet ≡ number) × (now to row.tablet ≡ as_frozen (keeps to row.tablet))).
+      subst (λ (tablet : Tablet). IsRebuilderIn logs written stored row lineage to truth tablet (tables to)) (sym at.2)
+      (rebuilder_frozen row lineage to truth (λ from. member_material written row.range (member_at to from)) (λ q. known_of (logs q) READ_BACKUP)
+      (λ q. stored_of stored q READ_BACKUP) (written to) (keeps to row.tablet) (tables to)
+      (ap (λ (n : ℕ). (keeps n row.tablet).handover.role) at.0 ∙ ap (λ (n : ℕ). (keeps master n).handover.role) at.1 ∙ closing)
+      (fit.0 (sym (ap (λ (tablet : Tablet). tablet.handover.term) at.2) ∙ term))))
+      (froze_cases keeps now master number froze to row.tablet),
+  fit.1,
+)
+
+-- a mark fits a tablet of the same term that has merged as much
+pub mark_same : (row : Row) (master : ℕ) (old new : Tablet) (live : Bool) (mark : Mark) → new.handover.term ≡ old.handover.term → has_merged new.handover.role ≡ has_merged old.handover.role → MarkFits row master old live mark → MarkFits row master new live mark
+mark_same row master old new live mark term merged fit = record {
+  rebuilt = fit.rebuilt;
+  within = fit.within;
+  present = fit.present;
+  by_rebuilder = λ its. let by = fit.by_rebuilder its in (by.0, term ∙ by.1, merged ∙ by.2);
+}
+
+-- a tablet freezes
+pub rebuilds_frozen : (rows : List Row) (truths : Row → List Entry) (logs : ℕ → Log) (written : ℕ → Written) (stored : ℕ → Segments) (keeps now : ℕ → ℕ → Tablet) (tables : ℕ → List Held) (live : ℕ → Bool) (master number : ℕ) → Rebuilds rows truths logs written stored keeps tables live → (keeps master number).handover.role ≡ roles.Closing → Freezes master number keeps now → Rebuilds rows truths logs written stored now tables live
+rebuilds_frozen rows truths logs written stored keeps now tables live master number old closing froze = record {
+  rebuilt = λ k d within.
+      let row : Row = slice_index_or rows k d in
+      rebuilt_frozen row row.phase (truths row) logs written stored keeps now tables live master number closing froze (old.rebuilt k d within);
+  marks = λ q k d within m e inside its.
+      let row : Row = slice_index_or rows k d in
+      mark_same row q (keeps q row.tablet) (now q row.tablet) (live q) (slice_index_or (written q).marks m e)
+      (froze_same (λ (tablet : Tablet). tablet.handover.term) (λ tablet role. refl) keeps now master number closing froze q row.tablet)
+      (froze_same (λ (tablet : Tablet). has_merged tablet.handover.role) (λ tablet role. sym (ap has_merged role)) keeps now master number closing froze q row.tablet)
+      (old.marks q k d within m e inside its);
+  pieces = old.pieces;
+}
+
+module _ (rows : List Row) (before after : Lane) (stored : ℕ → Segments) (tables : ℕ → List Held) (live : ℕ → Bool) (master : ℕ) (row : Row) (call : Call) (item : Held) (last : Member) (stages : Stages rows before after master row call item) (is_last : last_of (lineage_of row.phase) ≡ Some last) (here : last.master ≡ master) (lives : live master ≡ true) (serves : is_serving (before.keeps master row.tablet).handover.role ≡ true) (fits : (before.written master).committed ≤ length (before.written master).entries) where
+  -- what is known of backups is what it was
+  known_staged : (q : ℕ) → known_of (after.logs q) READ_BACKUP ≡ known_of (before.logs q) READ_BACKUP
+  known_staged q = differs_same (λ (log : Log). known_of log READ_BACKUP) (λ (log : Log). with_entry log (entries.Held item)) (λ log. refl) before.logs after.logs master stages.logs_differ q
+
+  -- so what a statement says of it stays true
+  of_known : (P : (ℕ → Known) → Type 0) → P (λ q. known_of (before.logs q) READ_BACKUP) → P (λ q. known_of (after.logs q) READ_BACKUP)
+  of_known P holds = subst P (sym (λ i q. known_staged q i)) holds
+
+  -- what is committed at the master stands in its log
+  fits_at : (q : ℕ) → q ≡ master → (before.written q).committed ≤ length (before.written q).entries
+  fits_at q at = subst (λ (n : ℕ). (before.written n).committed ≤ length (before.written n).entries) (sym at) fits
+
+  -- a master goes on to rebuild a row whose range has not the item, or for which it staged nothing
+  rebuilder_still : (other : Row) (lineage : List Member) (to : ℕ) (truth : List Entry) → All (λ mark. mark.past ≤ length (before.written to).entries) (before.written to).marks → (to ≡ master → has_key other.range item.table item.key ≡ false) → after.keeps to other.tablet ≡ before.keeps to other.tablet → IsRebuilderIn before.logs before.written stored other lineage to truth (before.keeps to other.tablet) (tables to) → IsRebuilderIn after.logs after.written stored other lineage to truth (after.keeps to other.tablet) (tables to)
+  rebuilder_still other lineage to truth marked apart same old =
+      let tablet : Tablet = before.keeps to other.tablet in
+      let own : List Entry = member_material before.written other.range (member_at to (own_place tablet.handover.role)) in
+      let GoesOn : Written → Type 0 = λ (w : Written).
+      IsRebuilder other lineage to truth own (λ q. known_of (before.logs q) READ_BACKUP) (λ q. stored_of stored q READ_BACKUP) w tablet
+      (tables to) in
+      subst (λ (tablet : Tablet). IsRebuilderIn after.logs after.written stored other lineage to truth tablet (tables to)) (sym same)
+      (subst
+      (λ (own : List Entry). IsRebuilder other lineage to truth own (λ q. known_of (after.logs q) READ_BACKUP)
+      (λ q. stored_of stored q READ_BACKUP) (after.written to) tablet (tables to))
+      (sym (stages.material_same other.range (member_at to (own_place tablet.handover.role)) apart))
+      (of_known
+      (λ known. IsRebuilder other lineage to truth own known (λ q. stored_of stored q READ_BACKUP) (after.written to) tablet (tables to))
+      (⊎_elim
+      (λ (same : after.written to ≡ before.written to). subst GoesOn (sym same) old)
+      (λ (at : (to ≡ master) × (after.written to ≡ with_one_more (before.written to) (entries.Held item))).
+      subst GoesOn (sym at.1)
+      (rebuilder_apart other lineage to truth _ _ _ (before.written to) tablet (tables to) item (fits_at to at.0) marked (apart at.0) old))
+      (written_cases rows before after master row call item stages to))))
+
+  -- a master goes on to serve the row that it is to rebuild
+  rebuilder_here : (other : Row) (lineage : List Member) (to : ℕ) (truth : List Entry) → other ≡ row → to ≡ master → lineage_of other.phase ≡ lineage → IsRebuilderIn before.logs before.written stored other lineage to truth (before.keeps to other.tablet) (tables to) → IsRebuilderIn after.logs after.written stored other lineage to truth (after.keeps to other.tablet) (tables to)
+  rebuilder_here other lineage to truth its at is old =
+      let tablet : before.keeps to other.tablet ≡ before.keeps master row.tablet =
+      ap (λ (n : ℕ). before.keeps n other.tablet) at ∙ ap (λ (r : Row). before.keeps master r.tablet) its in
+      let tablet' : after.keeps to other.tablet ≡ after.keeps master row.tablet =
+      ap (λ (n : ℕ). after.keeps n other.tablet) at ∙ ap (λ (r : Row). after.keeps master r.tablet) its in
+      let counted : after.keeps to other.tablet ≡ counted_up (before.keeps to other.tablet) =
+      tablet' ∙ stages.keeps_differ.here ∙ sym (ap counted_up tablet) in
+      let member : is_member lineage to ≡ true =
+      last_member lineage last to
+      (ap last_of (sym (sym (ap (λ (r : Row). lineage_of r.phase) its) ∙ is)) ∙ is_last) (here ∙ sym at) in
+      let more : after.written to ≡ with_one_more (before.written to) (entries.Held item) =
+      ap after.written at ∙ stages.written_differ.here ∙ sym (ap (λ (n : ℕ). with_one_more (before.written n) (entries.Held item)) at) in
+      let own : List Entry = member_material after.written other.range (member_at to (own_place (before.keeps to other.tablet).handover.role)) in
+      subst (λ (t : Tablet). IsRebuilderIn after.logs after.written stored other lineage to truth t (tables to)) (sym counted)
+      (of_known
+      (λ known. IsRebuilder other lineage to truth own known (λ q. stored_of stored q READ_BACKUP) (after.written to)
+      (counted_up (before.keeps to other.tablet)) (tables to))
+      (subst
+      (λ (w : Written). IsRebuilder other lineage to truth own (λ q. known_of (before.logs q) READ_BACKUP)
+      (λ q. stored_of stored q READ_BACKUP) w (counted_up (before.keeps to other.tablet)) (tables to))
+      (sym more)
+      (rebuilder_serving other lineage to truth _ own _ _ (before.written to) (before.keeps to other.tablet) (tables to) item (fits_at to at)
+      (ap (λ (t : Tablet). is_serving t.handover.role) tablet ∙ serves) member old)))
+
+  -- a master that rebuilds a row
+  rebuilder_staged : (other : Row) → Contains rows other → (lineage : List Member) (to : ℕ) (truth : List Entry) → All (λ mark. mark.past ≤ length (before.written to).entries) (before.written to).marks → lineage_of other.phase ≡ lineage → IsRebuilderIn before.logs before.written stored other lineage to truth (before.keeps to other.tablet) (tables to) → IsRebuilderIn after.logs after.written stored other lineage to truth (after.keeps to other.tablet) (tables to)
+  rebuilder_staged other has lineage to truth marked is old =
+      ⊎_elim
+      (λ (at : to ≡ master).
+      ⊎_elim
+      (λ (its : other ≡ row). rebuilder_here other lineage to truth its at is old)
+      (λ (apart : other.tablet ≡ row.tablet → ⊥).
+      rebuilder_still other lineage to truth marked (λ at. stages.outside other has apart) (stages.keeps_differ.others to other.tablet (λ at its. apart its)) old)
+      (row_cases rows before after master row call item stages other has))
+      (λ (apart : to ≡ master → ⊥).
+      rebuilder_still other lineage to truth marked (λ at. absurd (apart at)) (stages.keeps_differ.others to other.tablet (λ at its. apart at)) old)
+      (cases_eq to master)
+
+  -- a dead master is not the one that staged
+  dead_apart : (q : ℕ) → live q ≡ false → q ≡ master → ⊥
+  dead_apart q dead at = false≢true (sym dead ∙ ap live at ∙ lives)
+
+  -- what a dead master has marked
+  marked_dead : (range : Range) (member : Member) → live member.master ≡ false → member_marked after.written range member ≡ member_marked before.written range member
+  marked_dead range member dead =
+      ap (λ (w : Written). counting range (marked_entries w.marks member.from (drop member.from w.entries)))
+      (stages.written_differ.others member.master (dead_apart member.master dead))
+
+  -- and all that counts of it
+  material_dead : (range : Range) (member : Member) → live member.master ≡ false → member_material after.written range member ≡ member_material before.written range member
+  material_dead range member dead = stages.material_same range member (λ at. absurd (dead_apart member.master dead at))
+
+  -- what a backup stores of a member only grows
+  stored_staged : (range : Range) (member : Member) → Extends (member_stored before.logs before.written stored range member) (member_stored after.logs after.written stored range member)
+  stored_staged range member =
+      let count : Log → ℕ = λ (log : Log). stored_count log (stored_of stored member.master READ_BACKUP) in
+      let counted : Log → Written → List Entry = λ (log : Log) (w : Written). counting range (unmarked_from w.marks member.from (take (count log) w.entries)) in
+      let log : Log = before.logs member.master in
+      let w : Written = before.written member.master in
+      ⊎_elim
+      (λ (at : member.master ≡ master).
+      let grown : Extends (counted log w) (counted (with_entry log (entries.Held item)) (with_one_more w (entries.Held item))) =
+      counting_extends range w.marks member.from (take (count log) w.entries) (take (count (with_entry log (entries.Held item))) (w.entries ++ entries.Held item ∷ []))
+      (take_extends (count log) (count (with_entry log (entries.Held item))) w.entries (entries.Held item ∷ []) (stored_push log (entries.Held item) (stored_of stored member.master READ_BACKUP))) in
+      let log_is : with_entry log (entries.Held item) ≡ after.logs member.master =
+      ap (λ (n : ℕ). with_entry (before.logs n) (entries.Held item)) at ∙ sym stages.logs_differ.here ∙ ap after.logs (sym at) in
+      let written_is : with_one_more w (entries.Held item) ≡ after.written member.master =
+      ap (λ (n : ℕ). with_one_more (before.written n) (entries.Held item)) at ∙ sym stages.written_differ.here ∙ ap after.written (sym at) in
+      subst (λ (new : Log). Extends (counted log w) (counted new (after.written member.master))) log_is
+      (subst (λ (new : Written). Extends (counted log w) (counted (with_entry log (entries.Held item)) new)) written_is grown))
+      (λ (apart : member.master ≡ master → ⊥).
+      subst (λ (new : Log). Extends (counted log w) (counted new (after.written member.master))) (sym (stages.logs_differ.others member.master apart))
+      (subst (λ (new : Written). Extends (counted log w) (counted log new)) (sym (stages.written_differ.others member.master apart)) (extends_itself (counted log w))))
+      (cases_eq member.master master)
+
+  -- what dead members wrote for a rebuild tells no more than before
+  marked_staged : (other : Row) → Contains rows other → (lineage : List Member) → AreApart lineage → lineage_of other.phase ≡ lineage → MarkedFit before.logs before.written stored live other.range lineage → MarkedFit after.logs after.written stored live other.range lineage
+  marked_staged other has [] apart is fit = tt
+  marked_staged other has (only ∷ []) apart is fit = λ dead.
+      subst (λ (list : List Entry). TellNoMore list (member_material after.written other.range only)) (sym (marked_dead other.range only dead))
+      (subst (λ (list : List Entry). TellNoMore (member_marked before.written other.range only) list) (sym (material_dead other.range only dead)) (fit dead))
+  marked_staged other has (first ∷ second ∷ more) apart is fit =
+      let range : Range = other.range in
+      let material : member_material after.written range first ≡ member_material before.written range first =
+      stages.material_same range first
+      (first_apart rows before after master row call item stages last is_last here other has first second more apart is) in (
+        λ dead.
+            subst (λ (list : List Entry). TellNoMore list (member_material after.written range first ++ member_stored after.logs after.written stored range second)) (sym (marked_dead range first dead))
+            (subst (λ (list : List Entry). TellNoMore (member_marked before.written range first) (list ++ member_stored after.logs after.written stored range second)) (sym material)
+            (tells_extended (member_marked before.written range first) (member_material before.written range first ++ member_stored before.logs before.written stored range second)
+            (member_material before.written range first ++ member_stored after.logs after.written stored range second)
+            (extends_behind (member_material before.written range first) (member_stored before.logs before.written stored range second) (member_stored after.logs after.written stored range second) (stored_staged range second))
+            (fit.0 dead))),
+        λ dead.
+            subst (λ (list : List Entry). TellNoMore list (member_material after.written range first ++ member_material after.written range second)) (sym (marked_dead range second dead))
+            (subst (λ (list : List Entry). TellNoMore (member_marked before.written range second) (list ++ member_material after.written range second)) (sym material)
+            (subst (λ (list : List Entry). TellNoMore (member_marked before.written range second) (member_material before.written range first ++ list)) (sym (material_dead range second dead)) (fit.1 dead))),
+      )
+
+  -- a row that is rebuilt
+  rebuilt_staged : (other : Row) → Contains rows other → (phase : Phase) (truth : List Entry) → ((q : ℕ) → All (λ mark. mark.past ≤ length (before.written q).entries) (before.written q).marks) → AreApart (lineage_of phase) → other.phase ≡ phase → RowIsRebuilt other phase truth before.logs before.written stored before.keeps tables live → RowIsRebuilt other phase truth after.logs after.written stored after.keeps tables live
+  rebuilt_staged other has (Owned owner from) truth marked apart is fit = tt
+  rebuilt_staged other has (Opening source sfrom target dfrom) truth marked apart is fit = tt
+  rebuilt_staged other has (Moving source sfrom target dfrom) truth marked apart is fit = tt
+  rebuilt_staged other has (Rebuilding lineage to) truth marked apart is fit = (
+    λ term.
+        rebuilder_staged other has lineage to truth (marked to) (ap lineage_of is)
+        (fit.0
+        (sym (counted_same rows before after master row call item stages (λ (tablet : Tablet). tablet.handover.term) (λ tablet. refl) to other.tablet) ∙ term)),
+    marked_staged other has lineage apart (ap lineage_of is) fit.1,
+  )
+
+  -- the marks of a master
+  pub marks_staged : (other : Row) (q : ℕ) → All (λ mark. mark.tablet ≡ other.tablet → MarkFits other q (before.keeps q other.tablet) (live q) mark) (before.written q).marks → All (λ mark. mark.tablet ≡ other.tablet → MarkFits other q (after.keeps q other.tablet) (live q) mark) (after.written q).marks
+  marks_staged other q old =
+      let grown = written_grown rows before after master row call item stages q in
+      subst (λ (marks : List Mark). All (λ mark. mark.tablet ≡ other.tablet → MarkFits other q (after.keeps q other.tablet) (live q) mark) marks) (sym grown.marks)
+      (All-weaker (λ (mark : Mark). mark.tablet ≡ other.tablet → MarkFits other q (before.keeps q other.tablet) (live q) mark)
+      (λ (mark : Mark). mark.tablet ≡ other.tablet → MarkFits other q (after.keeps q other.tablet) (live q) mark)
+      (λ (mark : Mark) fits its.
+      mark_same other q (before.keeps q other.tablet) (after.keeps q other.tablet) (live q) mark
+      (counted_same rows before after master row call item stages (λ (tablet : Tablet). tablet.handover.term) (λ tablet. refl) q other.tablet)
+      (counted_same rows before after master row call item stages (λ (tablet : Tablet). has_merged tablet.handover.role) (λ tablet. refl) q other.tablet)
+      (fits its))
+      (before.written q).marks old)
+
+  -- and the pieces that they mark
+  pieces_staged : (other : Row) (q : ℕ) → All (λ mark. mark.past ≤ length (before.written q).entries) (before.written q).marks → All (λ mark. mark.tablet ≡ other.tablet → HasOwnRange other.range (before.written q).entries mark) (before.written q).marks → All (λ mark. mark.tablet ≡ other.tablet → HasOwnRange other.range (after.written q).entries mark) (after.written q).marks
+  pieces_staged other q marked old =
+      let Pieces : Written → Type 0 = λ (w : Written).
+      All (λ mark. mark.tablet ≡ other.tablet → HasOwnRange other.range w.entries mark) w.marks in
+      ⊎_elim
+      (λ (same : after.written q ≡ before.written q). subst Pieces (sym same) old)
+      (λ (at : (q ≡ master) × (after.written q ≡ with_one_more (before.written q) (entries.Held item))).
+      subst Pieces (sym at.1)
+      (λ k d within its.
+      let mark : Mark = slice_index_or (before.written q).marks k d in
+      subst (λ (list : List Entry). All (IsOfRange other.range) list)
+      (sym (piece_push mark.first mark.past (before.written q).entries (entries.Held item ∷ []) (marked k d within))) (old k d within its)))
+      (written_cases rows before after master row call item stages q)
+
+-- a write is staged
+pub rebuilds_staged : (rows : List Row) (truths : Row → List Entry) (before after : Lane) (stored : ℕ → Segments) (tables : ℕ → List Held) (live : ℕ → Bool) (journal : List Placed) (wire : Table Message) (master table : ℕ) (key : List ℕ) (call : Call) (item : Held) → Rebuilds rows truths before.logs before.written stored before.keeps tables live → Rows rows before.written journal → Logs before.logs before.written stored wire → (served : IsServed rows (before.keeps master) (live master) master table key) → Stages rows before after master served.row call item → Rebuilds rows truths after.logs after.written stored after.keeps tables live
+rebuilds_staged rows truths before after stored tables live journal wire master table key call item old placed held served stages =
+    let marked : (q : ℕ) → All (λ mark. mark.past ≤ length (before.written q).entries) (before.written q).marks = λ q. let log = held.kept q in log.marked in
+    let fits : (before.written master).committed ≤ length (before.written master).entries =
+    committed_within (before.logs master) (before.written master) (stored_of stored master) (held.kept master) in
+    record {
+      rebuilt = λ k d within.
+          let other : Row = slice_index_or rows k d in
+          rebuilt_staged rows before after stored tables live master served.row call item served.last stages served.is_last served.here served.lives served.serves fits other
+          (Contains-get_or rows k d within) other.phase (truths other) marked (formed_apart other.phase (placed.formed k d within)) refl (old.rebuilt k d within);
+      marks = λ q k d within.
+          marks_staged rows before after stored tables live master served.row call item served.last stages served.is_last served.here served.lives served.serves fits (slice_index_or rows k d) q
+          (old.marks q k d within);
+      pieces = λ q k d within.
+          pieces_staged rows before after stored tables live master served.row call item served.last stages served.is_last served.here served.lives served.serves fits (slice_index_or rows k d) q
+          (marked q) (old.pieces q k d within);
+    }

@@ -1,0 +1,148 @@
+-- At most one living master answers calls for a range of a row: the one that speaks for it.
+use Rattle.std.proofs.Common.{◌≡◌, ℕ, suc, Bool, true, false, ◌&&◌, ◌||◌, eqb, leb, cond, List, [], ◌∷◌, Option, Some, None, is_some, refl, sym, ap, subst, ◌∙◌, ⊎_elim, ◌⊎◌, arith, inl}
+use Rattle.std.specs.List.{Contains}
+use Rattle.std.proofs.lemmas.Bool.{eq-eqb}
+use Rattle.std.proofs.lemmas.Bool.Decides.{nat_tests}
+use Rattle.std.proofs.lemmas.List.Elements.{All-contains}
+use Rattle.rk_types.specs.Range.{meets}
+use Rattle.rk_types.specs.declared.history.Placed.{Placed}
+use Rattle.rk_types.specs.declared.lineage.Member.{Member}
+use Rattle.rk_types.specs.declared.range.Range.{Range}
+use Rattle.rk_tablet_map.proofs.Lawful.{number_of}
+use Rattle.rk_tablet_map.specs.Phase.{lineage_of}
+use Rattle.rk_tablet_map.specs.Rows.{Precedes, row_of}
+use Rattle.rk_tablet_map.specs.declared.phase.Phase.{Phase}
+use Rattle.rk_tablet_map.specs.declared.phase.Phase.TheVariants.{Owned, Opening, Moving, Rebuilding}
+use Rattle.rk_tablet_map.specs.declared.row.Row.{Row}
+use Rattle.rk_transfer.specs.Handover.{is_serving}
+use Rattle.rk_transfer.specs.declared.role.Role.{Role}
+use Rattle.rk_transfer.specs.declared.role.Role.TheVariants as roles
+use Rattle.rk_world.specs.Coordinator.{is_member}
+use Rattle.rk_world.specs.Tablet.{Tablet, is_absent}
+use Rattle.rk_world.specs.Written.{Written}
+use Rattle.rk_world.specs.Sound.Posts.{Heir, FirstHeir, LastHeir, Outsider, Lost, Apart, heir_of, post_of, bond_of, Holds, StillCounts}
+use Rattle.rk_world.specs.Sound.Roles.{Roles, RoleFits}
+use Rattle.rk_world.specs.Sound.Rows.{Rows}
+use Rattle.rk_laws_parts.proofs.Apart.{one_precedes}
+use Rattle.rk_laws_parts.proofs.Speakers.{speaks_serving, speaker_of, speaker_is}
+
+-- ranges meet either way
+meets_either : (a b : Range) → meets a b ≡ true → meets b a ≡ true
+meets_either a b both = turned a.table a.first a.last b.table b.first b.last both
+  where
+    turned : (s f l t g m : ℕ) → (eqb s t && leb f m && leb g l) ≡ true → (eqb t s && leb g l && leb f m) ≡ true
+    turned s f l t g m both = grind (arith, nat_tests)
+
+-- a role that serves is not absent
+pub present : (role : Role) → is_serving role ≡ true → is_absent role ≡ false
+present roles.Absent serves = absurd (cc)
+present role serves = refl
+
+-- an outsider does not serve
+outsider : (role : Role) (term kept committed : ℕ) → Holds (bond_of Outsider role) term kept committed → is_serving role ≡ true → ⊥
+outsider roles.Absent term kept committed fits serves = absurd (cc)
+outsider roles.Closing term kept committed fits serves = absurd (cc)
+outsider roles.Frozen term kept committed fits serves = absurd (cc)
+outsider (roles.Wanting from) term kept committed fits serves = absurd (cc)
+outsider (roles.Rebuilding from entry) term kept committed fits serves = absurd (cc)
+outsider roles.Serving term kept committed fits serves = fits
+outsider roles.Receiving term kept committed fits serves = fits
+outsider (roles.Joining entry) term kept committed fits serves = fits
+
+-- an heir that serves is of the lineage, by the tests that tell its post
+heir_of_one : (here : Bool) (place : ℕ) (role : Role) (term kept committed : ℕ) → Holds (bond_of (cond here (Heir place) Outsider) role) term kept committed → is_serving role ≡ true → (here || false) ≡ true
+heir_of_one true place role term kept committed fits serves = refl
+heir_of_one false place role term kept committed fits serves = absurd (outsider role term kept committed fits serves)
+
+heir_of_two : (first last more : Bool) (one other : ℕ) (role : Role) (term kept committed : ℕ) → Holds (bond_of (cond first (FirstHeir one) (cond last (LastHeir other) Outsider)) role) term kept committed → is_serving role ≡ true → (first || (last || more)) ≡ true
+heir_of_two true last more one other role term kept committed fits serves = refl
+heir_of_two false true more one other role term kept committed fits serves = refl
+heir_of_two false false more one other role term kept committed fits serves = absurd (outsider role term kept committed fits serves)
+
+heir_member : (lineage : List Member) (master : ℕ) (role : Role) (term kept committed : ℕ) → Holds (bond_of (heir_of lineage master) role) term kept committed → is_serving role ≡ true → is_member lineage master ≡ true
+heir_member [] master role term kept committed fits serves = absurd (outsider role term kept committed fits serves)
+heir_member (only ∷ []) master role term kept committed fits serves =
+    heir_of_one (eqb only.master master) only.from role term kept committed fits serves
+heir_member (first ∷ last ∷ more) master role term kept committed fits serves =
+    heir_of_two (eqb first.master master) (eqb last.master master) (is_member more master) first.from last.from role term kept committed fits serves
+
+-- the master that speaks for a row is of its lineage, where it serves
+speaker_member : (phase : Phase) (role : Role) (term kept committed : ℕ) → Holds (bond_of (post_of phase (speaker_of phase)) role) term kept committed → is_serving role ≡ true → is_member (lineage_of phase) (speaker_of phase) ≡ true
+speaker_member (Owned owner from) role term kept committed fits serves = ap (λ (b : Bool). b || false) (eq-eqb owner owner refl)
+speaker_member (Opening source sfrom target dfrom) role term kept committed fits serves =
+    ap (λ (b : Bool). b || false) (eq-eqb source source refl)
+speaker_member (Moving source sfrom target dfrom) role term kept committed fits serves =
+    ap (λ (b : Bool). eqb source target || (b || false)) (eq-eqb target target refl) ∙ or_true (eqb source target)
+  where
+    or_true : (b : Bool) → (b || true) ≡ true
+    or_true true = refl
+    or_true false = refl
+speaker_member (Rebuilding lineage to) role term kept committed fits serves =
+    heir_member lineage to role term kept committed
+    (subst (λ (b : Bool). Holds (bond_of (cond b (heir_of lineage to) (cond (is_member lineage to) Lost Apart)) role) term kept committed)
+    (eq-eqb to to refl) fits) serves
+
+-- what is found stands in the list
+first_or : (rows : List Row) (first row : Row) (number : ℕ) (later : row_of rows number ≡ Some row → Contains rows row) (here : Bool) → cond here (Some first) (row_of rows number) ≡ Some row → Contains (first ∷ rows) row
+first_or rows first row number later true found = let same : first ≡ row = cc in (0, omega arith, same)
+first_or rows first row number later false found =
+    let stands = later found in (suc stands.0, omega (arith, stands.1), stands.2)
+
+found_stands : (rows : List Row) (number : ℕ) (row : Row) → row_of rows number ≡ Some row → Contains rows row
+found_stands [] number row found = absurd (cc)
+found_stands (first ∷ rows) number row found =
+    first_or rows first row number (found_stands rows number row) (eqb first.tablet number) found
+
+-- a tablet that is served here and meets a row is the row's, and its master speaks for the row
+pub serves_for : (rows : List Row) (keeps : ℕ → ℕ → Tablet) (written : ℕ → Written) (live : ℕ → Bool) (journal : List Placed) (row : Row) (master tablet : ℕ) → Rows rows written journal → Roles rows keeps written live → Contains rows row → live master ≡ true → is_serving (keeps master tablet).handover.role ≡ true → meets (keeps master tablet).handover.range row.range ≡ true → (tablet ≡ row.tablet) × (master ≡ speaker_of row.phase)
+serves_for rows keeps written live journal row master tablet rows_fit roles_fit stands lives serves met =
+    at (row_of rows tablet) refl (roles_fit.known master tablet lives (present (keeps master tablet).handover.role serves))
+  where
+    at : (found : Option Row) → row_of rows tablet ≡ found → is_some found ≡ true → (tablet ≡ row.tablet) × (master ≡ speaker_of row.phase)
+    at None found some = absurd (cc)
+    at (Some own) found some =
+        let here = found_stands rows tablet own found in
+        let number : own.tablet ≡ tablet = number_of rows tablet own found in
+        let serving : is_serving (keeps master own.tablet).handover.role ≡ true =
+        subst (λ (n : ℕ). is_serving (keeps master n).handover.role ≡ true) (sym number) serves in
+        let fits : RoleFits own master (keeps master own.tablet).handover (written master).committed =
+        All-contains
+        (λ r. StillCounts (live master) (keeps master r.tablet).handover.term r.term
+        → RoleFits r master (keeps master r.tablet).handover (written master).committed) rows own (roles_fit.fitting master) here (inl lives) in
+        let speaker : master ≡ speaker_of own.phase =
+        speaker_is own master (keeps master own.tablet).handover (written master).committed fits
+        (speaks_serving (post_of own.phase master) (keeps master own.tablet).handover own.term serving) in
+        let member : is_member (lineage_of own.phase) master ≡ true =
+        subst (λ (m : ℕ). is_member (lineage_of own.phase) m ≡ true) (sym speaker)
+        (speaker_member own.phase (keeps master own.tablet).handover.role own.term (keeps master own.tablet).handover.term (written master).committed
+        (subst (λ (m : ℕ). Holds (bond_of (post_of own.phase m) (keeps master own.tablet).handover.role) own.term (keeps master own.tablet).handover.term (written master).committed) speaker fits)
+        serving) in
+        let range : (keeps master own.tablet).handover.range ≡ own.range =
+        All-contains
+        (λ r. StillCounts (live master) (keeps master r.tablet).handover.term r.term
+        → is_member (lineage_of r.phase) master ≡ true → (keeps master r.tablet).handover.range ≡ r.range) rows own
+        (roles_fit.ranged master) here (inl lives) member in
+        let meeting : meets own.range row.range ≡ true =
+        subst (λ (r : Range). meets r row.range ≡ true) range (subst (λ (n : ℕ). meets (keeps master n).handover.range row.range ≡ true) (sym number) met) in
+        let same : own ≡ row = same_row own here meeting in
+        (sym number ∙ ap (λ (r : Row). r.tablet) same, speaker ∙ ap (λ (r : Row). speaker_of r.phase) same)
+      where
+        same_row : (own : Row) → Contains rows own → meets own.range row.range ≡ true → own ≡ row
+        same_row own here meeting =
+            ⊎_elim
+            (λ (is : own ≡ row). is)
+            (λ (p : Precedes own row ⊎ Precedes row own).
+            absurd (⊎_elim
+            (λ (h : Precedes own row). let e : true ≡ false = sym meeting ∙ h.apart in differ e)
+            (λ (h : Precedes row own). let e : true ≡ false = sym (meets_either own.range row.range meeting) ∙ h.apart in differ e) p))
+            (one_precedes rows own row rows_fit.apart here stands)
+          where
+            differ : true ≡ false → ⊥
+            differ e = absurd (cc)
+
+-- so two living masters that answer calls for a range of one row are one, for one tablet
+pub one_serves : (rows : List Row) (keeps : ℕ → ℕ → Tablet) (written : ℕ → Written) (live : ℕ → Bool) (journal : List Placed) (row : Row) (a b i j : ℕ) → Rows rows written journal → Roles rows keeps written live → Contains rows row → live a ≡ true → live b ≡ true → is_serving (keeps a i).handover.role ≡ true → is_serving (keeps b j).handover.role ≡ true → meets (keeps a i).handover.range row.range ≡ true → meets (keeps b j).handover.range row.range ≡ true → (a ≡ b) × (i ≡ j)
+one_serves rows keeps written live journal row a b i j rows_fit roles_fit stands live_a live_b serves_a serves_b met_a met_b =
+    let first = serves_for rows keeps written live journal row a i rows_fit roles_fit stands live_a serves_a met_a in
+    let second = serves_for rows keeps written live journal row b j rows_fit roles_fit stands live_b serves_b met_b in
+    (first.1 ∙ sym second.1, first.0 ∙ sym second.0)

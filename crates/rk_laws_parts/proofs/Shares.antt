@@ -1,0 +1,135 @@
+-- What counts for a range of a log that grew by one item at its end.
+use Rattle.std.proofs.Common.{◌≡◌, ℕ, zero, suc, ◌+◌, ◌≤◌, ◌<◌, Bool, true, false, ◌&&◌, ◌||◌, cond, leb, ltb, List, [], ◌∷◌, ◌++◌, length, drop, fold, refl, sym, ap, ◌∙◌, ⊎_elim, arith, All, filter}
+use Rattle.std.specs.List.{flat_map}
+use Rattle.std.proofs.lemmas.Bool.{cases_lt, cond-true, cond-false, le-ltb}
+use Rattle.std.proofs.lemmas.Grind.{flat_map-append}
+use Rattle.std.proofs.lemmas.List.{drop-append-le, length-drop}
+use Rattle.std.proofs.lemmas.List.Elements.{filter-append, All-head, All-tail}
+use Rattle.rk_types.specs.declared.held.Held.{Held}
+use Rattle.rk_types.specs.declared.range.Range.{Range}
+use Rattle.rk_entry.specs.declared.entry.Entry.{Entry}
+use Rattle.rk_entry.specs.declared.entry.Entry.TheVariants as entries
+use Rattle.rk_world.specs.Material.{Mark, has_key, counts, counting, with_number, named, named_by, is_marked, unmarked, unmarked_from, material_of, side_entries, log_material, joined_from, is_joined_in}
+
+append_nil : {X : Type 0} (xs : List X) → xs ++ [] ≡ xs
+append_nil {X} [] = refl
+append_nil {X} (x ∷ xs) = ap (λ (ys : List X). x ∷ ys) (append_nil xs)
+
+drop_all : {X : Type 0} (count : ℕ) (xs : List X) → length xs ≤ count → drop count xs ≡ []
+drop_all zero [] few = refl
+drop_all zero (x ∷ xs) few = absurd (omega (arith, few))
+drop_all (suc count) [] few = refl
+drop_all (suc count) (x ∷ xs) few = drop_all count xs (omega (arith, few))
+
+-- one entry, or none where it bears a mark
+abbrev pub unless_marked : Bool → Entry → List Entry
+unless_marked marked entry = cond marked [] (entry ∷ [])
+
+none_of : (a b c : Bool) → b ≡ false → c ≡ false → ((a && b) || c) ≡ false
+none_of a b c e f = ap (λ (x : Bool). (a && x) || c) e ∙ ap (λ (y : Bool). (a && false) || y) f ∙ none a
+  where
+    none : (a : Bool) → ((a && false) || false) ≡ false
+    none true = refl
+    none false = refl
+
+-- no mark reaches a place behind all of them
+pub marked_none : (marks : List Mark) (place : ℕ) → All (λ mark. mark.past ≤ place) marks → is_marked marks place ≡ false
+marked_none [] place within = refl
+marked_none (mark ∷ marks) place within =
+    none_of (leb mark.first place) (ltb place mark.past) (is_marked marks place)
+    (le-ltb place mark.past (All-head (λ m. m.past ≤ place) mark marks within))
+    (marked_none marks place (All-tail (λ m. m.past ≤ place) mark marks within))
+
+-- the entries that bear no mark, with one more behind them
+unmarked_last : (marks : List Mark) (place : ℕ) (list : List Entry) (entry : Entry) → unmarked marks place (list ++ entry ∷ []) ≡ unmarked marks place list ++ unless_marked (is_marked marks (place + length list)) entry
+unmarked_last marks place [] entry =
+    let e : place ≡ place + 0 = omega arith in ap (λ (n : ℕ). unless_marked (is_marked marks n) entry) e
+unmarked_last marks place (first ∷ list) entry =
+    let e : suc place + length list ≡ place + suc (length list) = omega arith in
+    let more = unmarked_last marks (suc place) list entry ∙ ap (λ (n : ℕ). unmarked marks (suc place) list ++ unless_marked (is_marked marks n) entry) e in
+    ap (λ (later : List Entry). cond (is_marked marks place) later (first ∷ later)) more
+    ∙ kept (is_marked marks place) (unmarked marks (suc place) list) (unless_marked (is_marked marks (place + suc (length list))) entry)
+  where
+    kept : (b : Bool) (xs ys : List Entry) → cond b (xs ++ ys) (first ∷ (xs ++ ys)) ≡ cond b xs (first ∷ xs) ++ ys
+    kept true xs ys = refl
+    kept false xs ys = refl
+
+-- the same from a place on, which is one of the list or its end
+pub unmarked_from_last : (marks : List Mark) (place : ℕ) (list : List Entry) (entry : Entry) → place ≤ length list → unmarked_from marks place (list ++ entry ∷ []) ≡ unmarked_from marks place list ++ unless_marked (is_marked marks (length list)) entry
+unmarked_from_last marks place list entry within =
+    let e : place + length (drop place list) ≡ length list = omega (arith, length-drop place list) in
+    ap (unmarked marks place) (drop-append-le place list (entry ∷ []) within)
+    ∙ unmarked_last marks place (drop place list) entry
+    ∙ ap (λ (n : ℕ). unmarked_from marks place list ++ unless_marked (is_marked marks n) entry) e
+
+-- and from a place behind the end nothing is there
+longer : (xs : List Entry) (x : Entry) (n : ℕ) → length xs < n → length (xs ++ x ∷ []) ≤ n
+longer [] x n l = omega (arith, l)
+longer (y ∷ xs) x zero l = absurd (omega (arith, l))
+longer (y ∷ xs) x (suc n) l = let r = longer xs x n (omega (arith, l)) in omega (arith, r)
+
+drop_none : (place : ℕ) (list : List Entry) (entry : Entry) → length list < place → drop place (list ++ entry ∷ []) ≡ drop place list
+drop_none place list entry beyond =
+    drop_all place (list ++ entry ∷ []) (longer list entry place beyond) ∙ sym (drop_all place list (omega (arith, beyond)))
+
+unmarked_from_none : (marks : List Mark) (place : ℕ) (list : List Entry) (entry : Entry) → length list < place → unmarked_from marks place (list ++ entry ∷ []) ≡ unmarked_from marks place list
+unmarked_from_none marks place list entry beyond = ap (unmarked marks place) (drop_none place list entry beyond)
+
+-- an item names no side segment
+pub named_same : (range : Range) (item : Held) (list : List Entry) (marked : Bool) → named range (list ++ unless_marked marked (entries.Held item)) ≡ named range list
+named_same range item list true = ap (named range) (append_nil list)
+named_same range item list false =
+    ap (λ (segments : List ℕ). fold with_number [] segments)
+    (flat_map-append (named_by range) list (entries.Held item ∷ []) ∙ append_nil (flat_map (named_by range) list))
+
+-- an item of another range does not count
+module _ (range : Range) (item : Held) (outside : has_key range item.table item.key ≡ false) where
+  counting_same : (list : List Entry) (marked : Bool) → counting range (list ++ unless_marked marked (entries.Held item)) ≡ counting range list
+  counting_same list true = ap (counting range) (append_nil list)
+  counting_same list false =
+      filter-append (counts range) list (entries.Held item ∷ [])
+      ∙ ap (λ (more : List Entry). counting range list ++ more)
+      (cond-false (has_key range item.table item.key) (entries.Held item ∷ []) [] outside)
+      ∙ append_nil (counting range list)
+
+  pub material_outside : (marks : List Mark) (sides : List (List Held)) (place : ℕ) (list : List Entry) → log_material range marks sides place (list ++ entries.Held item ∷ []) ≡ log_material range marks sides place list
+  material_outside marks sides place list =
+      ⊎_elim
+      (λ (beyond : length list < place).
+      ap (material_of range (side_entries sides)) (unmarked_from_none marks place list (entries.Held item) beyond))
+      (λ (within : place ≤ length list).
+      ap (material_of range (side_entries sides)) (unmarked_from_last marks place list (entries.Held item) within)
+      ∙ (λ i.
+      counting_same (unmarked_from marks place list) (is_marked marks (length list)) i
+      ++ counting range (flat_map (side_entries sides) (named_same range item (unmarked_from marks place list) (is_marked marks (length list)) i))))
+      (cases_lt (length list) place)
+
+  pub rest_outside : (marks : List Mark) (place : ℕ) (list : List Entry) → counting range (unmarked_from marks place (list ++ entries.Held item ∷ [])) ≡ counting range (unmarked_from marks place list)
+  rest_outside marks place list =
+      ⊎_elim
+      (λ (beyond : length list < place). ap (counting range) (unmarked_from_none marks place list (entries.Held item) beyond))
+      (λ (within : place ≤ length list).
+      ap (counting range) (unmarked_from_last marks place list (entries.Held item) within)
+      ∙ counting_same (unmarked_from marks place list) (is_marked marks (length list)))
+      (cases_lt (length list) place)
+
+-- an item of the range, behind all marks, comes last
+pub rest_inside : (range : Range) (item : Held) (marks : List Mark) (place : ℕ) (list : List Entry) → has_key range item.table item.key ≡ true → All (λ mark. mark.past ≤ length list) marks → place ≤ length list → counting range (unmarked_from marks place (list ++ entries.Held item ∷ [])) ≡ counting range (unmarked_from marks place list) ++ entries.Held item ∷ []
+rest_inside range item marks place list inside free within =
+    ap (counting range)
+    (unmarked_from_last marks place list (entries.Held item) within
+    ∙ ap (λ (b : Bool). unmarked_from marks place list ++ unless_marked b (entries.Held item)) (marked_none marks (length list) free))
+    ∙ filter-append (counts range) (unmarked_from marks place list) (entries.Held item ∷ [])
+    ∙ ap (λ (more : List Entry). counting range (unmarked_from marks place list) ++ more)
+    (cond-true (has_key range item.table item.key) (entries.Held item ∷ []) [] inside)
+
+-- one more item is no Joined of any range
+pub joined_same : (range : Range) (place : ℕ) (list : List Entry) (item : Held) → joined_from range place (list ++ entries.Held item ∷ []) ≡ joined_from range place list
+joined_same range place list item =
+    ⊎_elim
+    (λ (beyond : length list < place). ap (filter (is_joined_in range)) (drop_none place list (entries.Held item) beyond))
+    (λ (within : place ≤ length list).
+    ap (filter (is_joined_in range)) (drop-append-le place list (entries.Held item ∷ []) within)
+    ∙ filter-append (is_joined_in range) (drop place list) (entries.Held item ∷ [])
+    ∙ append_nil (joined_from range place list))
+    (cases_lt (length list) place)

@@ -1,0 +1,106 @@
+-- The small world keeps the parts Truth, Order and Counters: its log and its journal tell of one put.
+use Rattle.std.proofs.Common.{◌≡◌, ◌≤◌, ◌<◌, Bool, true, false, cond, eqb, ◌&&◌, List, [], ◌∷◌, ◌++◌, Some, None, refl, sym, subst, ◌∙◌, arith}
+use Rattle.std.specs.Str.{bytes_eq}
+use Rattle.rk_types.specs.Hashing.{hash_of}
+use Rattle.rk_entry.specs.declared.entry.Entry.{Entry}
+use Rattle.rk_model.proofs.Keys.{name-swap}
+use Rattle.rk_model.specs.History.{record_of as entry_record, IsLegal, live_after, map_after, empty_map}
+use Rattle.rk_model.specs.Machine.{live as live_entry, never, last_version}
+use Rattle.rk_overlay.specs.Live.{record_of as item_record, live as live_items}
+use Rattle.rk_overlay.specs.Plain.{IsPlain}
+use Rattle.rk_world.specs.Base.{no_base, base_map}
+use Rattle.rk_world.specs.Desk.{asked_by}
+use Rattle.rk_world.specs.Ends.{items_of}
+use Rattle.rk_world.specs.Gather.{floor_of}
+use Rattle.rk_world.specs.Material.{of_key}
+use Rattle.rk_world.specs.Owed.{AgreeIn}
+use Rattle.rk_table.specs.Items.{is_in}
+use Rattle.rk_world.specs.World.{kept_in, written_in, lives}
+use Rattle.rk_world.specs.Written.{written_by}
+use Rattle.rk_world.specs.Master.{tablet_at}
+use Rattle.rk_world.specs.Sound.Counters.{Counters, IsNext, AreAboveMap, IsFloor}
+use Rattle.rk_world.specs.Sound.Order.{Order, AreAbove}
+use Rattle.rk_world.specs.Sound.Truth.{Truth, IsTruth, IsAfterSeen}
+use Rattle.rk_laws_parts.proofs.SmallWorld.{small_world, small_desk, small_entry, small_item, small_key, small_placed, small_range, small_row, small_map, small_journal, small_truths, small_rests, small_value, small_wire}
+use Rattle.rk_laws_parts.proofs.SmallWorldLooks.{each_speaking, nothing_kept, nothing_sent, all_one, only_one}
+
+-- the truth of the row is the put alone
+pub truth_is : small_truths small_row ≡ small_entry ∷ []
+unfolding hash_of
+truth_is = refl
+
+-- log and journal leave the same record
+same_record : (b c : Bool) → b ≡ c → item_record (cond b (Some small_item) None) ≡ entry_record (cond c (live_entry 1 small_value) never)
+same_record true true e = refl
+same_record false false e = refl
+same_record true false e = absurd (cc)
+same_record false true e = absurd (cc)
+
+pub small_live : AgreeIn small_range (live_items (small_item ∷ [])) (live_after empty_map small_journal)
+small_live table key here =
+    same_record (eqb 1 table && bytes_eq small_key key) (eqb table 1 && bytes_eq key small_key) (name-swap 1 table small_key key)
+
+-- there is but one item
+small_plain : IsPlain (small_item ∷ [])
+small_plain a b first second table key version = only_one small_item a first ∙ sym (only_one small_item b second)
+
+-- a put may be written at version 1 where nothing was
+pub small_legal : IsLegal empty_map small_journal
+small_legal = (omega arith, tt)
+
+-- the truth of the row tells the journal
+truth_one : IsTruth no_base small_range (small_truths small_row) small_journal
+truth_one =
+    subst (λ (truth : List Entry). IsTruth no_base small_range truth small_journal) (sym truth_is)
+    (record { plain = small_plain; live = small_live })
+
+-- the journal is lawful, and the row's truth tells it
+pub small_truth : Truth no_base small_map small_truths small_journal (asked_by small_desk)
+small_truth = record {
+  legal = small_legal;
+  rising = (omega arith, tt);
+  seen = all_one (λ placed. IsAfterSeen (asked_by small_desk placed.call.client) placed) small_placed (λ same. omega arith);
+  true = all_one (λ row. IsTruth no_base row.range (small_truths row) small_journal) small_row truth_one;
+}
+
+-- nothing is staged that would have to be above the truth
+pub small_order : Order small_map small_truths small_rests
+small_order = record {
+  above = all_one
+      (λ row. AreAbove (items_of (small_truths row)) (items_of (small_rests row)))
+      small_row tt;
+}
+
+-- the version that was given is below the next one
+low_either : (found : Bool) → last_version (cond found (live_entry 1 small_value) never) < floor_of (cond found (small_entry ∷ []) [])
+low_either true = omega arith
+low_either false = omega arith
+
+-- so it is of each key
+small_low : AreAboveMap small_range (map_after empty_map small_journal) (small_entry ∷ [])
+small_low table key here =
+    subst
+    (λ (found : Bool). last_version (cond found (live_entry 1 small_value) never) < floor_of (of_key table key (small_entry ∷ [])))
+    (name-swap 1 table small_key key) (low_either (eqb 1 table && bytes_eq small_key key))
+
+-- and for the truth of the row
+low_one : AreAboveMap small_range (map_after empty_map small_journal) (small_truths small_row)
+low_one =
+    subst (λ (truth : List Entry). AreAboveMap small_range (map_after empty_map small_journal) truth) (sym truth_is) small_low
+
+-- the tablet's counter is above all that was written
+next_one : IsNext small_range (small_truths small_row ++ small_rests small_row) (written_in small_world 1) 2
+next_one = record {
+  low = subst (λ (truth : List Entry). floor_of (truth ++ []) ≤ 2) (sym truth_is) (omega arith);
+  above = all_one (λ item. is_in small_range item ≡ true → item.version < 2) small_item (λ there. omega arith);
+}
+
+-- the next version is above all that were given
+pub small_counters : Counters no_base small_map small_truths small_rests (written_in small_world) (kept_in small_world) (lives small_world) [] small_journal small_wire
+small_counters = record {
+  low = all_one (λ row. AreAboveMap row.range (map_after (base_map no_base) small_journal) (small_truths row)) small_row low_one;
+  counted = λ q. each_speaking
+      (λ row m. IsNext row.range (small_truths row ++ small_rests row) (written_by m []) (tablet_at m row.tablet).handover.counter) next_one q;
+  handed_on = nothing_kept (λ row h. IsFloor row (small_truths row ++ small_rests row) (written_in small_world) h.floor);
+  sent = nothing_sent (λ row h. IsFloor row (small_truths row ++ small_rests row) (written_in small_world) h.floor);
+}

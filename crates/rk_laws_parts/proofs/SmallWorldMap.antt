@@ -1,0 +1,149 @@
+-- The small world keeps the parts Nodes, Rows, Terms, Cover and Roles.
+use Rattle.std.proofs.Common.{◌≡◌, ℕ, ◌≤◌, Bool, true, false, eqb, ◌||◌, [], length, None, refl, sym, ap, subst, ◌∙◌, arith}
+use Rattle.std.specs.Prelude.{All, IfSome, is_some}
+use Rattle.std.specs.List.{flat_map}
+use Rattle.std.proofs.lemmas.Bool.{eqb-true}
+use Rattle.std.proofs.lemmas.List.Elements.{All-nil}
+use Rattle.rk_types.specs.Hashing.{hash_of}
+use Rattle.rk_message.specs.declared.message.Body.{Body}
+use Rattle.rk_tablet_map.specs.Rows.{row_of, is_covered}
+use Rattle.rk_transfer.specs.declared.role.Role.TheVariants as roles
+use Rattle.rk_world.specs.Coordinator.{names, is_member}
+use Rattle.rk_world.specs.Master.{tablet_at}
+use Rattle.rk_world.specs.Tablet.{is_absent, no_tablet}
+use Rattle.rk_world.specs.World.{master_at, kept_in, table_in, written_in, lives}
+use Rattle.rk_tablet_map.specs.Phase.{member, lineage_of}
+use Rattle.rk_world.specs.Sound.Cover.{Cover, IsWithinRows, IsItemWithin, IsEntryWithin, IsOfWholeRows}
+use Rattle.rk_world.specs.Sound.Nodes.{Nodes, IsMaster}
+use Rattle.rk_world.specs.Sound.Posts.{Post, Holds, bond_of, StillCounts}
+use Rattle.rk_world.specs.Sound.Roles.{Roles, RoleFits, KeepTerm}
+use Rattle.rk_world.specs.Sound.Rows.{Rows, IsFormed, IsPlaced}
+use Rattle.rk_world.specs.Sound.Terms.{Terms, KeptFits, SentFits, IsWithinTerm, IsBelowOthers, tenure_in, range_in}
+use Rattle.rk_laws_parts.proofs.SmallWorld.{small_world, small_entry, small_item, small_key, small_master, small_range, small_tablet, small_row, small_map, small_journal, small_placed, small_wire, small_request, small_append, small_told, small_reply}
+use Rattle.rk_laws_parts.proofs.SmallWorldLooks.{each_master, each_message, each_tablet, each_sent, all_one, not_owner, post_elsewhere}
+
+-- a master that the row names is the one that is there
+named_is_there : (q : ℕ) → names small_row.phase q ≡ true → IsMaster 1 q
+named_is_there q named =
+    let is : 1 ≡ q = eqb-true 1 q named in
+    subst (λ (n : ℕ). IsMaster 1 n) is (record { first = omega arith; last = omega arith })
+
+-- one master with one backup, and nobody was noticed dead
+pub small_nodes : Nodes (master_at small_world) 1 1 small_map [] (lives small_world)
+small_nodes = record {
+  numbered = each_master (λ q m. m.number ≡ q) refl (λ q apart. refl);
+  backed = omega arith;
+  known = each_master (λ q m. IsMaster 1 q → length m.log.known ≡ 1) (λ there. refl)
+      (λ q apart there. absurd (apart (omega (arith, there.first, there.last))));
+  named = λ q. all_one (λ row. names row.phase q ≡ true → IsMaster 1 q) small_row (named_is_there q);
+  crashed = All-nil _;
+  left = λ q dead. record { master = 1; there = record { first = omega arith; last = omega arith }; lives = refl };
+}
+
+-- the key of the put is in the row
+covered_one : is_covered small_map 1 (hash_of small_key) ≡ true
+unfolding hash_of
+covered_one = refl
+
+-- one row, whose owner has its place at the front of its log
+pub small_rows : Rows small_map (written_in small_world) small_journal
+small_rows = record {
+  apart = (tt, tt);
+  begun = all_one (λ row. 1 ≤ row.term) small_row (omega arith);
+  formed = all_one (λ row. IsFormed row.phase) small_row tt;
+  placed = all_one (λ row. All (IsPlaced (written_in small_world)) (lineage_of row.phase)) small_row
+      (all_one (IsPlaced (written_in small_world)) (member 1 0) (omega arith));
+  covered = all_one (λ entry. is_covered small_map entry.call.table (hash_of entry.call.key) ≡ true) small_placed covered_one;
+}
+
+-- a tablet that is not absent is the one of the master
+pub present_one : (q r : ℕ) → is_absent (kept_in small_world q r).handover.role ≡ false → (q ≡ 1) × (r ≡ 1)
+present_one q r there =
+    each_tablet (λ n t tablet. is_absent tablet.handover.role ≡ false → (n ≡ 1) × (t ≡ 1))
+    (λ h. (refl, refl)) (λ n t apart h. absurd (cc)) q r there
+
+-- what the master keeps of the tablet is at the row's term, with its range
+kept_here : KeptFits small_row 1 small_tablet.handover
+kept_here = record { within = λ same. omega arith; below = λ apart meet. absurd (apart refl); exact = λ same term. refl }
+
+-- what nobody keeps is at term 0
+kept_nowhere : (r : ℕ) → KeptFits small_row r no_tablet.handover
+kept_nowhere r = record {
+  within = λ same. omega arith;
+  below = λ apart meet. omega arith;
+  exact = λ same term. absurd (omega (arith, term));
+}
+
+-- a message that tells no tenure says nothing of terms
+no_tenure : (body : Body) → tenure_in body ≡ None → SentFits small_row body
+no_tenure body none = record {
+  within = subst (λ o. IfSome o (λ tenure. IsWithinTerm small_row tenure.tablet tenure.term)) (sym none) tt;
+  below =
+      subst
+      (λ o. IfSome o (λ tenure. IfSome (range_in body) (λ range. IsBelowOthers small_row tenure.tablet tenure.term range)))
+      (sym none) tt;
+}
+
+-- no term is ahead of the row, and no two tablets meet
+pub small_terms : Terms small_map (kept_in small_world) small_wire
+small_terms = record {
+  kept = each_tablet (λ q r tablet. All (λ row. KeptFits row r tablet.handover) small_map)
+      (all_one (λ row. KeptFits row 1 small_tablet.handover) small_row kept_here)
+      (λ q r apart. all_one (λ row. KeptFits row r no_tablet.handover) small_row (kept_nowhere r));
+  apart = λ q a b apart first second. absurd (apart ((present_one q a first).1 ∙ sym (present_one q b second).1));
+  sent = each_sent (λ row message. SentFits row message.body)
+      (no_tenure small_request.body refl) (no_tenure small_append.body refl)
+      (no_tenure small_told.body refl) (no_tenure small_reply.body refl);
+}
+
+-- the range of the row lies in it
+within_one : IsWithinRows small_map small_range
+within_one hash here = ap (λ (b : Bool). b || false) here
+
+-- the tablet has a row, and nothing is spoken of that lies in none
+pub small_cover : Cover small_map (written_in small_world) (kept_in small_world) (table_in small_world) small_wire
+small_cover = record {
+  unknown = each_tablet (λ q r tablet. row_of small_map r ≡ None → tablet.handover.term ≡ 0) (λ none. absurd (cc)) (λ q r apart none. refl);
+  marks = λ q. All-nil _;
+  sent = each_message (λ number message. IfSome (tenure_in message.body) (λ tenure. is_some (row_of small_map tenure.tablet) ≡ true)) tt tt tt tt;
+  ranges = each_tablet (λ q r tablet. 1 ≤ tablet.handover.term → IsWithinRows small_map tablet.handover.range)
+      (λ begun. within_one) (λ q r apart begun. absurd (omega (arith, begun)));
+  ordered = each_message (λ number message. IfSome (range_in message.body) (IsWithinRows small_map)) tt tt tt tt;
+  entries = each_master (λ q m. All (IsEntryWithin small_map) m.log.entries)
+      (all_one (IsEntryWithin small_map) small_entry covered_one) (λ q apart. All-nil _);
+  sides = each_master (λ q m. All (IsItemWithin small_map) (flat_map (λ items. items) m.sides)) (All-nil _) (λ q apart. All-nil _);
+  items = each_master (λ q m. All (IsItemWithin small_map) m.table)
+      (all_one (IsItemWithin small_map) small_item covered_one) (λ q apart. All-nil _);
+  wholes = each_master (λ q m. All (IsOfWholeRows small_map) m.log.entries)
+      (all_one (IsOfWholeRows small_map) small_entry tt) (λ q apart. All-nil _);
+}
+
+-- the owner serves at the row's term
+role_here : RoleFits small_row 1 small_tablet.handover 1
+role_here = refl
+
+-- another master is absent, and its post asks no more
+role_elsewhere : (q : ℕ) → (q ≡ 1 → ⊥) → RoleFits small_row q no_tablet.handover 0
+role_elsewhere q apart =
+    subst (λ (post : Post). Holds (bond_of post roles.Absent) 1 0 0) (sym (post_elsewhere q apart)) (omega arith)
+
+-- and it is not of the lineage
+not_member : (q : ℕ) → (q ≡ 1 → ⊥) → is_member (lineage_of small_row.phase) q ≡ true → ⊥
+not_member q apart there =
+    let e : (eqb 1 q || false) ≡ false = ap (λ (b : Bool). b || false) (not_owner q apart) in
+    let f : true ≡ false = sym there ∙ e in absurd (cc)
+
+-- the owner serves, and each other master is absent
+pub small_roles : Roles small_map (kept_in small_world) (written_in small_world) (lives small_world)
+small_roles = record {
+  fitting = λ q. each_master
+      (λ n m. All (λ row. StillCounts (lives small_world q) (tablet_at m row.tablet).handover.term row.term → RoleFits row n (tablet_at m row.tablet).handover m.committed) small_map)
+      (all_one (λ row. StillCounts (lives small_world q) (tablet_at small_master row.tablet).handover.term row.term → RoleFits row 1 (tablet_at small_master row.tablet).handover 1) small_row (λ counts. role_here))
+      (λ n apart. all_one (λ row. StillCounts (lives small_world q) no_tablet.handover.term row.term → RoleFits row n no_tablet.handover 0) small_row (λ counts. role_elsewhere n apart)) q;
+  ranged = λ q. each_master
+      (λ n m. All (λ row. StillCounts (lives small_world q) (tablet_at m row.tablet).handover.term row.term → is_member (lineage_of row.phase) n ≡ true → (tablet_at m row.tablet).handover.range ≡ row.range) small_map)
+      (all_one (λ row. StillCounts (lives small_world q) (tablet_at small_master row.tablet).handover.term row.term → is_member (lineage_of row.phase) 1 ≡ true → (tablet_at small_master row.tablet).handover.range ≡ row.range) small_row (λ counts there. refl))
+      (λ n apart. all_one (λ row. StillCounts (lives small_world q) no_tablet.handover.term row.term → is_member (lineage_of row.phase) n ≡ true → no_tablet.handover.range ≡ row.range) small_row (λ counts there. absurd (not_member n apart there))) q;
+  at_term = all_one (λ row. KeepTerm row.phase (λ q. (kept_in small_world q row.tablet).handover.term) row.term) small_row tt;
+  known = λ q r live there. ap (λ (t : ℕ). is_some (row_of small_map t)) (present_one q r there).1;
+}

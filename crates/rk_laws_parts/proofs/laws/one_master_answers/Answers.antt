@@ -1,0 +1,5 @@
+use Rattle.rk_laws_parts.proofs.Serving.{one_serves}
+use Rattle.rk_laws_parts.proofs.laws.one_master_answers.Goals as goal
+
+pub returns : goal.returns
+returns c = record { one = λ w row a b i j sound stands. one_serves _ _ _ _ _ row a b i j sound.rows sound.roles stands }

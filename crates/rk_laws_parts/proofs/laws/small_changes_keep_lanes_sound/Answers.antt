@@ -1,0 +1,13 @@
+use Rattle.rk_laws_parts.proofs.SoundFrozen.{sound_frozen}
+use Rattle.rk_laws_parts.proofs.SoundSent.{sound_sent}
+use Rattle.rk_laws_parts.proofs.SoundStaged.{sound_staged}
+use Rattle.rk_laws_parts.proofs.laws.small_changes_keep_lanes_sound.Goals as goal
+
+pub returns-clause-sent : goal.returns-clause-sent
+returns-clause-sent c = sound_sent
+
+pub returns-clause-staged : goal.returns-clause-staged
+returns-clause-staged c = sound_staged
+
+pub returns-clause-frozen : goal.returns-clause-frozen
+returns-clause-frozen c = λ w master tablet sound may. sound_frozen w master tablet sound may

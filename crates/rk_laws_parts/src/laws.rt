@@ -1,0 +1,50 @@
+// The headline laws of sound lanes. Each function does nothing: its contract is the law.
+ghost use Rattle.std.specs.Prelude.{◌≡◌, ◌<◌, ◌≤◌, ℕ, true, List, Option, Contains, IfSome, length, slice_get};
+ghost use Rattle.rk_log.specs.Cut.{ends};
+ghost use Rattle.rk_log.specs.Log.{IsBackup};
+ghost use Rattle.rk_message.specs.declared.message.Message.{Message};
+ghost use Rattle.rk_tablet_map.specs.declared.row.Row.{Row};
+ghost use Rattle.rk_transfer.specs.Handover.{is_serving};
+ghost use Rattle.rk_types.specs.declared.call.Call.{Call};
+ghost use Rattle.rk_types.specs.Range.{meets};
+ghost use Rattle.rk_world.specs.Base.{Base};
+ghost use Rattle.rk_world.specs.Sound.Logs.{stored_of};
+ghost use Rattle.rk_world.specs.Sound.Small.{MayFreeze, MaySend, MayStage, call_staged, message_sent, tablet_frozen};
+ghost use Rattle.rk_world.specs.Sound.Whole.{IsSound};
+ghost use Rattle.rk_world.specs.World.{World, backup_at, kept_in, lives, log_in, new_world, written_in};
+
+/// A lane where nothing has happened is sound, with any number of masters and one backup or more, whatever its history
+/// starts from.
+pub fn new_lanes_are_sound()
+    ensures new { (base : Base) (lane masters backups : ℕ)
+        → 1 ≤ backups → IsSound (new_world base lane masters backups) }
+{}
+
+/// A sound lane stays sound when a message is sent, when a write is staged, and when a tablet freezes, wherever the
+/// condition of the change holds.
+pub fn small_changes_keep_lanes_sound()
+    ensures sent { (w : World) (message : Message) → IsSound w → MaySend w message → IsSound (message_sent w message) }
+    ensures staged { (w : World) (master : ℕ) (call : Call) (value : Option (List ℕ))
+        → IsSound w → (may : MayStage w master call value)
+        → IsSound (call_staged w master may.served.row.tablet call value) }
+    ensures frozen { (w : World) (master tablet : ℕ)
+        → IsSound w → MayFreeze w master tablet → IsSound (tablet_frozen w master tablet) }
+{}
+
+/// In a sound lane at most one living master answers calls for a range of a row, and for one tablet.
+pub fn one_master_answers()
+    ensures one { (w : World) (row : Row) (a b i j : ℕ)
+        → IsSound w → Contains w.coordinator.rows row → lives w a ≡ true → lives w b ≡ true
+        → is_serving (kept_in w a i).handover.role ≡ true → is_serving (kept_in w b j).handover.role ≡ true
+        → meets (kept_in w a i).handover.range row.range ≡ true
+        → meets (kept_in w b j).handover.range row.range ≡ true
+        → (a ≡ b) × (i ≡ j) }
+{}
+
+/// In a sound lane every backup stores each committed entry of each master, up to its end.
+pub fn what_is_committed_is_stored()
+    ensures stored { (w : World) (master backup place : ℕ)
+        → IsSound w → IsBackup (log_in w master) backup → place < (written_in w master).committed
+        → IfSome (slice_get (ends (written_in w master).entries) place)
+        (λ end. end.offset ≤ length (stored_of (backup_at w) master backup end.segment)) }
+{}
