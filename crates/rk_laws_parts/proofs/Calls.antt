@@ -25,7 +25,7 @@ use Rattle.rk_world.specs.Tablet.{Tablet}
 use Rattle.rk_laws_parts.proofs.Alike.{AreAlike, alike_all, alike_frozen, speaks_alike, kept_handed_alike, handed_by_alike}
 use Rattle.rk_laws_parts.proofs.Changing.{Lane, Freezes, Stages}
 use Rattle.rk_laws_parts.proofs.Staged.{staged_alike}
-use Rattle.rk_laws_parts.proofs.Found.{each_with, each_weaker}
+use Rattle.rk_laws_parts.proofs.Found.{HasNoMore, each_with, each_weaker}
 use Rattle.rk_laws_parts.proofs.Differs.{still_counts}
 
 -- a message is put on the wire
@@ -39,6 +39,18 @@ calls_sent base rows truths rests keeps live handed journal wire number message 
   sent =
       each_with (λ number message. All (λ row. IfSome (handed_by row keeps message.body) (λ h. ReachAll row.range journal h.ends)) rows) wire number message
       old.sent ends;
+  known = old.known;
+}
+
+-- fewer messages are on the wire
+pub calls_forgotten : (base : Base) (rows : List Row) (truths rests : Row → List Entry) (keeps : ℕ → ℕ → Tablet) (live : ℕ → Bool) (handed : Table Handed) (journal : List Placed) (wire less : Table Message) → Calls base rows truths rests keeps live handed journal wire → HasNoMore less wire → Calls base rows truths rests keeps live handed journal less
+calls_forgotten base rows truths rests keeps live handed journal wire less old no_more = record {
+  once = old.once;
+  reached = old.reached;
+  recorded = old.recorded;
+  kept = old.kept;
+  handed_on = old.handed_on;
+  sent = λ n m found. old.sent n m (no_more n m found);
   known = old.known;
 }
 

@@ -33,7 +33,7 @@ use Rattle.rk_laws_parts.proofs.Lists.{all_in}
 use Rattle.rk_laws_parts.proofs.Nexts.{next_of_all, floor_of_all, next_push}
 use Rattle.rk_laws_parts.proofs.Speakers.{speaker_of, speaker_is, none_waits, none_hands}
 use Rattle.rk_laws_parts.proofs.Staged.{Serves, serves_row, staged_alike, staged_speaker}
-use Rattle.rk_laws_parts.proofs.Found.{each_with, each_weaker}
+use Rattle.rk_laws_parts.proofs.Found.{HasNoMore, each_with, each_weaker}
 
 -- a message is put on the wire
 pub counters_sent : (base : Base) (rows : List Row) (truths rests : Row → List Entry) (written : ℕ → Written) (keeps : ℕ → ℕ → Tablet) (live : ℕ → Bool) (handed : Table Handed) (journal : List Placed) (wire : Table Message) (number : ℕ) (message : Message) → Counters base rows truths rests written keeps live handed journal wire → All (λ row. IfSome (handed_by row keeps message.body) (λ h. IsFloor row (truths row ++ rests row) written h.floor)) rows → Counters base rows truths rests written keeps live handed journal (with_at wire number message)
@@ -44,6 +44,15 @@ counters_sent base rows truths rests written keeps live handed journal wire numb
   sent =
       each_with (λ number message. All (λ row. IfSome (handed_by row keeps message.body) (λ h. IsFloor row (truths row ++ rests row) written h.floor)) rows) wire number message
       old.sent floors;
+}
+
+-- fewer messages are on the wire
+pub counters_forgotten : (base : Base) (rows : List Row) (truths rests : Row → List Entry) (written : ℕ → Written) (keeps : ℕ → ℕ → Tablet) (live : ℕ → Bool) (handed : Table Handed) (journal : List Placed) (wire less : Table Message) → Counters base rows truths rests written keeps live handed journal wire → HasNoMore less wire → Counters base rows truths rests written keeps live handed journal less
+counters_forgotten base rows truths rests written keeps live handed journal wire less old no_more = record {
+  low = old.low;
+  counted = old.counted;
+  handed_on = old.handed_on;
+  sent = λ n m found. old.sent n m (no_more n m found);
 }
 
 -- a tablet freezes

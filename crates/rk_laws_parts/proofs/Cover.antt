@@ -19,7 +19,7 @@ use Rattle.rk_world.specs.Written.{Written}
 use Rattle.rk_world.specs.Sound.Changes.{IsServed}
 use Rattle.rk_world.specs.Sound.Cover.{Cover, IsWithinRows, IsItemWithin, IsEntryWithin, IsOfWholeRows}
 use Rattle.rk_world.specs.Sound.Terms.{tenure_in, range_in}
-use Rattle.rk_laws_parts.proofs.Found.{each_with}
+use Rattle.rk_laws_parts.proofs.Found.{HasNoMore, each_with}
 use Rattle.rk_laws_parts.proofs.Seen.{LooksAs, each_looks_frozen}
 use Rattle.rk_laws_parts.proofs.Changing.{Lane, Freezes, Stages, with_one_more}
 use Rattle.rk_laws_parts.proofs.Differs.{differs_each}
@@ -35,6 +35,20 @@ cover_sent rows written keeps tables wire number message old within = record {
       old.sent within.0;
   ranges = old.ranges;
   ordered = each_with (λ n m. IfSome (range_in m.body) (IsWithinRows rows)) wire number message old.ordered within.1;
+  entries = old.entries;
+  sides = old.sides;
+  items = old.items;
+  wholes = old.wholes;
+}
+
+-- fewer messages are on the wire
+pub cover_forgotten : (rows : List Row) (written : ℕ → Written) (keeps : ℕ → ℕ → Tablet) (tables : ℕ → List Held) (wire less : Table Message) → Cover rows written keeps tables wire → HasNoMore less wire → Cover rows written keeps tables less
+cover_forgotten rows written keeps tables wire less old no_more = record {
+  unknown = old.unknown;
+  marks = old.marks;
+  sent = λ n m found. old.sent n m (no_more n m found);
+  ranges = old.ranges;
+  ordered = λ n m found. old.ordered n m (no_more n m found);
   entries = old.entries;
   sides = old.sides;
   items = old.items;

@@ -42,6 +42,8 @@ pub mod Receives
 pub mod Rebuilds
 pub mod Rest
 pub mod SoundSent
+pub mod SoundForgotten
+pub mod SoundDesk
 pub mod SoundFrozen
 pub mod SoundStaged
 pub mod SmallWorld

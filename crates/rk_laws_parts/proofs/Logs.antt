@@ -24,7 +24,7 @@ use Rattle.rk_world.specs.Sound.Logs.{IsFirstPart, IsCopy, IsKnownBefore, IsLog,
 use Rattle.rk_world.specs.Tables.{Table, with_at}
 use Rattle.rk_world.specs.Written.{Written}
 use Rattle.rk_laws_parts.proofs.Changing.{Lane, Stages, DiffersAt, with_one_more}
-use Rattle.rk_laws_parts.proofs.Found.{each_with, each_weaker}
+use Rattle.rk_laws_parts.proofs.Found.{HasNoMore, each_with, each_weaker}
 use Rattle.rk_laws_parts.proofs.Segments.{Grows, grows_entry}
 
 -- a message is put on the wire
@@ -32,6 +32,13 @@ pub logs_sent : (logs : ℕ → Log) (written : ℕ → Written) (stored : ℕ �
 logs_sent logs written stored wire number message old says = record {
   kept = old.kept;
   sent = each_with (λ number message. LogSays logs stored message.from message.to message.body) wire number message old.sent says;
+}
+
+-- fewer messages are on the wire
+pub logs_forgotten : (logs : ℕ → Log) (written : ℕ → Written) (stored : ℕ → Segments) (wire less : Table Message) → Logs logs written stored wire → HasNoMore less wire → Logs logs written stored less
+logs_forgotten logs written stored wire less old no_more = record {
+  kept = old.kept;
+  sent = λ n m found. old.sent n m (no_more n m found);
 }
 
 -- ---- a log grows at its end

@@ -46,7 +46,7 @@ use Rattle.rk_world.specs.Sound.Posts.{post_of}
 use Rattle.rk_world.specs.Sound.Rebuilds.{READ_BACKUP, IsReadPart}
 use Rattle.rk_world.specs.Sound.Receives.{scan_items}
 use Rattle.rk_world.specs.Sound.Changes.{IsServed}
-use Rattle.rk_laws_parts.proofs.Found.{each_with, each_weaker}
+use Rattle.rk_laws_parts.proofs.Found.{HasNoMore, each_with, each_weaker}
 use Rattle.rk_laws_parts.proofs.Seen.{LooksAs, AllLook, each_looks_frozen}
 use Rattle.rk_laws_parts.proofs.Changing.{Lane, Freezes, Stages}
 use Rattle.rk_laws_parts.proofs.Staged.{staged_looks, staged_known}
@@ -58,6 +58,13 @@ messages_sent rows logs written stored keeps live handed journal wire number mes
       each_with (λ n m. All (λ row. SaysOf row logs written stored keeps live handed m.from m.to m.body) rows) wire number message
       old.of_rows of_rows;
   others = each_with (λ n m. Says journal m.to m.body) wire number message old.others others;
+}
+
+-- fewer messages are on the wire
+pub messages_forgotten : (rows : List Row) (logs : ℕ → Log) (written : ℕ → Written) (stored : ℕ → Segments) (keeps : ℕ → ℕ → Tablet) (live : ℕ → Bool) (handed : Table Handed) (journal : List Placed) (wire less : Table Message) → Messages rows logs written stored keeps live handed journal wire → HasNoMore less wire → Messages rows logs written stored keeps live handed journal less
+messages_forgotten rows logs written stored keeps live handed journal wire less old no_more = record {
+  of_rows = λ n m found. old.of_rows n m (no_more n m found);
+  others = λ n m found. old.others n m (no_more n m found);
 }
 
 -- what is said where a node is a master, it says as well where that follows

@@ -13,7 +13,7 @@ use Rattle.rk_world.specs.Tables.{Table, with_at}
 use Rattle.rk_world.specs.Tablet.{Tablet}
 use Rattle.rk_world.specs.Sound.Terms.{Terms, KeptFits, SentFits}
 use Rattle.rk_world.specs.Sound.Changes.{IsServed}
-use Rattle.rk_laws_parts.proofs.Found.{each_with}
+use Rattle.rk_laws_parts.proofs.Found.{HasNoMore, each_with}
 use Rattle.rk_laws_parts.proofs.Seen.{LooksAs, each_looks_frozen}
 use Rattle.rk_laws_parts.proofs.Changing.{Lane, Freezes, Stages}
 use Rattle.rk_laws_parts.proofs.Staged.{staged_looks}
@@ -24,6 +24,14 @@ terms_sent rows keeps wire number message old says = record {
   kept = old.kept;
   apart = old.apart;
   sent = each_with (λ n m. All (λ row. SentFits row m.body) rows) wire number message old.sent says;
+}
+
+-- fewer messages are on the wire
+pub terms_forgotten : (rows : List Row) (keeps : ℕ → ℕ → Tablet) (wire less : Table Message) → Terms rows keeps wire → HasNoMore less wire → Terms rows keeps less
+terms_forgotten rows keeps wire less old no_more = record {
+  kept = old.kept;
+  apart = old.apart;
+  sent = λ n m found. old.sent n m (no_more n m found);
 }
 
 -- a tablet that looks as before fits beside a row as before

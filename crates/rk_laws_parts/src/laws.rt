@@ -9,7 +9,7 @@ ghost use Rattle.rk_types.specs.declared.call.Call.{Call};
 ghost use Rattle.rk_types.specs.Range.{meets};
 ghost use Rattle.rk_world.specs.Base.{Base};
 ghost use Rattle.rk_world.specs.Sound.Logs.{stored_of};
-ghost use Rattle.rk_world.specs.Sound.Small.{MayFreeze, MaySend, MayStage, call_staged, message_sent, tablet_frozen};
+ghost use Rattle.rk_world.specs.Sound.Small.{MayComeTo, MayFreeze, MayKeep, MaySend, MayStage, call_staged, client_come, message_forgotten, message_sent, request_kept, tablet_frozen};
 ghost use Rattle.rk_world.specs.Sound.Whole.{IsSound};
 ghost use Rattle.rk_world.specs.World.{World, backup_at, kept_in, lives, log_in, new_world, written_in};
 
@@ -20,10 +20,15 @@ pub fn new_lanes_are_sound()
         → 1 ≤ backups → IsSound (new_world base lane masters backups) }
 {}
 
-/// A sound lane stays sound when a message is sent, when a write is staged, and when a tablet freezes, wherever the
-/// condition of the change holds.
+/// A sound lane stays sound when a message is sent or forgotten, when a client comes, when a request is kept that may be
+/// sent again, when a write is staged, and when a tablet freezes, wherever the condition of the change holds; forgetting
+/// has none.
 pub fn small_changes_keep_lanes_sound()
     ensures sent { (w : World) (message : Message) → IsSound w → MaySend w message → IsSound (message_sent w message) }
+    ensures forgotten { (w : World) (number : ℕ) → IsSound w → IsSound (message_forgotten w number) }
+    ensures come { (w : World) (client : ℕ) → IsSound w → MayComeTo w client → IsSound (client_come w client) }
+    ensures kept { (w : World) (client : ℕ) (message : Message)
+        → IsSound w → MayKeep w client message → IsSound (request_kept w client message) }
     ensures staged { (w : World) (master : ℕ) (call : Call) (value : Option (List ℕ))
         → IsSound w → (may : MayStage w master call value)
         → IsSound (call_staged w master may.served.row.tablet call value) }

@@ -4,13 +4,13 @@ use Rattle.rk_types.specs.declared.call.Call.{Call}
 use Rattle.rk_entry.specs.declared.entry.Entry.TheVariants as entries
 use Rattle.rk_message.specs.declared.message.Message.{Message}
 use Rattle.rk_transfer.specs.declared.role.Role.TheVariants as roles
-use Rattle.rk_world.specs.Desk.{asked_by, with_sent}
+use Rattle.rk_world.specs.Desk.{asked_by, with_client, with_request, with_sent, without_message}
 use Rattle.rk_world.specs.Master.{Master, tablet_at, with_tablet}
 use Rattle.rk_world.specs.Requests.{item_of, counted_up, with_staged}
 use Rattle.rk_world.specs.Tablet.{Tablet, with_handover}
 use Rattle.rk_world.specs.Written.{truth_of, rest_of}
 use Rattle.rk_world.specs.World.{World, master_at, backup_at, lives, log_in, kept_in, written_in, with_master, with_desk}
-use Rattle.rk_world.specs.Sound.Changes.{MayBeSent, MayBeStaged}
+use Rattle.rk_world.specs.Sound.Changes.{MayBeSent, MayBeSentAgain, MayBeStaged, MayCome}
 use Rattle.rk_world.specs.Sound.Moves.{MayBeFrozen}
 
 -- a message is sent
@@ -22,6 +22,26 @@ abbrev pub MaySend : World → Message → Type 0
 MaySend w message =
     MayBeSent w.coordinator.rows (truth_of w.base (written_in w)) (rest_of (written_in w)) (log_in w) (written_in w)
     (backup_at w) (kept_in w) (lives w) w.coordinator.handed w.desk.journal (asked_by w.desk) message
+
+-- a message is forgotten: it was lost, or is delivered no more
+abbrev pub message_forgotten : World → ℕ → World
+message_forgotten w number = with_desk w (without_message w.desk number)
+
+-- a client comes, and has asked nothing
+abbrev pub client_come : World → ℕ → World
+client_come w client = with_desk w (with_client w.desk client)
+
+-- a client may come in this world
+abbrev pub MayComeTo : World → ℕ → Type 0
+MayComeTo w client = MayCome w.desk.clients client
+
+-- a message is kept that a client may send again
+abbrev pub request_kept : World → ℕ → Message → World
+request_kept w client message = with_desk w (with_request w.desk client message)
+
+-- a message may be kept in this world, to be sent again by a client
+abbrev pub MayKeep : World → ℕ → Message → Type 0
+MayKeep w client message = MayBeSentAgain (asked_by w.desk) w.desk.journal client message
 
 -- a write or a removal is staged at a master, for the tablet of this number, whose counter rises
 abbrev pub write_staged : Master → ℕ → Call → Option (List ℕ) → Master

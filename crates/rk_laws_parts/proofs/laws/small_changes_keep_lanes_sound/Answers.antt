@@ -1,3 +1,5 @@
+use Rattle.rk_laws_parts.proofs.SoundDesk.{sound_come, sound_kept}
+use Rattle.rk_laws_parts.proofs.SoundForgotten.{sound_forgotten}
 use Rattle.rk_laws_parts.proofs.SoundFrozen.{sound_frozen}
 use Rattle.rk_laws_parts.proofs.SoundSent.{sound_sent}
 use Rattle.rk_laws_parts.proofs.SoundStaged.{sound_staged}
@@ -5,6 +7,15 @@ use Rattle.rk_laws_parts.proofs.laws.small_changes_keep_lanes_sound.Goals as goa
 
 pub returns-clause-sent : goal.returns-clause-sent
 returns-clause-sent c = sound_sent
+
+pub returns-clause-forgotten : goal.returns-clause-forgotten
+returns-clause-forgotten c = sound_forgotten
+
+pub returns-clause-come : goal.returns-clause-come
+returns-clause-come c = λ w client sound may. sound_come w client sound may
+
+pub returns-clause-kept : goal.returns-clause-kept
+returns-clause-kept c = λ w client message sound may. sound_kept w client message sound may
 
 pub returns-clause-staged : goal.returns-clause-staged
 returns-clause-staged c = sound_staged
