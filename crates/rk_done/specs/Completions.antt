@@ -1,65 +1,69 @@
--- What is kept of each client, and what is known by it.
+-- How each client's last call ended, and what is known by it of another call.
 use Rattle.std.specs.Prelude.{◌≡◌, ℕ, ◌<◌, ◌≤◌, Bool, true, nat_lt, ◌==◌, if◌then◌else◌, List, [], ◌∷◌, map, length, slice_index_or, Option, Some, None, refl}
-use Rattle.std.specs.Ordering.{nat_cmp}
-use Rattle.std.specs.FinMap.{FinMap, get, insert, entries, code}
 use Rattle.std.specs.Coded.{Coded, code_by, coded×, coded_ℕ}
+use Rattle.rk_types.specs.NumberMap.{NumberMap, get, insert, number_map_code}
 use Rattle.rk_types.specs.declared.call.Ended.{Ended}
-use Rattle.rk_done.specs.declared.kept.Kept.{Kept}
-use Rattle.rk_done.specs.declared.kept.Look.{Look}
-use Rattle.rk_done.specs.declared.kept.Look.TheVariants.{New, Same, Old}
-use Rattle.rk_done.specs.contracts.kept.Kept as kept_type
+use Rattle.rk_done.specs.declared.completion.Completion.{Completion}
+use Rattle.rk_done.specs.declared.completion.Look.{Look}
+use Rattle.rk_done.specs.declared.completion.Look.TheVariants.{New, Same, Old}
+use Rattle.rk_done.specs.contracts.completion.Completion as completion_type
 
--- what is kept of each client that is known
+-- the last completion of each client, by the client's number
 abbrev pub Completions : Type 0
-Completions = FinMap nat_cmp Kept
+Completions = NumberMap Completion
 
--- what contracts see of the type: what is kept, and how many more clients find room
+-- what contracts see of the type: the completions, and how many more clients find room
 pub record Completed : Type 0 where
-  pub kept : Completions
+  pub completions : Completions
   pub room : ℕ
 
 -- it is stored as the pair of its fields
 abbrev pub completed_code : Coded Completed
 completed_code =
-    code_by (Completions × ℕ) (coded× (code coded_ℕ kept_type.the_row.coded) coded_ℕ) (λ c. (c.kept, c.room)) (λ p. record { kept = p.0; room = p.1 }) (λ _. refl)
+    code_by (Completions × ℕ) (coded× (number_map_code completion_type.the_row.coded) coded_ℕ) (λ c. (c.completions, c.room))
+    (λ p. record { completions = p.0; room = p.1 }) (λ _. refl)
 
--- what is known of the call with a seq, by what is kept of its client
-abbrev pub look_of : Option Kept → ℕ → Look
+-- what is known of the call with a seq, by the last completion of its client
+abbrev pub look_of : Option Completion → ℕ → Look
 look_of None seq = New
-look_of (Some kept) seq = if nat_lt kept.seq seq then New else (if kept.seq == seq then Same kept.end else Old kept.seq)
+look_of (Some last) seq = if nat_lt last.seq seq then New else (if last.seq == seq then Same last.end else Old last.seq)
 
--- whether a call with a seq ended later than what is kept of its client
-abbrev pub is_later : Option Kept → ℕ → Bool
+-- what is known of the call of a client with a seq
+abbrev pub look : Completions → ℕ → ℕ → Look
+look completions client seq = look_of (get completions client) seq
+
+-- whether a call with a seq ended later than the last completion of its client
+abbrev pub is_later : Option Completion → ℕ → Bool
 is_later None seq = true
-is_later (Some kept) seq = nat_lt kept.seq seq
+is_later (Some last) seq = nat_lt last.seq seq
 
--- what is kept once a call ended: the greater seq, and on a tie the end that is there
+-- the completions once a call ended: of its client the greater seq stays, and on a tie the end that is there
 abbrev pub noted : Completions → Ended → Completions
-noted kept ended =
-    if is_later (get kept ended.client) ended.seq
-    then insert kept ended.client (record { seq = ended.seq; end = ended.end })
-    else kept
+noted completions ended =
+    if is_later (get completions ended.client) ended.seq
+    then insert completions ended.client (record { seq = ended.seq; end = ended.end })
+    else completions
 
--- what is kept after calls that ended one after the other, begun with what is kept
+-- the completions after calls that ended one after the other, begun with these
 abbrev pub completions_from : Completions → List Ended → Completions
-completions_from kept [] = kept
-completions_from kept (ended ∷ later) = completions_from (noted kept ended) later
+completions_from completions [] = completions
+completions_from completions (ended ∷ later) = completions_from (noted completions ended) later
 
--- the end of one client
-abbrev pub ended_of : ℕ × Kept → Ended
+-- the end of one client's last call
+abbrev pub ended_of : ℕ × Completion → Ended
 ended_of entry = record { client = entry.0; seq = entry.1.seq; end = entry.1.end }
 
--- the ends that are kept, by rising client
+-- the ends of the last calls, by rising client
 abbrev pub ends_of : Completions → List Ended
-ends_of kept = map ended_of (entries kept)
+ends_of completions = map ended_of completions
 
 -- the client stands at this place
-pub record IsAt (client : ℕ) (kept : List (ℕ × Kept)) (place : ℕ) : Type 0 where
-  pub within : place < length kept
-  pub same : (d : ℕ × Kept) → (slice_index_or kept place d).0 ≡ client
+pub record IsAt (client : ℕ) (completions : List (ℕ × Completion)) (place : ℕ) : Type 0 where
+  pub within : place < length completions
+  pub same : (d : ℕ × Completion) → (slice_index_or completions place d).0 ≡ client
 
 -- the clients before this place are smaller, and those from it on greater
-pub record Parts (client : ℕ) (kept : List (ℕ × Kept)) (place : ℕ) : Type 0 where
-  pub within : place ≤ length kept
-  pub smaller : (k : ℕ) (d : ℕ × Kept) → k < place → (slice_index_or kept k d).0 < client
-  pub greater : (k : ℕ) (d : ℕ × Kept) → place ≤ k → k < length kept → client < (slice_index_or kept k d).0
+pub record Parts (client : ℕ) (completions : List (ℕ × Completion)) (place : ℕ) : Type 0 where
+  pub within : place ≤ length completions
+  pub smaller : (k : ℕ) (d : ℕ × Completion) → k < place → (slice_index_or completions k d).0 < client
+  pub greater : (k : ℕ) (d : ℕ × Completion) → place ≤ k → k < length completions → client < (slice_index_or completions k d).0

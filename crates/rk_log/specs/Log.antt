@@ -3,6 +3,7 @@ use Rattle.std.specs.Prelude.{ℕ, suc, ◌+◌, ◌-◌, ◌≤◌, ◌==◌, B
 use Rattle.std.specs.List.{find, list_all, prefix_len, sum_by}
 use Rattle.std.specs.Option.{option_map, option_map_or}
 use Rattle.std.specs.Coded.{Coded, code_by, coded×, coded_list, coded_ℕ}
+use Rattle.rk_types.specs.NumberMap.{number_map_code}
 use Rattle.rk_entry.specs.declared.entry.Entry.{Entry}
 use Rattle.rk_entry.specs.contracts.entry.Entry as entry_type
 use Rattle.rk_entry.specs.declared.lists.TheConstants.{FIRST_SIDE_SEGMENT}
@@ -10,7 +11,7 @@ use Rattle.rk_segment.specs.Segment.{NumberedBytes}
 use Rattle.rk_log.specs.declared.overreach.Overreach.{Overreach}
 use Rattle.rk_log.specs.declared.ends.EntryEnd.{EntryEnd}
 use Rattle.rk_log.specs.Cut.{cut, ends}
-use Rattle.rk_log.specs.Known.{Known, known_code, known_length, nothing, told, is_whole, reaches}
+use Rattle.rk_log.specs.Known.{Known, known_length, nothing, told, is_whole, reaches}
 use Rattle.rk_log.specs.Piece.{PlacedBytes}
 
 -- the entries, the bytes of the side segments, and what each backup is known to hold
@@ -23,7 +24,7 @@ pub record Log : Type 0 where
 abbrev pub log_code : Coded Log
 log_code =
     code_by (List Entry × (List (List ℕ) × List Known))
-    (coded× (coded_list entry_type.the_row.coded) (coded× (coded_list (coded_list coded_ℕ)) (coded_list known_code)))
+    (coded× (coded_list entry_type.the_row.coded) (coded× (coded_list (coded_list coded_ℕ)) (coded_list (number_map_code coded_ℕ))))
     (λ log. (log.entries, (log.sides, log.known))) (λ p. record { entries = p.0; sides = p.1.0; known = p.1.1 }) (λ _. refl)
 
 -- segments with their numbers, which count from this one

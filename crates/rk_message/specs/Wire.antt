@@ -1,8 +1,7 @@
 -- What is on a wire: the messages that were sent and are not forgotten, by number.
-use Rattle.std.specs.Prelude.{◌≡◌, ℕ, zero, suc, ◌+◌, ◌*◌, ◌^◌, ◌≤◌, refl, Option, Some, None, option_map, slice_get, sum_by}
+use Rattle.std.specs.Prelude.{◌≡◌, ℕ, zero, suc, ◌+◌, ◌*◌, ◌^◌, ◌≤◌, refl, [], Option, Some, None, option_map, slice_get, sum_by}
 use Rattle.std.specs.Coded.{Coded, code_by, coded×, coded_ℕ}
-use Rattle.std.specs.Ordering.{nat_cmp}
-use Rattle.std.specs.FinMap.{FinMap, code, empty, get, insert, remove, keys, entries}
+use Rattle.rk_types.specs.NumberMap.{NumberMap, EachIn, IsInOrder, get, insert, remove, numbers, number_map_code}
 use Rattle.rk_types.specs.declared.node.Node.{Node}
 use Rattle.rk_message.specs.declared.message.Message.{Message}
 use Rattle.rk_message.specs.contracts.message.Message as message
@@ -12,36 +11,33 @@ use Rattle.rk_message.specs.Frames.{frame_len, IsLawfulMessage}
 
 -- what contracts see of a wire: the messages that are there, by number, and how many were sent
 pub record Traffic : Type 0 where
-  pub messages : FinMap nat_cmp Message
+  pub messages : NumberMap Message
   pub sent : ℕ
 
 abbrev pub traffic_code : Coded Traffic
 traffic_code =
-    code_by (FinMap nat_cmp Message × ℕ) (coded× (code coded_ℕ message.the_row.coded) coded_ℕ) (λ wire. (wire.messages, wire.sent))
+    code_by (NumberMap Message × ℕ) (coded× (number_map_code message.the_row.coded) coded_ℕ) (λ wire. (wire.messages, wire.sent))
     (λ parts. record { messages = parts.0; sent = parts.1 }) (λ _. refl)
 
 -- a wire to which nothing was sent
 abbrev pub silent : Traffic
-silent = record { messages = empty; sent = 0 }
-
--- what holds of each number that has a message, and of that message
-abbrev pub EachMessage : (ℕ → Message → Type 0) → FinMap nat_cmp Message → Type 0
-EachMessage P messages = (n : ℕ) (message : Message) → get messages n ≡ Some message → P n message
+silent = record { messages = []; sent = 0 }
 
 -- each number was given to a message that was sent; so the next number is free
 abbrev pub HasSentNumbers : Traffic → Type 0
-HasSentNumbers wire = EachMessage (λ n _. (1 ≤ n) × (n ≤ wire.sent)) wire.messages
+HasSentNumbers wire = EachIn (λ n _. (1 ≤ n) × (n ≤ wire.sent)) wire.messages
 
 -- each message has a frame
 abbrev pub HasLawfulMessages : Traffic → Type 0
-HasLawfulMessages wire = EachMessage (λ _ message. IsLawfulMessage message) wire.messages
+HasLawfulMessages wire = EachIn (λ _ message. IsLawfulMessage message) wire.messages
 
 -- the lengths of the frames of the messages that are there, added, in bytes
 abbrev pub bytes_on : Traffic → ℕ
-bytes_on wire = sum_by (λ entry. frame_len entry.1) (entries wire.messages)
+bytes_on wire = sum_by (λ entry. frame_len entry.1) wire.messages
 
--- so many bytes are kept as the sum of the frames; each message that was sent brought fewer than 2^32
-pub record IsKept (wire : Traffic) (bytes : ℕ) : Type 0 where
+-- a wire that counts so many bytes: the sum of the frames, of which each message that was sent brought fewer than 2^32
+pub record IsConsistent (wire : Traffic) (bytes : ℕ) : Type 0 where
+  pub order : IsInOrder wire.messages
   pub numbers : HasSentNumbers wire
   pub lawful : HasLawfulMessages wire
   pub counted : bytes ≡ bytes_on wire
@@ -76,4 +72,4 @@ kind_of n wire = option_map (λ message. kind_number message.body) (get wire.mes
 -- the number of the message at a place, the oldest at place 1
 abbrev pub number_at : ℕ → Traffic → Option ℕ
 number_at zero wire = None
-number_at (suc place) wire = slice_get (keys wire.messages) place
+number_at (suc place) wire = slice_get (numbers wire.messages) place

@@ -14,6 +14,7 @@ pub use lineage::Member;
 pub use listed::Listed;
 pub use memory::NoMemory;
 pub use node::{Node, Parcel, Said};
+pub use numbered::Numbered;
 pub use range::Range;
 pub use status::Status;
 pub use text::{Key, LONGEST_KEY, LONGEST_VALUE, TextError, Value};
@@ -26,6 +27,7 @@ mod lineage;
 mod listed;
 mod memory;
 mod node;
+mod numbered;
 mod range;
 mod status;
 #[cfg(test)]

@@ -127,3 +127,18 @@ fn ranges_hold_hashes(rt: HostRuntime) {
     );
     assert!(rt; !low.meets(&Range { table: 2, ..low }));
 }
+
+#[test]
+fn keeps_values_by_number(rt: HostRuntime) -> Result<(), Fail> {
+    let mut numbered = Numbered::new(rt.alloc());
+    for number in [7u64, 2, 5] {
+        numbered.insert(number, number * 10)?;
+    }
+    numbered.insert(5, 51)?;
+    assert_eq!(rt; numbered.get(5), Some(&51));
+    assert_eq!(rt; numbered.number_at(1), Some(5));
+    assert_eq!(rt; numbered.remove(2), Some(20));
+    assert_eq!(rt; numbered.get(2), None);
+    assert_eq!(rt; numbered.count(), 2);
+    Ok(())
+}
