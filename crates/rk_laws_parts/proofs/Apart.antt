@@ -9,7 +9,7 @@ use Rattle.rk_types.specs.Range.{meets}
 use Rattle.rk_types.specs.declared.range.Range.{Range}
 use Rattle.rk_tablet_map.specs.Rows.{Precedes, IsTabletMap}
 use Rattle.rk_tablet_map.specs.declared.row.Row.{Row}
-use Rattle.rk_world.specs.Material.{has_key}
+use Rattle.rk_world.specs.Ranges.{has_key}
 
 -- one of a list with a first one is the first, or one of the others
 contains_cases : {X : Type 0} (first : X) (others : List X) (x : X) → Contains (first ∷ others) x → (first ≡ x) ⊎ Contains others x

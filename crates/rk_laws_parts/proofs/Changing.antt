@@ -1,6 +1,7 @@
 -- What a change is to the parts: which of the data that they name differ after it, and how.
 use Rattle.std.proofs.Common.{◌≡◌, ℕ, true, false, List, [], ◌∷◌, ◌++◌, length}
 use Rattle.std.specs.List.{Contains}
+use Rattle.rk_types.specs.NumberMap.{NumberMap, insert}
 use Rattle.rk_types.specs.declared.call.Call.{Call}
 use Rattle.rk_types.specs.declared.held.Held.{Held}
 use Rattle.rk_types.specs.declared.lineage.Member.{Member}
@@ -9,26 +10,25 @@ use Rattle.rk_entry.specs.declared.entry.Entry.{Entry}
 use Rattle.rk_entry.specs.declared.entry.Entry.TheVariants as entries
 use Rattle.rk_log.specs.Log.{Log, with_entry}
 use Rattle.rk_tablet_map.specs.declared.row.Row.{Row}
-use Rattle.rk_world.specs.Material.{has_key}
-use Rattle.rk_world.specs.Requests.{counted_up}
-use Rattle.rk_world.specs.Sound.Small.{as_frozen}
-use Rattle.rk_world.specs.Tables.{Table, with_at}
+use Rattle.rk_world.specs.Ranges.{has_key}
 use Rattle.rk_world.specs.Tablet.{Tablet}
+use Rattle.rk_world.specs.Requests.{counted_up}
 use Rattle.rk_world.specs.Written.{Written, member_truth, member_rest, member_material}
+use Rattle.rk_world.specs.Sound.Small.{as_frozen}
 
 -- what is kept for a number is this now, and what is kept for each other one is what it was
 pub record DiffersAt {X : Type 0} (number : ℕ) (thing : X) (old new : ℕ → X) : Type 0 where
   pub here : new number ≡ thing
   pub others : (q : ℕ) → (q ≡ number → ⊥) → new q ≡ old q
 
--- what a master keeps of a tablet is this now, and all else is what it was
+-- what a master has of a tablet is this now, and all else is what it was
 pub record KeepsNow (master number : ℕ) (tablet : Tablet) (old new : ℕ → ℕ → Tablet) : Type 0 where
   pub here : new master number ≡ tablet
   pub others : (q r : ℕ) → (q ≡ master → r ≡ number → ⊥) → new q r ≡ old q r
 
 -- a tablet froze at a master
 abbrev pub Freezes : ℕ → ℕ → (ℕ → ℕ → Tablet) → (ℕ → ℕ → Tablet) → Type 0
-Freezes master number keeps now = KeepsNow master number (as_frozen (keeps master number)) keeps now
+Freezes master number tablets now = KeepsNow master number (as_frozen (tablets master number)) tablets now
 
 -- what a master has written, with one more entry
 abbrev pub with_one_more : Written → Entry → Written
@@ -39,8 +39,8 @@ with_one_more written entry = record written { entries = written.entries ++ entr
 pub record Lane : Type 0 where
   pub logs : ℕ → Log
   pub written : ℕ → Written
-  pub keeps : ℕ → ℕ → Tablet
-  pub calls : ℕ → Table Call
+  pub tablets : ℕ → ℕ → Tablet
+  pub calls : ℕ → NumberMap Call
   pub rests : Row → List Entry
 
 -- a write of a call was staged at a master, for a row whose lineage ends with it: the item has the tablet's counter as its
@@ -53,18 +53,18 @@ pub record Stages (rows : List Row) (before after : Lane) (master : ℕ) (row : 
   pub outside :
       (other : Row) → Contains rows other → (other.tablet ≡ row.tablet → ⊥)
       → has_key other.range item.table item.key ≡ false
-  pub version : item.version ≡ (before.keeps master row.tablet).handover.counter
+  pub version : item.version ≡ (before.tablets master row.tablet).handover.counter
   -- what differs
   pub logs_differ : DiffersAt master (with_entry (before.logs master) (entries.Held item)) before.logs after.logs
   pub written_differ :
       DiffersAt master (with_one_more (before.written master) (entries.Held item)) before.written after.written
   pub calls_differ :
-      DiffersAt master (with_at (before.calls master) (length (before.written master).entries) call) before.calls after.calls
-  pub keeps_differ : KeepsNow master row.tablet (counted_up (before.keeps master row.tablet)) before.keeps after.keeps
+      DiffersAt master (insert (before.calls master) (length (before.written master).entries) call) before.calls after.calls
+  pub keeps_differ : KeepsNow master row.tablet (counted_up (before.tablets master row.tablet)) before.tablets after.tablets
   pub rest_here : after.rests row ≡ before.rests row ++ entries.Held item ∷ []
   pub rest_others :
       (other : Row) → Contains rows other → (other.tablet ≡ row.tablet → ⊥) → after.rests other ≡ before.rests other
-  -- what is committed counts as before, and so does all that another member has, or another range
+  -- what is applied counts as before, and so does all that another member has, or another range
   pub truth_same :
       (range : Range) (member : Member) → member_truth after.written range member ≡ member_truth before.written range member
   pub rest_same :

@@ -1,10 +1,10 @@
 -- What is kept for a number, or of a tablet, goes on as it was where one of it alone differs.
-use Rattle.std.specs.Prelude.{◌≡◌, ℕ, Bool, true}
 use Rattle.std.proofs.Common.{sym, subst, ◌∙◌, ⊎_elim, ◌≡◌, ℕ, ◌⊎◌, ap, inl, inr}
+use Rattle.std.specs.Prelude.{◌≡◌, ℕ, Bool, true}
 use Rattle.std.proofs.lemmas.Bool.{cases_eq}
 use Rattle.rk_world.specs.Tablet.{Tablet}
-use Rattle.rk_laws_parts.proofs.Changing.{DiffersAt, KeepsNow}
 use Rattle.rk_world.specs.Sound.Posts.{StillCounts}
+use Rattle.rk_laws_parts.proofs.Changing.{DiffersAt, KeepsNow}
 
 -- what is kept for each number goes on as what was, where the one that differs does
 pub differs_each : {X : Type 0} (Follows : X → X → Type 0) (number : ℕ) (thing : X) (old new : ℕ → X) → DiffersAt number thing old new → ((x : X) → Follows x x) → Follows (old number) thing → (q : ℕ) → Follows (old q) (new q)
@@ -16,25 +16,25 @@ differs_each {X} Follows number thing old new change same here q =
     (λ (apart : q ≡ number → ⊥). subst (Follows (old q)) (sym (change.others q apart)) (same (old q)))
     (cases_eq q number)
 
--- what each master keeps of a tablet goes on as what it kept, where the one that differs does
-pub keeps_each : (Follows : Tablet → Tablet → Type 0) (master number : ℕ) (tablet : Tablet) (keeps now : ℕ → ℕ → Tablet) → KeepsNow master number tablet keeps now → ((t : Tablet) → Follows t t) → Follows (keeps master number) tablet → (q r : ℕ) → Follows (keeps q r) (now q r)
-keeps_each Follows master number tablet keeps now change same here q r =
-    let unless : (q ≡ master → r ≡ number → ⊥) → Follows (keeps q r) (now q r) =
-    λ apart. subst (Follows (keeps q r)) (sym (change.others q r apart)) (same (keeps q r)) in
+-- what each master has of a tablet goes on as what it kept, where the one that differs does
+pub keeps_each : (Follows : Tablet → Tablet → Type 0) (master number : ℕ) (tablet : Tablet) (tablets now : ℕ → ℕ → Tablet) → KeepsNow master number tablet tablets now → ((t : Tablet) → Follows t t) → Follows (tablets master number) tablet → (q r : ℕ) → Follows (tablets q r) (now q r)
+keeps_each Follows master number tablet tablets now change same here q r =
+    let unless : (q ≡ master → r ≡ number → ⊥) → Follows (tablets q r) (now q r) =
+    λ apart. subst (Follows (tablets q r)) (sym (change.others q r apart)) (same (tablets q r)) in
     ⊎_elim
     (λ (of_master : q ≡ master).
     ⊎_elim
     (λ (of_number : r ≡ number).
-    subst (Follows (keeps q r)) (sym change.here ∙ sym (λ i. now (of_master i) (of_number i)))
-    (subst (λ (t : Tablet). Follows t tablet) (sym (λ i. keeps (of_master i) (of_number i))) here))
+    subst (Follows (tablets q r)) (sym change.here ∙ sym (λ i. now (of_master i) (of_number i)))
+    (subst (λ (t : Tablet). Follows t tablet) (sym (λ i. tablets (of_master i) (of_number i))) here))
     (λ (apart : r ≡ number → ⊥). unless (λ _ is. apart is))
     (cases_eq r number))
     (λ (apart : q ≡ master → ⊥). unless (λ is _. apart is))
     (cases_eq q master)
 
 -- a tablet is as it was, or it is the one that changed
-pub now_cases : (change : Tablet → Tablet) (keeps now : ℕ → ℕ → Tablet) (master number : ℕ) → KeepsNow master number (change (keeps master number)) keeps now → (q r : ℕ) → (now q r ≡ keeps q r) ⊎ ((q ≡ master) × (r ≡ number) × (now q r ≡ change (keeps q r)))
-now_cases change keeps now master number differs q r =
+pub now_cases : (change : Tablet → Tablet) (tablets now : ℕ → ℕ → Tablet) (master number : ℕ) → KeepsNow master number (change (tablets master number)) tablets now → (q r : ℕ) → (now q r ≡ tablets q r) ⊎ ((q ≡ master) × (r ≡ number) × (now q r ≡ change (tablets q r)))
+now_cases change tablets now master number differs q r =
     ⊎_elim
     (λ (here : q ≡ master).
     ⊎_elim
@@ -43,7 +43,7 @@ now_cases change keeps now master number differs q r =
       here,
       its,
       ap (λ (n : ℕ). now n r) here ∙ ap (now master) its ∙ differs.here
-          ∙ sym (ap (λ (n : ℕ). change (keeps n r)) here ∙ ap (λ (n : ℕ). change (keeps master n)) its),
+          ∙ sym (ap (λ (n : ℕ). change (tablets n r)) here ∙ ap (λ (n : ℕ). change (tablets master n)) its),
     ))
     (λ (other : r ≡ number → ⊥). inl (differs.others q r (λ at its. other its)))
     (cases_eq r number))
@@ -51,12 +51,12 @@ now_cases change keeps now master number differs q r =
     (cases_eq q master)
 
 -- what does not see the change is the same of all
-pub now_same : {X : Type 0} (f : Tablet → X) (change : Tablet → Tablet) → ((tablet : Tablet) → f (change tablet) ≡ f tablet) → (keeps now : ℕ → ℕ → Tablet) (master number : ℕ) → KeepsNow master number (change (keeps master number)) keeps now → (q r : ℕ) → f (now q r) ≡ f (keeps q r)
-now_same {X} f change alike keeps now master number differs q r =
+pub now_same : {X : Type 0} (f : Tablet → X) (change : Tablet → Tablet) → ((tablet : Tablet) → f (change tablet) ≡ f tablet) → (tablets now : ℕ → ℕ → Tablet) (master number : ℕ) → KeepsNow master number (change (tablets master number)) tablets now → (q r : ℕ) → f (now q r) ≡ f (tablets q r)
+now_same {X} f change alike tablets now master number differs q r =
     ⊎_elim
-    (λ (same : now q r ≡ keeps q r). ap f same)
-    (λ (at : (q ≡ master) × (r ≡ number) × (now q r ≡ change (keeps q r))). ap f at.2 ∙ alike (keeps q r))
-    (now_cases change keeps now master number differs q r)
+    (λ (same : now q r ≡ tablets q r). ap f same)
+    (λ (at : (q ≡ master) × (r ≡ number) × (now q r ≡ change (tablets q r))). ap f at.2 ∙ alike (tablets q r))
+    (now_cases change tablets now master number differs q r)
 
 -- what is kept for a number is what it was, or it is what changed
 pub differs_cases : {X : Type 0} (change : X → X) (old new : ℕ → X) (number : ℕ) → DiffersAt number (change (old number)) old new → (q : ℕ) → (new q ≡ old q) ⊎ ((q ≡ number) × (new q ≡ change (old q)))
@@ -74,7 +74,7 @@ differs_same {X} {Y} f change alike old new number differs q =
     (λ (at : (q ≡ number) × (new q ≡ change (old q))). ap f at.1 ∙ alike (old q))
     (differs_cases change old new number differs q)
 
--- what a master keeps still counts as before, where it keeps the same term
+-- what a master has still counts as before, where it keeps the same term
 pub still_counts : (live : Bool) (old new term : ℕ) → new ≡ old → StillCounts live new term → StillCounts live old term
 still_counts live old new term same counts =
     ⊎_elim (λ (lives : live ≡ true). inl lives) (λ (at : new ≡ term). inr (sym same ∙ at)) counts

@@ -1,37 +1,38 @@
 -- The world where nothing has happened is sound, whatever its history starts from, with any number of masters and backups.
 use Rattle.std.proofs.Common.{◌≡◌, ℕ, zero, suc, ◌+◌, ◌≤◌, ◌-◌, true, false, List, [], ◌∷◌, ◌++◌, length, get_or, replicate, map, Some, None, refl, sym, ap, subst, ◌∙◌, arith, All, ◌⊎◌, slice_get}
+use Rattle.std.specs.Prelude.{IfSome}
 use Rattle.std.specs.List.{range_with_len, flat_map}
 use Rattle.std.specs.List.Sorted.{IsStrictlySortedBy}
 use Rattle.std.proofs.lemmas.List.Elements.{All-nil}
+use Rattle.rk_types.specs.NumberMap.{EachIn}
+use Rattle.rk_outside.specs.Segments.{Segments, bytes_of as stored_bytes}
 use Rattle.rk_log.specs.Known.{Known, known_length, nothing}
 use Rattle.rk_log.specs.Log.{new_log, known_of}
-use Rattle.rk_outside.specs.Segments.{Segments, bytes_of as stored_bytes}
-use Rattle.rk_world.specs.Backup.{no_segments}
-use Rattle.rk_world.specs.Base.{Base}
-use Rattle.rk_world.specs.Ends.{ends_of}
-use Rattle.rk_world.specs.Master.{Master, new_master, tablet_at}
-use Rattle.rk_world.specs.Tables.{EachIn}
-use Rattle.rk_world.specs.Tablet.{Tablet, no_tablet, is_absent}
-use Rattle.rk_world.specs.World.{new_world, new_backups, master_at, backup_at, kept_in, written_in, log_in, table_in, calls_in, lives}
-use Rattle.rk_world.specs.Written.{written_by, truth_of, rest_of}
-use Rattle.rk_world.specs.Sound.Asked.{Asked}
 use Rattle.rk_table.specs.Order.{IsInScanOrder}
+use Rattle.rk_done.specs.Completions.{ends_of}
+use Rattle.rk_world.specs.Base.{Base}
+use Rattle.rk_world.specs.Tablet.{Tablet, no_tablet}
+use Rattle.rk_world.specs.RoleTests.{is_absent}
+use Rattle.rk_world.specs.Master.{Master, new_master, tablet_at}
+use Rattle.rk_world.specs.Backup.{no_segments}
+use Rattle.rk_world.specs.Written.{written_by, truth_of, rest_of}
+use Rattle.rk_world.specs.World.{new_world, new_backups, master_at, backup_at, tablet_in, written_in, log_in, records_in, calls_in, lives}
+use Rattle.rk_world.specs.Sound.Nodes.{Nodes}
+use Rattle.rk_world.specs.Sound.Terms.{Terms}
+use Rattle.rk_world.specs.Sound.Cover.{Cover, IsEntryWithin, IsItemWithin, IsOfWholeRows}
+use Rattle.rk_world.specs.Sound.Roles.{Roles}
+use Rattle.rk_world.specs.Sound.Logs.{Logs, IsLog, stored_of}
+use Rattle.rk_world.specs.Sound.Truth.{Truth}
+use Rattle.rk_world.specs.Sound.Order.{Order}
 use Rattle.rk_world.specs.Sound.Calls.{Calls, IsKnown, IsStagedEnd}
 use Rattle.rk_world.specs.Sound.Counters.{Counters}
-use Rattle.rk_world.specs.Sound.Logs.{Logs, IsLog, stored_of}
-use Rattle.rk_world.specs.Sound.Nodes.{Nodes}
-use Rattle.rk_world.specs.Sound.Order.{Order}
-use Rattle.rk_world.specs.Sound.Rebuilds.{Rebuilds}
 use Rattle.rk_world.specs.Sound.Rest.{Rest, Waits, IsLast}
-use Rattle.rk_world.specs.Sound.Roles.{Roles}
 use Rattle.rk_world.specs.Sound.Tables.{Tables}
-use Rattle.rk_world.specs.Sound.Terms.{Terms}
-use Rattle.rk_world.specs.Sound.Truth.{Truth}
+use Rattle.rk_world.specs.Sound.Receives.{IsBare, wanted_place}
+use Rattle.rk_world.specs.Sound.Rebuilds.{Rebuilds}
+use Rattle.rk_world.specs.Sound.Asked.{Asked}
 use Rattle.rk_world.specs.Sound.Whole.{IsSound}
 use Rattle.rk_laws_parts.proofs.Fresh.{each_fresh, there_fresh, each_backup_fresh}
-use Rattle.rk_world.specs.Sound.Cover.{Cover, IsEntryWithin, IsItemWithin, IsOfWholeRows}
-use Rattle.rk_world.specs.Sound.Receives.{IsBare, wanted_place}
-use Rattle.std.specs.Prelude.{IfSome}
 
 -- nothing is kept
 nothing_kept : {X : Type 0} (Fits : ℕ → X → Type 0) → EachIn Fits []
@@ -61,7 +62,7 @@ length_replicated zero thing = refl
 length_replicated (suc count) thing = ap (λ (k : ℕ). suc k) (length_replicated count thing)
 
 module _ (base : Base) (lane masters backups : ℕ) where
-  nothing_of : (master tablet : ℕ) → kept_in (new_world base lane masters backups) master tablet ≡ no_tablet
+  nothing_of : (master tablet : ℕ) → tablet_in (new_world base lane masters backups) master tablet ≡ no_tablet
   nothing_of master tablet = ap (λ (m : Master). tablet_at m tablet) (each_fresh base lane masters backups master).is_new
 
   count_is : length (new_backups backups) ≡ backups
@@ -79,14 +80,14 @@ module _ (base : Base) (lane masters backups : ℕ) where
     left = λ master dead. absurd (cc);
   }
 
-  terms_empty : Terms [] (kept_in (new_world base lane masters backups)) []
+  terms_empty : Terms [] (tablet_in (new_world base lane masters backups)) []
   terms_empty = record {
-    kept = λ master tablet. All-nil _;
+    handovers = λ master tablet. All-nil _;
     apart = λ master a b apart first second. absurd (not_absent _ (nothing_of master a) first);
     sent = nothing_kept _;
   }
 
-  roles_empty : Roles [] (kept_in (new_world base lane masters backups)) (written_in (new_world base lane masters backups)) (lives (new_world base lane masters backups))
+  roles_empty : Roles [] (tablet_in (new_world base lane masters backups)) (written_in (new_world base lane masters backups)) (lives (new_world base lane masters backups))
   roles_empty = record {
     fitting = λ master. All-nil _;
     ranged = λ master. All-nil _;
@@ -114,7 +115,7 @@ log_empty known stored nothing_known nothing_stored = record {
 module _ (base : Base) (lane masters backups : ℕ) where
   logs_empty : Logs (log_in (new_world base lane masters backups)) (written_in (new_world base lane masters backups)) (backup_at (new_world base lane masters backups)) []
   logs_empty = record {
-    kept = λ master.
+    each = λ master.
         let fresh = each_fresh base lane masters backups master in
         subst
         (λ (m : Master). IsLog m.log (written_by m []) (stored_of (backup_at (new_world base lane masters backups)) master))
@@ -130,12 +131,12 @@ module _ (base : Base) (lane masters backups : ℕ) where
   order_empty : Order [] (truth_of base (written_in (new_world base lane masters backups))) (rest_of (written_in (new_world base lane masters backups)))
   order_empty = record { above = All-nil _ }
 
-  calls_empty : Calls base [] (truth_of base (written_in (new_world base lane masters backups))) (rest_of (written_in (new_world base lane masters backups))) (kept_in (new_world base lane masters backups)) (lives (new_world base lane masters backups)) [] [] []
+  calls_empty : Calls base [] (truth_of base (written_in (new_world base lane masters backups))) (rest_of (written_in (new_world base lane masters backups))) (tablet_in (new_world base lane masters backups)) (lives (new_world base lane masters backups)) [] [] []
   calls_empty = record {
     once = λ i j a b first second same. absurd (cc);
     reached = All-nil _;
     recorded = All-nil _;
-    kept = λ master. All-nil _;
+    answering = λ master. All-nil _;
     handed_on = All-nil _;
     sent = nothing_kept _;
     known = λ master tablet live.
@@ -147,7 +148,7 @@ module _ (base : Base) (lane masters backups : ℕ) where
         (sym (nothing_of base lane masters backups master tablet)) (All-nil _);
   }
 
-  counters_empty : Counters base [] (truth_of base (written_in (new_world base lane masters backups))) (rest_of (written_in (new_world base lane masters backups))) (written_in (new_world base lane masters backups)) (kept_in (new_world base lane masters backups)) (lives (new_world base lane masters backups)) [] [] []
+  counters_empty : Counters base [] (truth_of base (written_in (new_world base lane masters backups))) (rest_of (written_in (new_world base lane masters backups))) (written_in (new_world base lane masters backups)) (tablet_in (new_world base lane masters backups)) (lives (new_world base lane masters backups)) [] [] []
   counters_empty = record {
     low = All-nil _;
     counted = λ master. All-nil _;
@@ -155,7 +156,7 @@ module _ (base : Base) (lane masters backups : ℕ) where
     sent = nothing_kept _;
   }
 
-  rest_empty : Rest base [] (truth_of base (written_in (new_world base lane masters backups))) (rest_of (written_in (new_world base lane masters backups))) (written_in (new_world base lane masters backups)) (kept_in (new_world base lane masters backups)) (calls_in (new_world base lane masters backups)) (lives (new_world base lane masters backups)) [] (λ client. None)
+  rest_empty : Rest base [] (truth_of base (written_in (new_world base lane masters backups))) (rest_of (written_in (new_world base lane masters backups))) (written_in (new_world base lane masters backups)) (tablet_in (new_world base lane masters backups)) (calls_in (new_world base lane masters backups)) (lives (new_world base lane masters backups)) [] (λ client. None)
   rest_empty = record {
     goes_on = All-nil _;
     done = All-nil _;
@@ -164,7 +165,7 @@ module _ (base : Base) (lane masters backups : ℕ) where
     waiting = λ master live.
         subst
         (λ (m : Master). EachIn
-        (λ place call. Waits [] (kept_in (new_world base lane masters backups) master) (written_by m []) master place call) m.calls)
+        (λ place call. Waits [] (tablet_in (new_world base lane masters backups) master) (written_by m []) master place call) m.calls)
         (sym (each_fresh base lane masters backups master).is_new) (nothing_kept _);
     are_last = λ master live.
         subst (λ (m : Master). EachIn (λ place call. IsLast None call) m.calls)
@@ -175,23 +176,23 @@ module _ (base : Base) (lane masters backups : ℕ) where
         absurd (cc);
   }
 
-  tables_empty : Tables [] (written_in (new_world base lane masters backups)) (kept_in (new_world base lane masters backups)) (table_in (new_world base lane masters backups)) (lives (new_world base lane masters backups))
+  tables_empty : Tables [] (written_in (new_world base lane masters backups)) (tablet_in (new_world base lane masters backups)) (records_in (new_world base lane masters backups)) (lives (new_world base lane masters backups))
   tables_empty = record {
-    ordered = λ master. subst (λ (m : Master). IsInScanOrder m.table) (sym (each_fresh base lane masters backups master).is_new) in_order_none;
+    ordered = λ master. subst (λ (m : Master). IsInScanOrder m.records) (sym (each_fresh base lane masters backups master).is_new) in_order_none;
     items = λ master live. All-nil _;
   }
 
-  rebuilds_empty : Rebuilds [] (truth_of base (written_in (new_world base lane masters backups))) (log_in (new_world base lane masters backups)) (written_in (new_world base lane masters backups)) (backup_at (new_world base lane masters backups)) (kept_in (new_world base lane masters backups)) (table_in (new_world base lane masters backups)) (lives (new_world base lane masters backups))
+  rebuilds_empty : Rebuilds [] (truth_of base (written_in (new_world base lane masters backups))) (log_in (new_world base lane masters backups)) (written_in (new_world base lane masters backups)) (backup_at (new_world base lane masters backups)) (tablet_in (new_world base lane masters backups)) (records_in (new_world base lane masters backups)) (lives (new_world base lane masters backups))
   rebuilds_empty = record { rebuilt = All-nil _; marks = λ master. All-nil _; pieces = λ master. All-nil _ }
 
-  cover_empty : Cover [] (written_in (new_world base lane masters backups)) (kept_in (new_world base lane masters backups)) (table_in (new_world base lane masters backups)) []
+  cover_empty : Cover [] (written_in (new_world base lane masters backups)) (tablet_in (new_world base lane masters backups)) (records_in (new_world base lane masters backups)) []
   cover_empty = record {
     unknown = λ master tablet none.
         ap (λ (t : Tablet). t.handover.term) (nothing_of base lane masters backups master tablet);
     marks = λ master. All-nil _;
     sent = nothing_kept _;
     ranges = λ master tablet some.
-        let e : (kept_in (new_world base lane masters backups) master tablet).handover.term ≡ 0 =
+        let e : (tablet_in (new_world base lane masters backups) master tablet).handover.term ≡ 0 =
         ap (λ (t : Tablet). t.handover.term) (nothing_of base lane masters backups master tablet) in
         absurd (omega (arith, some, e));
     ordered = nothing_kept _;
@@ -201,7 +202,7 @@ module _ (base : Base) (lane masters backups : ℕ) where
         subst (λ (m : Master). All (IsItemWithin []) (flat_map (λ items. items) m.sides))
         (sym (each_fresh base lane masters backups master).is_new) (All-nil _);
     items = λ master.
-        subst (λ (m : Master). All (IsItemWithin []) m.table) (sym (each_fresh base lane masters backups master).is_new) (All-nil _);
+        subst (λ (m : Master). All (IsItemWithin []) m.records) (sym (each_fresh base lane masters backups master).is_new) (All-nil _);
     wholes = λ master.
         subst (λ (m : Master). All (IsOfWholeRows []) m.log.entries) (sym (each_fresh base lane masters backups master).is_new) (All-nil _);
   }
@@ -229,14 +230,14 @@ module _ (base : Base) (lane masters backups : ℕ) where
     calls = calls_empty;
     counters = counters_empty;
     rest = rest_empty;
-    tables = tables_empty;
+    records = tables_empty;
     receives = record {
       targets = All-nil _;
       handed_on = All-nil _;
       bare = λ master tablet.
           subst
           (λ (t : Tablet). IfSome (wanted_place t.handover.role)
-          (λ from. IsBare t.handover.range from (written_in (new_world base lane masters backups) master) (table_in (new_world base lane masters backups) master)))
+          (λ from. IsBare t.handover.range from (written_in (new_world base lane masters backups) master) (records_in (new_world base lane masters backups) master)))
           (sym (nothing_of base lane masters backups master tablet)) tt;
     };
     rebuilds = rebuilds_empty;

@@ -1,72 +1,72 @@
 -- What of a tablet stays the same when one froze.
 use Rattle.std.proofs.Common.{◌≡◌, ℕ, Bool, true, false, List, [], ◌∷◌, ◌⊎◌, refl, ap, ◌∙◌, ⊎_elim}
-use Rattle.std.proofs.lemmas.Bool.{or_left}
 use Rattle.std.specs.Prelude.{◌==◌, if◌then◌else◌, Option, Some, None}
+use Rattle.std.proofs.lemmas.Bool.{or_left}
 use Rattle.rk_types.specs.declared.lineage.Member.{Member}
+use Rattle.rk_transfer.specs.declared.role.Role.TheVariants as roles
 use Rattle.rk_tablet_map.specs.Phase.{lineage_of}
 use Rattle.rk_tablet_map.specs.declared.phase.Phase.{Phase}
 use Rattle.rk_tablet_map.specs.declared.phase.Phase.TheVariants.{Owned, Opening, Moving, Rebuilding}
-use Rattle.rk_world.specs.Coordinator.{is_member}
-use Rattle.rk_world.specs.Sound.Posts.{Owner, Giver, Given, Taker, Heir, FirstHeir, LastHeir, Outsider, Lost, Apart, heir_of, target_post, post_of, bond_of, Holds}
-use Rattle.rk_world.specs.Sound.Small.{as_frozen}
+use Rattle.rk_world.specs.Lineage.{is_member}
 use Rattle.rk_world.specs.Tablet.{Tablet}
+use Rattle.rk_world.specs.Sound.Posts.{Owner, OpeningSource, MovingSource, MovingTarget, OnlyRebuilder, FirstRebuilder, LastRebuilder, OutsideRebuilder, FormerMember, Bystander, rebuilder_post, target_post, post_of, bond_of, Holds}
+use Rattle.rk_world.specs.Sound.Small.{as_frozen}
 use Rattle.rk_laws_parts.proofs.Changing.{Freezes}
 use Rattle.rk_laws_parts.proofs.Differs.{now_cases}
-use Rattle.rk_transfer.specs.declared.role.Role.TheVariants as roles
 
 -- a tablet is as it was, or it is the one that froze
-pub froze_cases : (keeps now : ℕ → ℕ → Tablet) (master number : ℕ) → Freezes master number keeps now → (q r : ℕ) → (now q r ≡ keeps q r) ⊎ ((q ≡ master) × (r ≡ number) × (now q r ≡ as_frozen (keeps q r)))
-froze_cases keeps now master number froze q r = now_cases as_frozen keeps now master number froze q r
+pub froze_cases : (tablets now : ℕ → ℕ → Tablet) (master number : ℕ) → Freezes master number tablets now → (q r : ℕ) → (now q r ≡ tablets q r) ⊎ ((q ≡ master) × (r ≡ number) × (now q r ≡ as_frozen (tablets q r)))
+froze_cases tablets now master number froze q r = now_cases as_frozen tablets now master number froze q r
 
 -- what is alike of a closing tablet and of the frozen one is the same of all
-pub froze_same : {X : Type 0} (f : Tablet → X) → ((tablet : Tablet) → tablet.handover.role ≡ roles.Closing → f (as_frozen tablet) ≡ f tablet) → (keeps now : ℕ → ℕ → Tablet) (master number : ℕ) → (keeps master number).handover.role ≡ roles.Closing → Freezes master number keeps now → (q r : ℕ) → f (now q r) ≡ f (keeps q r)
-froze_same {X} f alike keeps now master number closing froze q r =
+pub froze_same : {X : Type 0} (f : Tablet → X) → ((tablet : Tablet) → tablet.handover.role ≡ roles.Closing → f (as_frozen tablet) ≡ f tablet) → (tablets now : ℕ → ℕ → Tablet) (master number : ℕ) → (tablets master number).handover.role ≡ roles.Closing → Freezes master number tablets now → (q r : ℕ) → f (now q r) ≡ f (tablets q r)
+froze_same {X} f alike tablets now master number closing froze q r =
     ⊎_elim
-    (λ (same : now q r ≡ keeps q r). ap f same)
-    (λ (at : (q ≡ master) × (r ≡ number) × (now q r ≡ as_frozen (keeps q r))).
+    (λ (same : now q r ≡ tablets q r). ap f same)
+    (λ (at : (q ≡ master) × (r ≡ number) × (now q r ≡ as_frozen (tablets q r))).
     ap f at.2
-    ∙ alike (keeps q r)
-    (ap (λ (n : ℕ). (keeps n r).handover.role) at.0 ∙ ap (λ (n : ℕ). (keeps master n).handover.role) at.1 ∙ closing))
-    (froze_cases keeps now master number froze q r)
+    ∙ alike (tablets q r)
+    (ap (λ (n : ℕ). (tablets n r).handover.role) at.0 ∙ ap (λ (n : ℕ). (tablets master n).handover.role) at.1 ∙ closing))
+    (froze_cases tablets now master number froze q r)
 
 -- the heir of a lineage that closes is its only member
-heir_closes : (lineage : List Member) (master term kept committed : ℕ) → Holds (bond_of (heir_of lineage master) roles.Closing) term kept committed → is_member lineage master ≡ true
-heir_closes [] master term kept committed holds = absurd holds
-heir_closes (only ∷ []) master term kept committed holds = go (only.master == master) refl holds
+heir_closes : (lineage : List Member) (master term own applied : ℕ) → Holds (bond_of (rebuilder_post lineage master) roles.Closing) term own applied → is_member lineage master ≡ true
+heir_closes [] master term own applied holds = absurd holds
+heir_closes (only ∷ []) master term own applied holds = go (only.master == master) refl holds
   where
-    go : (b : Bool) → (only.master == master) ≡ b → Holds (bond_of (if b then Heir only.from else Outsider) roles.Closing) term kept committed → is_member (only ∷ []) master ≡ true
+    go : (b : Bool) → (only.master == master) ≡ b → Holds (bond_of (if b then OnlyRebuilder only.from else OutsideRebuilder) roles.Closing) term own applied → is_member (only ∷ []) master ≡ true
     go true is holds = or_left (only.master == master) false is
     go false is holds = absurd holds
-heir_closes (first ∷ last ∷ more) master term kept committed holds = go (first.master == master) (last.master == master) holds
+heir_closes (first ∷ last ∷ more) master term own applied holds = go (first.master == master) (last.master == master) holds
   where
-    go : (b c : Bool) → Holds (bond_of (if b then FirstHeir first.from else if c then LastHeir last.from else Outsider) roles.Closing) term kept committed → is_member (first ∷ last ∷ more) master ≡ true
+    go : (b c : Bool) → Holds (bond_of (if b then FirstRebuilder first.from else if c then LastRebuilder last.from else OutsideRebuilder) roles.Closing) term own applied → is_member (first ∷ last ∷ more) master ≡ true
     go true c holds = absurd holds
     go false true holds = absurd holds
     go false false holds = absurd holds
 
 -- a master that closes a tablet is of its row's lineage
-pub closing_member : (phase : Phase) (master term kept committed : ℕ) → Holds (bond_of (post_of phase master) roles.Closing) term kept committed → is_member (lineage_of phase) master ≡ true
-closing_member (Owned owner from) master term kept committed holds = go (owner == master) holds
+pub closing_member : (phase : Phase) (master term own applied : ℕ) → Holds (bond_of (post_of phase master) roles.Closing) term own applied → is_member (lineage_of phase) master ≡ true
+closing_member (Owned owner from) master term own applied holds = go (owner == master) holds
   where
-    go : (b : Bool) → Holds (bond_of (if b then Owner from else Apart) roles.Closing) term kept committed → is_member (lineage_of (Owned owner from)) master ≡ true
+    go : (b : Bool) → Holds (bond_of (if b then Owner from else Bystander) roles.Closing) term own applied → is_member (lineage_of (Owned owner from)) master ≡ true
     go true holds = absurd holds
     go false holds = absurd holds
-closing_member (Opening source sfrom target dfrom) master term kept committed holds = go (source == master) (target == master) dfrom refl holds
+closing_member (Opening source sfrom target dfrom) master term own applied holds = go (source == master) (target == master) dfrom refl holds
   where
-    go : (b c : Bool) (place : Option ℕ) → (source == master) ≡ b → Holds (bond_of (if b then Giver else if c then target_post place else Apart) roles.Closing) term kept committed → is_member (lineage_of (Opening source sfrom target dfrom)) master ≡ true
+    go : (b c : Bool) (place : Option ℕ) → (source == master) ≡ b → Holds (bond_of (if b then OpeningSource else if c then target_post place else Bystander) roles.Closing) term own applied → is_member (lineage_of (Opening source sfrom target dfrom)) master ≡ true
     go true c place is holds = or_left (source == master) false is
     go false true None is holds = absurd holds
     go false true (Some place) is holds = absurd holds
     go false false place is holds = absurd holds
-closing_member (Moving source sfrom target dfrom) master term kept committed holds = go (source == master) (target == master) holds
+closing_member (Moving source sfrom target dfrom) master term own applied holds = go (source == master) (target == master) holds
   where
-    go : (b c : Bool) → Holds (bond_of (if b then Given else if c then Taker dfrom else Apart) roles.Closing) term kept committed → is_member (lineage_of (Moving source sfrom target dfrom)) master ≡ true
+    go : (b c : Bool) → Holds (bond_of (if b then MovingSource else if c then MovingTarget dfrom else Bystander) roles.Closing) term own applied → is_member (lineage_of (Moving source sfrom target dfrom)) master ≡ true
     go true c holds = absurd holds
     go false true holds = absurd holds
     go false false holds = absurd holds
-closing_member (Rebuilding lineage to) master term kept committed holds = go (to == master) (is_member lineage master) refl holds
+closing_member (Rebuilding lineage to) master term own applied holds = go (to == master) (is_member lineage master) refl holds
   where
-    go : (b c : Bool) → is_member lineage master ≡ c → Holds (bond_of (if b then heir_of lineage master else if c then Lost else Apart) roles.Closing) term kept committed → is_member lineage master ≡ true
-    go true c is holds = heir_closes lineage master term kept committed holds
+    go : (b c : Bool) → is_member lineage master ≡ c → Holds (bond_of (if b then rebuilder_post lineage master else if c then FormerMember else Bystander) roles.Closing) term own applied → is_member lineage master ≡ true
+    go true c is holds = heir_closes lineage master term own applied holds
     go false true is holds = is
     go false false is holds = absurd holds

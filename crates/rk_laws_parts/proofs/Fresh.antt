@@ -1,45 +1,45 @@
 -- What stands in a world where nothing has happened: new masters and backups that keep nothing.
 use Rattle.std.proofs.Common.{◌≡◌, ℕ, zero, suc, ◌+◌, ◌≤◌, ◌<◌, Bool, cond, eqb, List, [], ◌∷◌, get_or, replicate, map, Option, Some, None, refl, sym, ap, ◌∙◌, ◌⊎◌, inl, inr, ⊎_elim, arith}
 use Rattle.std.specs.Prelude.{unwrap_or}
-use Rattle.std.specs.List.{range_with_len}
 use Rattle.std.specs.Cmp.{unsigned_tied}
+use Rattle.std.specs.List.{range_with_len}
 use Rattle.std.proofs.lemmas.Bool.{cases_eq, cases_lt, eq-eqb, ne_eqb, cond-true, cond-false}
+use Rattle.rk_types.specs.NumberMap.{NumberMap, get}
 use Rattle.rk_log.specs.Known.{Known, nothing}
-use Rattle.rk_world.specs.Backup.{no_segments}
 use Rattle.rk_world.specs.Base.{Base}
 use Rattle.rk_world.specs.Master.{Master, new_master}
-use Rattle.rk_world.specs.Tables.{Table, look_up}
+use Rattle.rk_world.specs.Backup.{no_segments}
 use Rattle.rk_world.specs.World.{new_world, new_masters, master_at, backup_at}
 use Rattle.rk_world.specs.Sound.Nodes.{IsMaster}
 
 -- each number with its thing
-abbrev pub with_numbers : {X : Type 0} → (ℕ → X) → List ℕ → Table X
+abbrev pub with_numbers : {X : Type 0} → (ℕ → X) → List ℕ → NumberMap X
 with_numbers thing numbers = map (λ number. (number, thing number)) numbers
 
 -- what is first in such a table is found where the number is its own
-found_first : {X : Type 0} (thing : ℕ → X) (n : ℕ) (numbers : List ℕ) (q : ℕ) → look_up (with_numbers thing (n ∷ numbers)) q ≡ cond (eqb q n) (Some (thing n)) (look_up (with_numbers thing numbers) q)
+found_first : {X : Type 0} (thing : ℕ → X) (n : ℕ) (numbers : List ℕ) (q : ℕ) → get (with_numbers thing (n ∷ numbers)) q ≡ cond (eqb q n) (Some (thing n)) (get (with_numbers thing numbers) q)
 found_first thing n numbers q =
-    ap (λ (b : Bool). cond b (Some (thing n)) (look_up (with_numbers thing numbers) q)) (unsigned_tied q n)
+    ap (λ (b : Bool). cond b (Some (thing n)) (get (with_numbers thing numbers) q)) (unsigned_tied q n)
 
-found_here : {X : Type 0} (thing : ℕ → X) (n : ℕ) (numbers : List ℕ) (q : ℕ) → q ≡ n → look_up (with_numbers thing (n ∷ numbers)) q ≡ Some (thing q)
+found_here : {X : Type 0} (thing : ℕ → X) (n : ℕ) (numbers : List ℕ) (q : ℕ) → q ≡ n → get (with_numbers thing (n ∷ numbers)) q ≡ Some (thing q)
 found_here thing n numbers q is =
-    found_first thing n numbers q ∙ cond-true (eqb q n) (Some (thing n)) (look_up (with_numbers thing numbers) q) (eq-eqb q n is)
+    found_first thing n numbers q ∙ cond-true (eqb q n) (Some (thing n)) (get (with_numbers thing numbers) q) (eq-eqb q n is)
     ∙ ap (λ (k : ℕ). Some (thing k)) (sym is)
 
-found_behind : {X : Type 0} (thing : ℕ → X) (n : ℕ) (numbers : List ℕ) (q : ℕ) → (q ≡ n → ⊥) → look_up (with_numbers thing (n ∷ numbers)) q ≡ look_up (with_numbers thing numbers) q
+found_behind : {X : Type 0} (thing : ℕ → X) (n : ℕ) (numbers : List ℕ) (q : ℕ) → (q ≡ n → ⊥) → get (with_numbers thing (n ∷ numbers)) q ≡ get (with_numbers thing numbers) q
 found_behind thing n numbers q apart =
-    found_first thing n numbers q ∙ cond-false (eqb q n) (Some (thing n)) (look_up (with_numbers thing numbers) q) (ne_eqb q n apart)
+    found_first thing n numbers q ∙ cond-false (eqb q n) (Some (thing n)) (get (with_numbers thing numbers) q) (ne_eqb q n apart)
 
 -- what is found under a number is nothing, or its thing
-pub found_numbered : {X : Type 0} (thing : ℕ → X) (numbers : List ℕ) (q : ℕ) → (look_up (with_numbers thing numbers) q ≡ None) ⊎ (look_up (with_numbers thing numbers) q ≡ Some (thing q))
+pub found_numbered : {X : Type 0} (thing : ℕ → X) (numbers : List ℕ) (q : ℕ) → (get (with_numbers thing numbers) q ≡ None) ⊎ (get (with_numbers thing numbers) q ≡ Some (thing q))
 found_numbered thing [] q = inl refl
 found_numbered {X} thing (n ∷ numbers) q =
     ⊎_elim
     (λ (is : q ≡ n). inr (found_here thing n numbers q is))
     (λ (apart : q ≡ n → ⊥).
     ⊎_elim
-    (λ (e : look_up (with_numbers thing numbers) q ≡ None). inl (found_behind thing n numbers q apart ∙ e))
-    (λ (e : look_up (with_numbers thing numbers) q ≡ Some (thing q)). inr (found_behind thing n numbers q apart ∙ e))
+    (λ (e : get (with_numbers thing numbers) q ≡ None). inl (found_behind thing n numbers q apart ∙ e))
+    (λ (e : get (with_numbers thing numbers) q ≡ Some (thing q)). inr (found_behind thing n numbers q apart ∙ e))
     (found_numbered thing numbers q))
     (cases_eq q n)
 
@@ -48,7 +48,7 @@ above a b low apart =
     ⊎_elim (λ (h : a < b). omega (arith, h)) (λ (h : b ≤ a). absurd (apart (omega (arith, low, h)))) (cases_lt a b)
 
 -- within the numbers its thing is found
-pub found_within : {X : Type 0} (thing : ℕ → X) (start count q : ℕ) → start ≤ q → q < start + count → look_up (with_numbers thing (range_with_len start count)) q ≡ Some (thing q)
+pub found_within : {X : Type 0} (thing : ℕ → X) (start count q : ℕ) → start ≤ q → q < start + count → get (with_numbers thing (range_with_len start count)) q ≡ Some (thing q)
 found_within thing start zero q low high = absurd (omega (arith, low, high))
 found_within thing start (suc count) q low high =
     ⊎_elim
@@ -73,13 +73,13 @@ nothing_in (suc count) (suc place) = nothing_in count place
 pub each_fresh : (base : Base) (lane masters backups q : ℕ) → IsFresh q (master_at (new_world base lane masters backups) q)
 each_fresh base lane masters backups q =
     ⊎_elim
-    (λ (e : look_up (new_masters masters backups) q ≡ None).
+    (λ (e : get (new_masters masters backups) q ≡ None).
     let m : IsFresh q (master_at (new_world base lane masters backups) q) = record {
       known = [];
       nothing_known = λ place. refl;
       is_new = ap (λ (o : Option Master). unwrap_or o (new_master q [])) e;
     } in m)
-    (λ (e : look_up (new_masters masters backups) q ≡ Some (new_master q (replicate backups nothing))).
+    (λ (e : get (new_masters masters backups) q ≡ Some (new_master q (replicate backups nothing))).
     let m : IsFresh q (master_at (new_world base lane masters backups) q) = record {
       known = replicate backups nothing;
       nothing_known = nothing_in backups;
@@ -97,6 +97,6 @@ there_fresh base lane masters backups q there =
 pub each_backup_fresh : (base : Base) (lane masters backups q : ℕ) → backup_at (new_world base lane masters backups) q ≡ no_segments
 each_backup_fresh base lane masters backups q =
     ⊎_elim
-    (λ (e : look_up (new_world base lane masters backups).backups q ≡ None). ap (λ o. unwrap_or o no_segments) e)
-    (λ (e : look_up (new_world base lane masters backups).backups q ≡ Some no_segments). ap (λ o. unwrap_or o no_segments) e)
+    (λ (e : get (new_world base lane masters backups).backups q ≡ None). ap (λ o. unwrap_or o no_segments) e)
+    (λ (e : get (new_world base lane masters backups).backups q ≡ Some no_segments). ap (λ o. unwrap_or o no_segments) e)
     (found_numbered (λ number. no_segments) (range_with_len 1 backups) q)

@@ -1,22 +1,23 @@
 -- What a backup stores of a member, and what it tells, once the member's log has more entries at its end.
 use Rattle.std.proofs.Common.{◌≡◌, ℕ, zero, suc, ◌≤◌, Bool, true, false, cond, List, [], ◌∷◌, ◌++◌, refl, sym, ap, ◌∙◌, subst, arith, append_assoc}
+use Rattle.std.specs.Prelude.{drop, take, length, nat_le}
+use Rattle.std.specs.List.{All, Contains, prefix_len}
 use Rattle.std.proofs.lemmas.List.{append-nil}
 use Rattle.std.proofs.lemmas.List.Concat.{flat_map-append}
 use Rattle.std.proofs.lemmas.List.Elements.{All-weaker, Contains-append_left, filter-append}
-use Rattle.std.specs.Prelude.{drop, take, length, nat_le}
-use Rattle.std.specs.List.{All, Contains, prefix_len}
 use Rattle.rk_types.specs.declared.call.Ended.{Ended}
 use Rattle.rk_types.specs.declared.held.Held.{Held}
 use Rattle.rk_types.specs.declared.range.Range.{Range}
-use Rattle.rk_entry.specs.declared.entry.Entry.{Entry}
 use Rattle.rk_entry.specs.Spelling.{spelled}
-use Rattle.rk_log.specs.Cut.{ends, end_of, cut, with_bytes}
-use Rattle.rk_log.specs.declared.ends.EntryEnd.{EntryEnd}
-use Rattle.rk_log.specs.Log.{Log, with_entry}
+use Rattle.rk_entry.specs.declared.entry.Entry.{Entry}
 use Rattle.rk_log.proofs.Cuts.{ends_push}
 use Rattle.rk_log.proofs.Prefixes.{prefix_len_push_le}
+use Rattle.rk_log.specs.Cut.{ends, end_of, cut, with_bytes}
+use Rattle.rk_log.specs.Log.{Log, with_entry}
+use Rattle.rk_log.specs.declared.ends.EntryEnd.{EntryEnd}
 use Rattle.rk_world.specs.Ends.{items_in, items_of, told, told_by}
-use Rattle.rk_world.specs.Material.{Mark, counts, counting, is_marked, unmarked, unmarked_from}
+use Rattle.rk_world.specs.Marks.{Mark, is_marked, unmarked, unmarked_from}
+use Rattle.rk_world.specs.Material.{counts, counting}
 use Rattle.rk_world.specs.Sound.Rebuilds.{TellNoMore, stored_count}
 use Rattle.rk_laws_parts.proofs.Floors.{floor_append}
 

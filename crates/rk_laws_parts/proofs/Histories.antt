@@ -1,35 +1,35 @@
 -- The history that staged calls will make, with one more call, and the records that it leaves.
 use Rattle.std.proofs.Common.{◌≡◌, ℕ, ◌≤◌, ◌<◌, true, false, ◌&&◌, eqb, List, [], ◌∷◌, ◌++◌, Option, Some, None, refl, sym, ap, ◌∙◌, subst, ⊎_elim, arith, append_assoc}
+use Rattle.std.specs.Prelude.{bytes_eq, ◌≢◌}
+use Rattle.std.specs.List.{AllPairs}
 use Rattle.std.proofs.lemmas.Bool.{cases_Bool, cond-true, cond-false}
 use Rattle.std.proofs.lemmas.List.Concat.{flat_map-append}
 use Rattle.std.proofs.lemmas.List.Elements.{All-push}
 use Rattle.std.proofs.lemmas.List.Quantifiers.{all_pairs_push}
-use Rattle.std.specs.Prelude.{bytes_eq, ◌≢◌}
-use Rattle.std.specs.List.{AllPairs}
 use Rattle.rk_types.specs.declared.call.Call.{Call}
 use Rattle.rk_types.specs.declared.call.Ended.{Ended}
 use Rattle.rk_types.specs.declared.call.Outcome.{Outcome}
 use Rattle.rk_types.specs.declared.held.Held.{Held}
 use Rattle.rk_types.specs.declared.history.Placed.{Placed}
 use Rattle.rk_types.specs.declared.range.Range.{Range}
-use Rattle.rk_entry.specs.declared.entry.Entry.{Entry}
-use Rattle.rk_entry.specs.declared.entry.Entry.TheVariants as entries
-use Rattle.rk_model.specs.History.{Map, IsLegal, live_after, map_after, with_change, with_entry, record_of as map_record_of}
-use Rattle.rk_model.specs.Machine.{Allowed, change_of, Entry as MapEntry}
 use Rattle.rk_model.proofs.Histories.{legal_push, map_after-append}
 use Rattle.rk_model.proofs.Keys.{name-swap}
-use Rattle.rk_overlay.specs.Live.{live as live_items, record_of}
-use Rattle.rk_overlay.specs.Newest.{is_of, newest, none_found}
+use Rattle.rk_model.specs.History.{Map, IsLegal, live_after, map_after, with_change, with_entry, record_of as map_record_of}
+use Rattle.rk_model.specs.Machine.{Allowed, change_of, Entry as MapEntry}
+use Rattle.rk_entry.specs.declared.entry.Entry.{Entry}
+use Rattle.rk_entry.specs.declared.entry.Entry.TheVariants as entries
 use Rattle.rk_overlay.proofs.Bridges.{newest_is}
 use Rattle.rk_overlay.proofs.Folds.{newest_from-append, with_newer_here, with_newer_other, newer_item}
-use Rattle.rk_world.specs.Base.{Base, base_map, map_entry_of}
-use Rattle.rk_world.specs.Desk.{LastCall}
+use Rattle.rk_overlay.specs.Live.{live as live_items, record_of}
+use Rattle.rk_overlay.specs.Newest.{is_of, newest, none_found}
+use Rattle.rk_world.specs.Ranges.{AgreeIn}
 use Rattle.rk_world.specs.Ends.{items_of, items_in, item_end, end_of_item, outcome_of}
-use Rattle.rk_world.specs.Gather.{floor_of}
-use Rattle.rk_world.specs.Owed.{AgreeIn}
+use Rattle.rk_world.specs.Base.{Base, base_map, map_entry_of}
+use Rattle.rk_world.specs.Merge.{floor_of}
 use Rattle.rk_world.specs.Requests.{item_of}
-use Rattle.rk_world.specs.Sound.Changes.{MayEnd}
+use Rattle.rk_world.specs.Ledger.{LastCall}
 use Rattle.rk_world.specs.Sound.Rest.{IsRest, IsStaged, call_end, call_ends, record_of_last, records_of}
+use Rattle.rk_world.specs.Sound.Changes.{MayEnd}
 use Rattle.rk_laws_parts.proofs.Floors.{floor_above}
 
 -- the items of entries, with one more
@@ -110,7 +110,7 @@ is_rest_staged base range truth rest journal asked call counter value old may le
     let end : Ended = item_end item in
     let ends : call_ends (rest ++ entries.Held item ∷ []) ≡ call_ends rest ++ end ∷ [] = ends_push rest item in
     let records : records_of asked (call_ends (rest ++ entries.Held item ∷ [])) ≡ records_of asked (call_ends rest) ++ record_for call (outcome_of end.end) ∷ [] =
-    ap (records_of asked) ends ∙ records_push asked (call_ends rest) end may.last.last call may.last.kept may.same_call in
+    ap (records_of asked) ends ∙ records_push asked (call_ends rest) end may.last.last call may.last.asked_is may.same_call in
     let items : items_of (truth ++ rest) ++ item ∷ [] ≡ items_of (truth ++ (rest ++ entries.Held item ∷ [])) =
     sym (ap items_of (sym (append_assoc truth rest (entries.Held item ∷ []))) ∙ items_push (truth ++ rest) item) in
     record {

@@ -1,4 +1,4 @@
--- Every backup holds what is committed.
+-- Every backup holds what is applied.
 use Rattle.std.proofs.Common.{ℕ, ◌<◌, ◌≤◌, List, length, Option, Some, None, subst, arith}
 use Rattle.std.specs.Prelude.{IfSome, slice_get}
 use Rattle.rk_entry.specs.declared.entry.Entry.{Entry}
@@ -15,9 +15,9 @@ told_stored : (known : Known) (stored : ℕ → List ℕ) → ((segment : ℕ) �
 told_stored known stored told None holds = tt
 told_stored known stored told (Some end) holds = omega (arith, holds, told end.segment)
 
-pub committed_stored : (log : Log) (written : Written) (stored : ℕ → ℕ → List ℕ) (backup place : ℕ) → IsLog log written stored → IsBackup log backup → place < written.committed → IfSome (slice_get (ends written.entries) place) (λ end. end.offset ≤ length (stored backup end.segment))
-committed_stored log written stored backup place kept there committed =
+pub applied_stored : (log : Log) (written : Written) (stored : ℕ → ℕ → List ℕ) (backup place : ℕ) → IsLog log written stored → IsBackup log backup → place < written.applied → IfSome (slice_get (ends written.entries) place) (λ end. end.offset ≤ length (stored backup end.segment))
+applied_stored log written stored backup place kept there applied =
     let copy = kept.copies backup there in
     subst (λ (list : List Entry). IfSome (slice_get (ends list) place) (λ end. end.offset ≤ length (stored backup end.segment))) kept.entries_are
     (told_stored (known_of log backup) (stored backup) copy.told (slice_get (ends log.entries) place)
-    (committed_held log place backup (omega (arith, committed, kept.held)) there))
+    (committed_held log place backup (omega (arith, applied, kept.held)) there))

@@ -1,4 +1,3 @@
-pub mod Found
 pub mod Masters
 pub mod Changing
 pub mod Differs
@@ -32,7 +31,7 @@ pub mod Freezing
 pub mod Places
 pub mod Floors
 pub mod Histories
-pub mod Committed
+pub mod Applied
 pub mod Waiting
 pub mod Targets
 pub mod Grows
@@ -43,7 +42,7 @@ pub mod Rebuilds
 pub mod Rest
 pub mod SoundSent
 pub mod SoundForgotten
-pub mod SoundDesk
+pub mod SoundLedger
 pub mod SoundFrozen
 pub mod SoundStaged
 pub mod SmallWorld

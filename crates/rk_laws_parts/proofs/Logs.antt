@@ -3,41 +3,41 @@ use Rattle.std.proofs.Common.{◌≡◌, ℕ, ◌≤◌, true, List, [], ◌∷�
 use Rattle.std.specs.Prelude.{◌≢◌, All}
 use Rattle.std.proofs.lemmas.Bool.{cases_eq}
 use Rattle.std.proofs.lemmas.List.Elements.{All-nil, All-push, All-weaker}
+use Rattle.rk_types.proofs.NumberMaps.{HasNoMore, each_insert, each_weaker}
+use Rattle.rk_types.specs.NumberMap.{NumberMap, insert}
 use Rattle.rk_types.specs.declared.call.Call.{Call}
 use Rattle.rk_types.specs.declared.held.Held.{Held}
 use Rattle.rk_types.specs.declared.node.Node.{Node}
 use Rattle.rk_types.specs.declared.node.Node.TheVariants as nodes
+use Rattle.rk_outside.specs.Segments.{Segments}
 use Rattle.rk_entry.specs.declared.entry.Entry.{Entry}
 use Rattle.rk_entry.specs.declared.entry.Entry.TheVariants as entries
-use Rattle.rk_world.specs.Sound.Changes.{HasSegmentLeft}
 use Rattle.rk_log.proofs.LogLaws.{committed_entry}
 use Rattle.rk_log.specs.Known.{Known}
 use Rattle.rk_log.specs.Log.{Log, bytes_of, is_side_stored, known_of, with_entry}
+use Rattle.rk_tablet_map.specs.declared.row.Row.{Row}
 use Rattle.rk_message.specs.declared.message.Body.{Body}
 use Rattle.rk_message.specs.declared.message.Body.TheVariants as bodies
 use Rattle.rk_message.specs.declared.message.Message.{Message}
 use Rattle.rk_message.specs.declared.replication.Append.{Append}
-use Rattle.rk_outside.specs.Segments.{Segments}
-use Rattle.rk_tablet_map.specs.declared.row.Row.{Row}
-use Rattle.rk_world.specs.Material.{Mark}
-use Rattle.rk_world.specs.Sound.Logs.{IsFirstPart, IsCopy, IsKnownBefore, IsLog, IsFromLog, Logs, LogSays, segments_in, stored_of}
-use Rattle.rk_world.specs.Tables.{Table, with_at}
+use Rattle.rk_world.specs.Marks.{Mark}
 use Rattle.rk_world.specs.Written.{Written}
+use Rattle.rk_world.specs.Sound.Logs.{IsFirstPart, IsCopy, IsKnownBefore, IsLog, IsFromLog, Logs, LogSays, segments_in, stored_of}
+use Rattle.rk_world.specs.Sound.Changes.{HasSegmentLeft}
 use Rattle.rk_laws_parts.proofs.Changing.{Lane, Stages, DiffersAt, with_one_more}
-use Rattle.rk_laws_parts.proofs.Found.{HasNoMore, each_with, each_weaker}
 use Rattle.rk_laws_parts.proofs.Segments.{Grows, grows_entry}
 
 -- a message is put on the wire
-pub logs_sent : (logs : ℕ → Log) (written : ℕ → Written) (stored : ℕ → Segments) (wire : Table Message) (number : ℕ) (message : Message) → Logs logs written stored wire → LogSays logs stored message.from message.to message.body → Logs logs written stored (with_at wire number message)
+pub logs_sent : (logs : ℕ → Log) (written : ℕ → Written) (stored : ℕ → Segments) (wire : NumberMap Message) (number : ℕ) (message : Message) → Logs logs written stored wire → LogSays logs stored message.from message.to message.body → Logs logs written stored (insert wire number message)
 logs_sent logs written stored wire number message old says = record {
-  kept = old.kept;
-  sent = each_with (λ number message. LogSays logs stored message.from message.to message.body) wire number message old.sent says;
+  each = old.each;
+  sent = each_insert (λ number message. LogSays logs stored message.from message.to message.body) wire number message old.sent says;
 }
 
 -- fewer messages are on the wire
-pub logs_forgotten : (logs : ℕ → Log) (written : ℕ → Written) (stored : ℕ → Segments) (wire less : Table Message) → Logs logs written stored wire → HasNoMore less wire → Logs logs written stored less
+pub logs_forgotten : (logs : ℕ → Log) (written : ℕ → Written) (stored : ℕ → Segments) (wire less : NumberMap Message) → Logs logs written stored wire → HasNoMore less wire → Logs logs written stored less
 logs_forgotten logs written stored wire less old no_more = record {
-  kept = old.kept;
+  each = old.each;
   sent = λ n m found. old.sent n m (no_more n m found);
 }
 
@@ -120,21 +120,21 @@ says_grown logs logs' stored master entry differs grows (nodes.Master q) (nodes.
 says_grown logs logs' stored master entry differs grows _ _ _ says = says
 
 -- one more entry at the end of a master's log, which names no side segment
-pub logs_grown : (logs logs' : ℕ → Log) (written written' : ℕ → Written) (stored : ℕ → Segments) (wire : Table Message) (master : ℕ) (entry : Entry) → Logs logs written stored wire
+pub logs_grown : (logs logs' : ℕ → Log) (written written' : ℕ → Written) (stored : ℕ → Segments) (wire : NumberMap Message) (master : ℕ) (entry : Entry) → Logs logs written stored wire
     → DiffersAt master (with_entry (logs master) entry) logs logs' → DiffersAt master (with_one_more (written master) entry) written written' → segments_in entry ≡ [] → HasSegmentLeft (logs master) → Logs logs' written' stored wire
 logs_grown logs logs' written written' stored wire master entry old logs_differ written_differ none few =
     let grows : Grows (logs master) (with_entry (logs master) entry) = grows_entry (logs master) entry few in
     record {
-      kept = λ q.
+      each = λ q.
           ⊎_elim
           (λ (here : q ≡ master).
           subst (λ (m : ℕ). IsLog (logs' m) (written' m) (stored_of stored m)) (sym here)
           (subst (λ (l : Log). IsLog l (written' master) (stored_of stored master)) (sym logs_differ.here)
           (subst (λ (w : Written). IsLog (with_entry (logs master) entry) w (stored_of stored master)) (sym written_differ.here)
-          (log_grown (logs master) (written master) (stored_of stored master) entry grows none (old.kept master)))))
+          (log_grown (logs master) (written master) (stored_of stored master) entry grows none (old.each master)))))
           (λ (apart : q ≡ master → ⊥).
           subst (λ (l : Log). IsLog l (written' q) (stored_of stored q)) (sym (logs_differ.others q apart))
-          (subst (λ (w : Written). IsLog (logs q) w (stored_of stored q)) (sym (written_differ.others q apart)) (old.kept q)))
+          (subst (λ (w : Written). IsLog (logs q) w (stored_of stored q)) (sym (written_differ.others q apart)) (old.each q)))
           (cases_eq q master);
       sent =
           each_weaker (λ number message. LogSays logs stored message.from message.to message.body) (λ number message. LogSays logs' stored message.from message.to message.body) wire
@@ -143,7 +143,7 @@ logs_grown logs logs' written written' stored wire master entry old logs_differ 
     }
 
 -- a write is staged
-pub logs_staged : (rows : List Row) (before after : Lane) (stored : ℕ → Segments) (wire : Table Message) (master : ℕ) (row : Row) (call : Call) (item : Held) → Logs before.logs before.written stored wire
+pub logs_staged : (rows : List Row) (before after : Lane) (stored : ℕ → Segments) (wire : NumberMap Message) (master : ℕ) (row : Row) (call : Call) (item : Held) → Logs before.logs before.written stored wire
     → Stages rows before after master row call item → HasSegmentLeft (before.logs master) → Logs after.logs after.written stored wire
 logs_staged rows before after stored wire master row call item old stages few =
     logs_grown before.logs after.logs before.written after.written stored wire master (entries.Held item) old stages.logs_differ stages.written_differ refl few

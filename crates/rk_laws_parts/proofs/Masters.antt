@@ -1,21 +1,21 @@
 -- What is seen of the masters of a world once one of them is another.
-use Rattle.std.proofs.Common.{◌≡◌, ℕ, [], Option, refl, sym, ap, ◌∙◌, ⊎_elim}
+use Rattle.std.proofs.Common.{[], ◌≡◌, ℕ, Option, refl, sym, ap, ◌∙◌, ⊎_elim}
 use Rattle.std.specs.Prelude.{unwrap_or}
 use Rattle.std.proofs.lemmas.Bool.{cases_eq}
-use Rattle.rk_world.specs.Master.{Master, new_master, tablet_at, with_tablet}
+use Rattle.rk_types.proofs.NumberMaps.{get_same, get_other}
 use Rattle.rk_world.specs.Tablet.{Tablet, no_tablet}
-use Rattle.rk_world.specs.World.{World, master_at, kept_in, with_master}
+use Rattle.rk_world.specs.Master.{Master, new_master, tablet_at, with_tablet}
+use Rattle.rk_world.specs.World.{World, master_at, tablet_in, with_master}
 use Rattle.rk_laws_parts.proofs.Changing.{KeepsNow}
-use Rattle.rk_laws_parts.proofs.Found.{found_same, found_other}
 
 -- the master that was put
 pub master_same : (w : World) (number : ℕ) (master : Master) (q : ℕ) → q ≡ number → master_at (with_master w number master) q ≡ master
-master_same w number master q is = ap (λ (o : Option Master). unwrap_or o (new_master q [])) (found_same w.masters number master q is)
+master_same w number master q is = ap (λ (o : Option Master). unwrap_or o (new_master q [])) (get_same w.masters number master q is)
 
 -- each other one
 pub master_other : (w : World) (number : ℕ) (master : Master) (q : ℕ) → (q ≡ number → ⊥) → master_at (with_master w number master) q ≡ master_at w q
 master_other w number master q apart =
-    ap (λ (o : Option Master). unwrap_or o (new_master q [])) (found_other w.masters number master q apart)
+    ap (λ (o : Option Master). unwrap_or o (new_master q [])) (get_other w.masters number master q apart)
 
 -- what is the same of the master that was put is the same of all
 pub same_of_each : {X : Type 0} (f : ℕ → Master → X) (w : World) (number : ℕ) (master : Master) → f number master ≡ f number (master_at w number) → (q : ℕ) → f q (master_at (with_master w number master) q) ≡ f q (master_at w q)
@@ -33,14 +33,14 @@ same_of_all f w number master same i q = same_of_each f w number master same q i
 -- the tablet that a master keeps now, and its others
 pub tablet_here : (master : Master) (number : ℕ) (tablet : Tablet) → tablet_at (with_tablet master number tablet) number ≡ tablet
 tablet_here master number tablet =
-    ap (λ (o : Option Tablet). unwrap_or o no_tablet) (found_same master.tablets number tablet number refl)
+    ap (λ (o : Option Tablet). unwrap_or o no_tablet) (get_same master.tablets number tablet number refl)
 
 pub tablet_apart : (master : Master) (number : ℕ) (tablet : Tablet) (other : ℕ) → (other ≡ number → ⊥) → tablet_at (with_tablet master number tablet) other ≡ tablet_at master other
 tablet_apart master number tablet other apart =
-    ap (λ (o : Option Tablet). unwrap_or o no_tablet) (found_other master.tablets number tablet other apart)
+    ap (λ (o : Option Tablet). unwrap_or o no_tablet) (get_other master.tablets number tablet other apart)
 
 -- a world where one master keeps another tablet keeps all others as they were
-pub keeps_with : (w : World) (master number : ℕ) (changed : Master) (tablet : Tablet) → tablet_at changed number ≡ tablet → ((r : ℕ) → (r ≡ number → ⊥) → tablet_at changed r ≡ kept_in w master r) → KeepsNow master number tablet (kept_in w) (kept_in (with_master w master changed))
+pub keeps_with : (w : World) (master number : ℕ) (changed : Master) (tablet : Tablet) → tablet_at changed number ≡ tablet → ((r : ℕ) → (r ≡ number → ⊥) → tablet_at changed r ≡ tablet_in w master r) → KeepsNow master number tablet (tablet_in w) (tablet_in (with_master w master changed))
 keeps_with w master number changed tablet here apart = record {
   here = ap (λ (m : Master). tablet_at m number) (master_same w master changed master refl) ∙ here;
   others = λ q r differs.
@@ -48,7 +48,7 @@ keeps_with w master number changed tablet here apart = record {
       (λ (is : q ≡ master).
       ap (λ (m : Master). tablet_at m r) (master_same w master changed q is)
       ∙ apart r (λ same. differs is same)
-      ∙ ap (λ (n : ℕ). kept_in w n r) (sym is))
+      ∙ ap (λ (n : ℕ). tablet_in w n r) (sym is))
       (λ (other : q ≡ master → ⊥). ap (λ (m : Master). tablet_at m r) (master_other w master changed q other))
       (cases_eq q master);
 }

@@ -1,17 +1,29 @@
 -- Laws of the part Messages: what a message that is sent, and tablets that look the same, keep of it.
+use Rattle.std.proofs.Common.{sym, ap, subst, ◌∙◌, refl}
 use Rattle.std.specs.Prelude.{◌≡◌, ◌≤◌, ◌<◌, ◌-◌, ℕ, Bool, List, [], ◌∷◌, Option, None, All, slice_index_or}
 use Rattle.std.specs.List.{flat_map}
-use Rattle.std.proofs.Common.{sym, ap, subst, ◌∙◌, refl}
 use Rattle.std.proofs.lemmas.List.Elements.{All-weaker}
+use Rattle.rk_types.proofs.NumberMaps.{HasNoMore, each_insert, each_weaker}
+use Rattle.rk_types.specs.NumberMap.{NumberMap, get, insert}
+use Rattle.rk_types.specs.declared.call.Call.{Call}
+use Rattle.rk_types.specs.declared.held.Held.{Held}
 use Rattle.rk_types.specs.declared.history.Placed.{Placed}
 use Rattle.rk_types.specs.declared.lineage.Member.{Member}
 use Rattle.rk_types.specs.declared.node.Node.{Node}
 use Rattle.rk_types.specs.declared.node.Node.TheVariants as nodes
-use Rattle.rk_types.specs.declared.call.Call.{Call}
-use Rattle.rk_types.specs.declared.held.Held.{Held}
+use Rattle.rk_outside.specs.Segments.{Segments, bytes_of as copied_bytes}
 use Rattle.rk_entry.specs.declared.entry.Entry.{Entry}
 use Rattle.rk_log.specs.Known.{Known, nothing}
 use Rattle.rk_log.specs.Log.{Log}
+use Rattle.rk_table.specs.Items.{at_hash}
+use Rattle.rk_table.specs.Scans.{batch_at, next_token}
+use Rattle.rk_done.specs.Completions.{Completions, ends_of}
+use Rattle.rk_transfer.specs.declared.role.Role.TheVariants as roles
+use Rattle.rk_tablet_map.specs.Phase.{lineage_of}
+use Rattle.rk_tablet_map.specs.declared.phase.Phase.{Phase}
+use Rattle.rk_tablet_map.specs.declared.phase.Phase.TheVariants.{Opening, Moving, Rebuilding}
+use Rattle.rk_tablet_map.specs.declared.row.Row.{Row}
+use Rattle.rk_pull.specs.declared.batches.TheConstants.{BATCH_BYTES}
 use Rattle.rk_message.specs.declared.handover.Grant.{Grant}
 use Rattle.rk_message.specs.declared.handover.Prepare.{Prepare}
 use Rattle.rk_message.specs.declared.handover.Tenure.{Tenure}
@@ -24,45 +36,33 @@ use Rattle.rk_message.specs.declared.pulling.Pulled.{Pulled}
 use Rattle.rk_message.specs.declared.rebuilding.CopySegment.{CopySegment}
 use Rattle.rk_message.specs.declared.rebuilding.Rebuild.{Rebuild}
 use Rattle.rk_message.specs.declared.rebuilding.Rebuilt.{Rebuilt}
-use Rattle.rk_outside.specs.Segments.{Segments, bytes_of as copied_bytes}
-use Rattle.rk_pull.specs.declared.batches.TheConstants.{BATCH_BYTES}
-use Rattle.rk_table.specs.Items.{at_hash}
-use Rattle.rk_table.specs.Scans.{batch_at, next_token}
-use Rattle.rk_tablet_map.specs.Phase.{lineage_of}
-use Rattle.rk_tablet_map.specs.declared.phase.Phase.{Phase}
-use Rattle.rk_tablet_map.specs.declared.phase.Phase.TheVariants.{Opening, Moving, Rebuilding}
-use Rattle.rk_tablet_map.specs.declared.row.Row.{Row}
-use Rattle.rk_transfer.specs.declared.role.Role.TheVariants as roles
-use Rattle.rk_world.specs.Coordinator.{Handed}
-use Rattle.rk_world.specs.Ends.{Completions, ends_of}
-use Rattle.rk_world.specs.Material.{as_entries}
-use Rattle.rk_world.specs.Tables.{Table, look_up, with_at}
-use Rattle.rk_world.specs.Tablet.{Tablet}
 use Rattle.rk_world.specs.declared.work.Merged.{Merged}
+use Rattle.rk_world.specs.Material.{as_entries}
+use Rattle.rk_world.specs.Tablet.{Tablet}
+use Rattle.rk_world.specs.Coordinator.{Handed}
 use Rattle.rk_world.specs.Written.{Written}
-use Rattle.rk_world.specs.Sound.Logs.{stored_of}
-use Rattle.rk_world.specs.Sound.Messages.{Messages, SaysOf, Says, IfMaster, ByMaster, IsOf, IsOfTarget, PrepareFits, CloseFits, RebuildFits, OwnFits, IsOwner, ReleaseFits, ReadyIn, TransferIn, IsFrozenSource, JoinedIn, RebuiltIn, GrantAgrees, AskAgrees, IsFromSource, PulledAgrees, GotAgrees, CopyIn}
 use Rattle.rk_world.specs.Sound.Posts.{post_of}
-use Rattle.rk_world.specs.Sound.Rebuilds.{READ_BACKUP, IsReadPart}
+use Rattle.rk_world.specs.Sound.Logs.{stored_of}
 use Rattle.rk_world.specs.Sound.Receives.{scan_items}
+use Rattle.rk_world.specs.Sound.Rebuilds.{READ_BACKUP, IsReadPart}
+use Rattle.rk_world.specs.Sound.Messages.{Messages, SaysOf, Says, IfMaster, ByMaster, IsOf, IsOfTarget, PrepareFits, CloseFits, RebuildFits, OwnFits, IsOwner, ReleaseFits, ReadyIn, TransferIn, IsFrozenSource, JoinedIn, RebuiltIn, GrantAgrees, AskAgrees, IsFromSource, PulledAgrees, GotAgrees, CopyIn}
 use Rattle.rk_world.specs.Sound.Changes.{IsServed}
-use Rattle.rk_laws_parts.proofs.Found.{HasNoMore, each_with, each_weaker}
-use Rattle.rk_laws_parts.proofs.Seen.{LooksAs, AllLook, each_looks_frozen}
 use Rattle.rk_laws_parts.proofs.Changing.{Lane, Freezes, Stages}
+use Rattle.rk_laws_parts.proofs.Seen.{LooksAs, AllLook, each_looks_frozen}
 use Rattle.rk_laws_parts.proofs.Staged.{staged_looks, staged_known}
 
 -- a message is sent that agrees with its sender
-pub messages_sent : (rows : List Row) (logs : ℕ → Log) (written : ℕ → Written) (stored : ℕ → Segments) (keeps : ℕ → ℕ → Tablet) (live : ℕ → Bool) (handed : Table Handed) (journal : List Placed) (wire : Table Message) (number : ℕ) (message : Message) → Messages rows logs written stored keeps live handed journal wire → All (λ row. SaysOf row logs written stored keeps live handed message.from message.to message.body) rows → Says journal message.to message.body → Messages rows logs written stored keeps live handed journal (with_at wire number message)
-messages_sent rows logs written stored keeps live handed journal wire number message old of_rows others = record {
+pub messages_sent : (rows : List Row) (logs : ℕ → Log) (written : ℕ → Written) (stored : ℕ → Segments) (tablets : ℕ → ℕ → Tablet) (live : ℕ → Bool) (handed : NumberMap Handed) (journal : List Placed) (wire : NumberMap Message) (number : ℕ) (message : Message) → Messages rows logs written stored tablets live handed journal wire → All (λ row. SaysOf row logs written stored tablets live handed message.from message.to message.body) rows → Says journal message.to message.body → Messages rows logs written stored tablets live handed journal (insert wire number message)
+messages_sent rows logs written stored tablets live handed journal wire number message old of_rows others = record {
   of_rows =
-      each_with (λ n m. All (λ row. SaysOf row logs written stored keeps live handed m.from m.to m.body) rows) wire number message
+      each_insert (λ n m. All (λ row. SaysOf row logs written stored tablets live handed m.from m.to m.body) rows) wire number message
       old.of_rows of_rows;
-  others = each_with (λ n m. Says journal m.to m.body) wire number message old.others others;
+  others = each_insert (λ n m. Says journal m.to m.body) wire number message old.others others;
 }
 
 -- fewer messages are on the wire
-pub messages_forgotten : (rows : List Row) (logs : ℕ → Log) (written : ℕ → Written) (stored : ℕ → Segments) (keeps : ℕ → ℕ → Tablet) (live : ℕ → Bool) (handed : Table Handed) (journal : List Placed) (wire less : Table Message) → Messages rows logs written stored keeps live handed journal wire → HasNoMore less wire → Messages rows logs written stored keeps live handed journal less
-messages_forgotten rows logs written stored keeps live handed journal wire less old no_more = record {
+pub messages_forgotten : (rows : List Row) (logs : ℕ → Log) (written : ℕ → Written) (stored : ℕ → Segments) (tablets : ℕ → ℕ → Tablet) (live : ℕ → Bool) (handed : NumberMap Handed) (journal : List Placed) (wire less : NumberMap Message) → Messages rows logs written stored tablets live handed journal wire → HasNoMore less wire → Messages rows logs written stored tablets live handed journal less
+messages_forgotten rows logs written stored tablets live handed journal wire less old no_more = record {
   of_rows = λ n m found. old.of_rows n m (no_more n m found);
   others = λ n m found. old.others n m (no_more n m found);
 }
@@ -133,19 +133,19 @@ transfer_looks (Opening source sfrom target dfrom) old new term master transfer 
     (says.0, source_looks old new term transfer looks says.1)
 transfer_looks phase old new term master transfer looks says = says
 
-joined_looks : (phase : Phase) (old new : Tablet) (committed committed' term master : ℕ) → LooksAs old new → committed' ≡ committed → JoinedIn phase old.handover committed term master → JoinedIn phase new.handover committed' term master
-joined_looks (Moving source sfrom target dfrom) old new committed committed' term master looks same says =
-    (says.0, looks.term ∙ says.1, looks.role.joined committed' (rw same says.2))
-joined_looks phase old new committed committed' term master looks same says = says
+joined_looks : (phase : Phase) (old new : Tablet) (applied applied' term master : ℕ) → LooksAs old new → applied' ≡ applied → JoinedIn phase old.handover applied term master → JoinedIn phase new.handover applied' term master
+joined_looks (Moving source sfrom target dfrom) old new applied applied' term master looks same says =
+    (says.0, looks.term ∙ says.1, looks.role.joined applied' (rw same says.2))
+joined_looks phase old new applied applied' term master looks same says = says
 
-rebuilt_looks : (phase : Phase) (old new : Tablet) (committed committed' term master : ℕ) (rebuilt : Rebuilt) → LooksAs old new → committed' ≡ committed → RebuiltIn phase old committed term master rebuilt → RebuiltIn phase new committed' term master rebuilt
-rebuilt_looks (Rebuilding lineage to) old new committed committed' term master rebuilt looks same says = (
+rebuilt_looks : (phase : Phase) (old new : Tablet) (applied applied' term master : ℕ) (rebuilt : Rebuilt) → LooksAs old new → applied' ≡ applied → RebuiltIn phase old applied term master rebuilt → RebuiltIn phase new applied' term master rebuilt
+rebuilt_looks (Rebuilding lineage to) old new applied applied' term master rebuilt looks same says = (
   says.0,
   looks.term ∙ says.1,
-  looks.role.rebuilt committed' rebuilt.place (rw same says.2),
+  looks.role.rebuilt applied' rebuilt.place (rw same says.2),
   says.3 ∙ ap (λ (merged : Merged). merged.ends) (sym looks.merged),
 )
-rebuilt_looks phase old new committed committed' term master rebuilt looks same says = says
+rebuilt_looks phase old new applied applied' term master rebuilt looks same says = says
 
 -- ---- between source and target
 
@@ -158,31 +158,31 @@ grant_looks row old new live handed master grant looks agrees = record {
   told = λ same lives at waits. agrees.told same lives (at ∙ looks.term) (sym looks.role.wanting ∙ waits);
 }
 
-ask_looks : (row : Row) (keeps keeps' : ℕ → ℕ → Tablet) (lineage : List Member) (master : ℕ) (to : Node) (tenure : Tenure) → LooksAs (keeps master row.tablet) (keeps' master row.tablet) → AskAgrees row keeps lineage master to tenure → AskAgrees row keeps' lineage master to tenure
-ask_looks row keeps keeps' (source ∷ target ∷ []) master to tenure looks agrees = λ here is.
-    agrees here (of_target row (keeps master row.tablet) (keeps' master row.tablet) tenure looks is)
-ask_looks row keeps keeps' lineage master to tenure looks agrees = agrees
+ask_looks : (row : Row) (tablets tablets' : ℕ → ℕ → Tablet) (lineage : List Member) (master : ℕ) (to : Node) (tenure : Tenure) → LooksAs (tablets master row.tablet) (tablets' master row.tablet) → AskAgrees row tablets lineage master to tenure → AskAgrees row tablets' lineage master to tenure
+ask_looks row tablets tablets' (source ∷ target ∷ []) master to tenure looks agrees = λ here is.
+    agrees here (of_target row (tablets master row.tablet) (tablets' master row.tablet) tenure looks is)
+ask_looks row tablets tablets' lineage master to tenure looks agrees = agrees
 
-pulled_looks : (row : Row) (written written' : ℕ → Written) (keeps keeps' : ℕ → ℕ → Tablet) (live : ℕ → Bool) (lineage : List Member) (from : Node) (master : ℕ) (pulled : Pulled) → AllLook written written' keeps keeps' → PulledAgrees row written keeps live lineage from master pulled → PulledAgrees row written' keeps' live lineage from master pulled
-pulled_looks row written written' keeps keeps' live (source ∷ target ∷ []) from master pulled looks agrees = λ here lives is.
-    let seen = looks.tablets master row.tablet in
+pulled_looks : (row : Row) (written written' : ℕ → Written) (tablets tablets' : ℕ → ℕ → Tablet) (live : ℕ → Bool) (lineage : List Member) (from : Node) (master : ℕ) (pulled : Pulled) → AllLook written written' tablets tablets' → PulledAgrees row written tablets live lineage from master pulled → PulledAgrees row written' tablets' live lineage from master pulled
+pulled_looks row written written' tablets tablets' live (source ∷ target ∷ []) from master pulled looks agrees = λ here lives is.
+    let seen = looks.each master row.tablet in
     subst
     (λ (truth : List Entry).
     IsFromSource source from (as_entries (batch_at pulled.token BATCH_BYTES (scan_items truth))) pulled.entries
     × (pulled.next ≡ next_token pulled.token BATCH_BYTES (scan_items truth)))
     (sym (looks.truths row.range source))
-    (agrees here lives (of_target row (keeps master row.tablet) (keeps' master row.tablet) pulled.tenure seen is))
-pulled_looks row written written' keeps keeps' live lineage from master pulled looks agrees = agrees
+    (agrees here lives (of_target row (tablets master row.tablet) (tablets' master row.tablet) pulled.tenure seen is))
+pulled_looks row written written' tablets tablets' live lineage from master pulled looks agrees = agrees
 
-got_looks : (row : Row) (written written' : ℕ → Written) (keeps keeps' : ℕ → ℕ → Tablet) (live : ℕ → Bool) (lineage : List Member) (from : Node) (master : ℕ) (got : Got) → AllLook written written' keeps keeps' → GotAgrees row written keeps live lineage from master got → GotAgrees row written' keeps' live lineage from master got
-got_looks row written written' keeps keeps' live (source ∷ target ∷ []) from master got looks agrees = λ here lives is.
-    let seen = looks.tablets master row.tablet in
+got_looks : (row : Row) (written written' : ℕ → Written) (tablets tablets' : ℕ → ℕ → Tablet) (live : ℕ → Bool) (lineage : List Member) (from : Node) (master : ℕ) (got : Got) → AllLook written written' tablets tablets' → GotAgrees row written tablets live lineage from master got → GotAgrees row written' tablets' live lineage from master got
+got_looks row written written' tablets tablets' live (source ∷ target ∷ []) from master got looks agrees = λ here lives is.
+    let seen = looks.each master row.tablet in
     subst
     (λ (truth : List Entry).
     IsFromSource source from (as_entries (flat_map (λ hash. at_hash hash (scan_items truth)) got.hashes)) got.entries)
     (sym (looks.truths row.range source))
-    (agrees here lives (of_target row (keeps master row.tablet) (keeps' master row.tablet) got.tenure seen is))
-got_looks row written written' keeps keeps' live lineage from master got looks agrees = agrees
+    (agrees here lives (of_target row (tablets master row.tablet) (tablets' master row.tablet) got.tenure seen is))
+got_looks row written written' tablets tablets' live lineage from master got looks agrees = agrees
 
 -- ---- between a rebuilding master and backup 1
 
@@ -200,120 +200,120 @@ copy_looks phase logs logs' stored live copy same says = says
 -- ---- all kinds
 
 -- what a message says of a row, it says where each tablet looks as before, and backups are known to hold as much
-says_of_looks : (row : Row) (logs logs' : ℕ → Log) (written written' : ℕ → Written) (stored : ℕ → Segments) (keeps keeps' : ℕ → ℕ → Tablet) (live : ℕ → Bool) (handed : Table Handed) (from to : Node) (body : Body) → AllLook written written' keeps keeps' → ((q : ℕ) → (logs' q).known ≡ (logs q).known) → SaysOf row logs written stored keeps live handed from to body → SaysOf row logs' written' stored keeps' live handed from to body
-says_of_looks row logs logs' written written' stored keeps keeps' live handed from to (bodies.Prepare prepare) looks same says =
-    if_master to (λ m. PrepareFits row (keeps m row.tablet).handover (live m) m prepare)
-    (λ m. PrepareFits row (keeps' m row.tablet).handover (live m) m prepare)
-    (λ m. prepare_looks row (keeps m row.tablet) (keeps' m row.tablet) (live m) m prepare (looks.tablets m row.tablet)) says
-says_of_looks row logs logs' written written' stored keeps keeps' live handed from to (bodies.Ready ready) looks same says =
-    by_master from (λ m. IsOf row ready.tenure → ReadyIn row.phase (keeps m row.tablet).handover row.term m ready.place)
-    (λ m. IsOf row ready.tenure → ReadyIn row.phase (keeps' m row.tablet).handover row.term m ready.place)
+says_of_looks : (row : Row) (logs logs' : ℕ → Log) (written written' : ℕ → Written) (stored : ℕ → Segments) (tablets tablets' : ℕ → ℕ → Tablet) (live : ℕ → Bool) (handed : NumberMap Handed) (from to : Node) (body : Body) → AllLook written written' tablets tablets' → ((q : ℕ) → (logs' q).known ≡ (logs q).known) → SaysOf row logs written stored tablets live handed from to body → SaysOf row logs' written' stored tablets' live handed from to body
+says_of_looks row logs logs' written written' stored tablets tablets' live handed from to (bodies.Prepare prepare) looks same says =
+    if_master to (λ m. PrepareFits row (tablets m row.tablet).handover (live m) m prepare)
+    (λ m. PrepareFits row (tablets' m row.tablet).handover (live m) m prepare)
+    (λ m. prepare_looks row (tablets m row.tablet) (tablets' m row.tablet) (live m) m prepare (looks.each m row.tablet)) says
+says_of_looks row logs logs' written written' stored tablets tablets' live handed from to (bodies.Ready ready) looks same says =
+    by_master from (λ m. IsOf row ready.tenure → ReadyIn row.phase (tablets m row.tablet).handover row.term m ready.place)
+    (λ m. IsOf row ready.tenure → ReadyIn row.phase (tablets' m row.tablet).handover row.term m ready.place)
     (λ m told is.
-    ready_looks row.phase (keeps m row.tablet) (keeps' m row.tablet) row.term m ready.place (looks.tablets m row.tablet)
+    ready_looks row.phase (tablets m row.tablet) (tablets' m row.tablet) row.term m ready.place (looks.each m row.tablet)
     (told is)) says
-says_of_looks row logs logs' written written' stored keeps keeps' live handed from to (bodies.Close tenure) looks same says =
-    if_master to (λ m. CloseFits row (keeps m row.tablet).handover (live m) m tenure)
-    (λ m. CloseFits row (keeps' m row.tablet).handover (live m) m tenure)
-    (λ m. close_looks row (keeps m row.tablet) (keeps' m row.tablet) (live m) m tenure (looks.tablets m row.tablet)) says
-says_of_looks row logs logs' written written' stored keeps keeps' live handed from to (bodies.Transfer transfer) looks same says =
-    by_master from (λ m. IsOf row transfer.tenure → TransferIn row.phase (keeps m row.tablet) row.term m transfer)
-    (λ m. IsOf row transfer.tenure → TransferIn row.phase (keeps' m row.tablet) row.term m transfer)
+says_of_looks row logs logs' written written' stored tablets tablets' live handed from to (bodies.Close tenure) looks same says =
+    if_master to (λ m. CloseFits row (tablets m row.tablet).handover (live m) m tenure)
+    (λ m. CloseFits row (tablets' m row.tablet).handover (live m) m tenure)
+    (λ m. close_looks row (tablets m row.tablet) (tablets' m row.tablet) (live m) m tenure (looks.each m row.tablet)) says
+says_of_looks row logs logs' written written' stored tablets tablets' live handed from to (bodies.Transfer transfer) looks same says =
+    by_master from (λ m. IsOf row transfer.tenure → TransferIn row.phase (tablets m row.tablet) row.term m transfer)
+    (λ m. IsOf row transfer.tenure → TransferIn row.phase (tablets' m row.tablet) row.term m transfer)
     (λ m told is.
-    transfer_looks row.phase (keeps m row.tablet) (keeps' m row.tablet) row.term m transfer (looks.tablets m row.tablet)
+    transfer_looks row.phase (tablets m row.tablet) (tablets' m row.tablet) row.term m transfer (looks.each m row.tablet)
     (told is)) says
-says_of_looks row logs logs' written written' stored keeps keeps' live handed from to (bodies.Grant grant) looks same says = (
+says_of_looks row logs logs' written written' stored tablets tablets' live handed from to (bodies.Grant grant) looks same says = (
   says.0,
-  if_master to (λ m. GrantAgrees row (keeps m row.tablet).handover (live m) (look_up handed row.tablet) m grant)
-      (λ m. GrantAgrees row (keeps' m row.tablet).handover (live m) (look_up handed row.tablet) m grant)
+  if_master to (λ m. GrantAgrees row (tablets m row.tablet).handover (live m) (get handed row.tablet) m grant)
+      (λ m. GrantAgrees row (tablets' m row.tablet).handover (live m) (get handed row.tablet) m grant)
       (λ m.
-      grant_looks row (keeps m row.tablet) (keeps' m row.tablet) (live m) (look_up handed row.tablet) m grant
-      (looks.tablets m row.tablet)) says.1,
+      grant_looks row (tablets m row.tablet) (tablets' m row.tablet) (live m) (get handed row.tablet) m grant
+      (looks.each m row.tablet)) says.1,
 )
-says_of_looks row logs logs' written written' stored keeps keeps' live handed from to (bodies.Pull pull) looks same says = (
+says_of_looks row logs logs' written written' stored tablets tablets' live handed from to (bodies.Pull pull) looks same says = (
   says.0,
-  by_master from (λ m. AskAgrees row keeps (lineage_of row.phase) m to pull.tenure)
-      (λ m. AskAgrees row keeps' (lineage_of row.phase) m to pull.tenure)
-      (λ m. ask_looks row keeps keeps' (lineage_of row.phase) m to pull.tenure (looks.tablets m row.tablet)) says.1,
+  by_master from (λ m. AskAgrees row tablets (lineage_of row.phase) m to pull.tenure)
+      (λ m. AskAgrees row tablets' (lineage_of row.phase) m to pull.tenure)
+      (λ m. ask_looks row tablets tablets' (lineage_of row.phase) m to pull.tenure (looks.each m row.tablet)) says.1,
 )
-says_of_looks row logs logs' written written' stored keeps keeps' live handed from to (bodies.Pulled pulled) looks same says = (
+says_of_looks row logs logs' written written' stored tablets tablets' live handed from to (bodies.Pulled pulled) looks same says = (
   says.0,
-  if_master to (λ m. PulledAgrees row written keeps live (lineage_of row.phase) from m pulled)
-      (λ m. PulledAgrees row written' keeps' live (lineage_of row.phase) from m pulled)
-      (λ m. pulled_looks row written written' keeps keeps' live (lineage_of row.phase) from m pulled looks) says.1,
+  if_master to (λ m. PulledAgrees row written tablets live (lineage_of row.phase) from m pulled)
+      (λ m. PulledAgrees row written' tablets' live (lineage_of row.phase) from m pulled)
+      (λ m. pulled_looks row written written' tablets tablets' live (lineage_of row.phase) from m pulled looks) says.1,
 )
-says_of_looks row logs logs' written written' stored keeps keeps' live handed from to (bodies.Want want) looks same says = (
+says_of_looks row logs logs' written written' stored tablets tablets' live handed from to (bodies.Want want) looks same says = (
   says.0,
-  by_master from (λ m. AskAgrees row keeps (lineage_of row.phase) m to want.tenure)
-      (λ m. AskAgrees row keeps' (lineage_of row.phase) m to want.tenure)
-      (λ m. ask_looks row keeps keeps' (lineage_of row.phase) m to want.tenure (looks.tablets m row.tablet)) says.1,
+  by_master from (λ m. AskAgrees row tablets (lineage_of row.phase) m to want.tenure)
+      (λ m. AskAgrees row tablets' (lineage_of row.phase) m to want.tenure)
+      (λ m. ask_looks row tablets tablets' (lineage_of row.phase) m to want.tenure (looks.each m row.tablet)) says.1,
 )
-says_of_looks row logs logs' written written' stored keeps keeps' live handed from to (bodies.Got got) looks same says = (
+says_of_looks row logs logs' written written' stored tablets tablets' live handed from to (bodies.Got got) looks same says = (
   says.0,
-  if_master to (λ m. GotAgrees row written keeps live (lineage_of row.phase) from m got)
-      (λ m. GotAgrees row written' keeps' live (lineage_of row.phase) from m got)
-      (λ m. got_looks row written written' keeps keeps' live (lineage_of row.phase) from m got looks) says.1,
+  if_master to (λ m. GotAgrees row written tablets live (lineage_of row.phase) from m got)
+      (λ m. GotAgrees row written' tablets' live (lineage_of row.phase) from m got)
+      (λ m. got_looks row written written' tablets tablets' live (lineage_of row.phase) from m got looks) says.1,
 )
-says_of_looks row logs logs' written written' stored keeps keeps' live handed from to (bodies.Joined tenure) looks same says =
+says_of_looks row logs logs' written written' stored tablets tablets' live handed from to (bodies.Joined tenure) looks same says =
     by_master from
-    (λ m. IsOf row tenure → JoinedIn row.phase (keeps m row.tablet).handover (written m).committed row.term m)
-    (λ m. IsOf row tenure → JoinedIn row.phase (keeps' m row.tablet).handover (written' m).committed row.term m)
+    (λ m. IsOf row tenure → JoinedIn row.phase (tablets m row.tablet).handover (written m).applied row.term m)
+    (λ m. IsOf row tenure → JoinedIn row.phase (tablets' m row.tablet).handover (written' m).applied row.term m)
     (λ m told is.
-    joined_looks row.phase (keeps m row.tablet) (keeps' m row.tablet) (written m).committed (written' m).committed row.term m
-    (looks.tablets m row.tablet) (looks.committed m) (told is)) says
-says_of_looks row logs logs' written written' stored keeps keeps' live handed from to (bodies.Own tenure) looks same says =
-    if_master to (λ m. OwnFits row (keeps m row.tablet).handover (live m) m tenure)
-    (λ m. OwnFits row (keeps' m row.tablet).handover (live m) m tenure)
-    (λ m. own_looks row (keeps m row.tablet) (keeps' m row.tablet) (live m) m tenure (looks.tablets m row.tablet)) says
-says_of_looks row logs logs' written written' stored keeps keeps' live handed from to (bodies.Release tenure) looks same says =
-    if_master to (λ m. ReleaseFits row (keeps m row.tablet).handover (live m) m tenure)
-    (λ m. ReleaseFits row (keeps' m row.tablet).handover (live m) m tenure)
-    (λ m. release_looks row (keeps m row.tablet) (keeps' m row.tablet) (live m) m tenure (looks.tablets m row.tablet)) says
-says_of_looks row logs logs' written written' stored keeps keeps' live handed from to (bodies.Rebuild rebuild) looks same says =
-    if_master to (λ m. RebuildFits row (keeps m row.tablet).handover (live m) m rebuild)
-    (λ m. RebuildFits row (keeps' m row.tablet).handover (live m) m rebuild)
-    (λ m. rebuild_looks row (keeps m row.tablet) (keeps' m row.tablet) (live m) m rebuild (looks.tablets m row.tablet)) says
-says_of_looks row logs logs' written written' stored keeps keeps' live handed from to (bodies.Copy copy) looks same says = λ is.
+    joined_looks row.phase (tablets m row.tablet) (tablets' m row.tablet) (written m).applied (written' m).applied row.term m
+    (looks.each m row.tablet) (looks.applied m) (told is)) says
+says_of_looks row logs logs' written written' stored tablets tablets' live handed from to (bodies.Own tenure) looks same says =
+    if_master to (λ m. OwnFits row (tablets m row.tablet).handover (live m) m tenure)
+    (λ m. OwnFits row (tablets' m row.tablet).handover (live m) m tenure)
+    (λ m. own_looks row (tablets m row.tablet) (tablets' m row.tablet) (live m) m tenure (looks.each m row.tablet)) says
+says_of_looks row logs logs' written written' stored tablets tablets' live handed from to (bodies.Release tenure) looks same says =
+    if_master to (λ m. ReleaseFits row (tablets m row.tablet).handover (live m) m tenure)
+    (λ m. ReleaseFits row (tablets' m row.tablet).handover (live m) m tenure)
+    (λ m. release_looks row (tablets m row.tablet) (tablets' m row.tablet) (live m) m tenure (looks.each m row.tablet)) says
+says_of_looks row logs logs' written written' stored tablets tablets' live handed from to (bodies.Rebuild rebuild) looks same says =
+    if_master to (λ m. RebuildFits row (tablets m row.tablet).handover (live m) m rebuild)
+    (λ m. RebuildFits row (tablets' m row.tablet).handover (live m) m rebuild)
+    (λ m. rebuild_looks row (tablets m row.tablet) (tablets' m row.tablet) (live m) m rebuild (looks.each m row.tablet)) says
+says_of_looks row logs logs' written written' stored tablets tablets' live handed from to (bodies.Copy copy) looks same says = λ is.
     copy_looks row.phase logs logs' stored live copy (same copy.master) (says is)
-says_of_looks row logs logs' written written' stored keeps keeps' live handed from to (bodies.Rebuilt rebuilt) looks same says =
+says_of_looks row logs logs' written written' stored tablets tablets' live handed from to (bodies.Rebuilt rebuilt) looks same says =
     by_master from
     (λ m. IsOf row rebuilt.tenure
-    → RebuiltIn row.phase (keeps m row.tablet) (written m).committed row.term m rebuilt)
+    → RebuiltIn row.phase (tablets m row.tablet) (written m).applied row.term m rebuilt)
     (λ m. IsOf row rebuilt.tenure
-    → RebuiltIn row.phase (keeps' m row.tablet) (written' m).committed row.term m rebuilt)
+    → RebuiltIn row.phase (tablets' m row.tablet) (written' m).applied row.term m rebuilt)
     (λ m told is.
-    rebuilt_looks row.phase (keeps m row.tablet) (keeps' m row.tablet) (written m).committed (written' m).committed row.term m
-    rebuilt (looks.tablets m row.tablet) (looks.committed m) (told is)) says
-says_of_looks row logs logs' written written' stored keeps keeps' live handed from to body looks same says = says
+    rebuilt_looks row.phase (tablets m row.tablet) (tablets' m row.tablet) (written m).applied (written' m).applied row.term m
+    rebuilt (looks.each m row.tablet) (looks.applied m) (told is)) says
+says_of_looks row logs logs' written written' stored tablets tablets' live handed from to body looks same says = says
 
--- each tablet looks as before, as much is committed and counts as before, and backups are known to hold as much
-pub messages_looks : (rows : List Row) (logs logs' : ℕ → Log) (written written' : ℕ → Written) (stored : ℕ → Segments) (keeps keeps' : ℕ → ℕ → Tablet) (live : ℕ → Bool) (handed : Table Handed) (journal : List Placed) (wire : Table Message) → Messages rows logs written stored keeps live handed journal wire → AllLook written written' keeps keeps' → ((q : ℕ) → (logs' q).known ≡ (logs q).known) → Messages rows logs' written' stored keeps' live handed journal wire
-messages_looks rows logs logs' written written' stored keeps keeps' live handed journal wire old looks same = record {
+-- each tablet looks as before, as much is applied and counts as before, and backups are known to hold as much
+pub messages_looks : (rows : List Row) (logs logs' : ℕ → Log) (written written' : ℕ → Written) (stored : ℕ → Segments) (tablets tablets' : ℕ → ℕ → Tablet) (live : ℕ → Bool) (handed : NumberMap Handed) (journal : List Placed) (wire : NumberMap Message) → Messages rows logs written stored tablets live handed journal wire → AllLook written written' tablets tablets' → ((q : ℕ) → (logs' q).known ≡ (logs q).known) → Messages rows logs' written' stored tablets' live handed journal wire
+messages_looks rows logs logs' written written' stored tablets tablets' live handed journal wire old looks same = record {
   of_rows =
-      each_weaker (λ n m. All (λ row. SaysOf row logs written stored keeps live handed m.from m.to m.body) rows)
-      (λ n m. All (λ row. SaysOf row logs' written' stored keeps' live handed m.from m.to m.body) rows) wire
+      each_weaker (λ n m. All (λ row. SaysOf row logs written stored tablets live handed m.from m.to m.body) rows)
+      (λ n m. All (λ row. SaysOf row logs' written' stored tablets' live handed m.from m.to m.body) rows) wire
       (λ n m.
-      All-weaker (λ row. SaysOf row logs written stored keeps live handed m.from m.to m.body)
-      (λ row. SaysOf row logs' written' stored keeps' live handed m.from m.to m.body)
+      All-weaker (λ row. SaysOf row logs written stored tablets live handed m.from m.to m.body)
+      (λ row. SaysOf row logs' written' stored tablets' live handed m.from m.to m.body)
       (λ row.
-      says_of_looks row logs logs' written written' stored keeps keeps' live handed m.from m.to m.body looks same) rows)
+      says_of_looks row logs logs' written written' stored tablets tablets' live handed m.from m.to m.body looks same) rows)
       old.of_rows;
   others = old.others;
 }
 
 -- a tablet that closes is frozen
-pub messages_frozen : (rows : List Row) (logs : ℕ → Log) (written : ℕ → Written) (stored : ℕ → Segments) (keeps now : ℕ → ℕ → Tablet) (live : ℕ → Bool) (handed : Table Handed) (journal : List Placed) (wire : Table Message) (master number : ℕ) → Messages rows logs written stored keeps live handed journal wire → (keeps master number).handover.role ≡ roles.Closing → Freezes master number keeps now → Messages rows logs written stored now live handed journal wire
-messages_frozen rows logs written stored keeps now live handed journal wire master number old closing change =
-    messages_looks rows logs logs written written stored keeps now live handed journal wire old
+pub messages_frozen : (rows : List Row) (logs : ℕ → Log) (written : ℕ → Written) (stored : ℕ → Segments) (tablets now : ℕ → ℕ → Tablet) (live : ℕ → Bool) (handed : NumberMap Handed) (journal : List Placed) (wire : NumberMap Message) (master number : ℕ) → Messages rows logs written stored tablets live handed journal wire → (tablets master number).handover.role ≡ roles.Closing → Freezes master number tablets now → Messages rows logs written stored now live handed journal wire
+messages_frozen rows logs written stored tablets now live handed journal wire master number old closing change =
+    messages_looks rows logs logs written written stored tablets now live handed journal wire old
     (record {
-      tablets = each_looks_frozen master number keeps now closing change;
-      committed = λ q. refl;
+      each = each_looks_frozen master number tablets now closing change;
+      applied = λ q. refl;
       truths = λ range member. refl;
     })
     (λ q. refl)
 
 -- a write is staged at a master that answers calls for its key
-pub messages_staged : (rows : List Row) (before after : Lane) (stored : ℕ → Segments) (live : ℕ → Bool) (handed : Table Handed) (journal : List Placed) (wire : Table Message) (alive : Bool) (master : ℕ) (row : Row) (call : Call) (item : Held) → Messages rows before.logs before.written stored before.keeps live handed journal wire → Stages rows before after master row call item → IsServed rows (before.keeps master) alive master item.table item.key → Messages rows after.logs after.written stored after.keeps live handed journal wire
+pub messages_staged : (rows : List Row) (before after : Lane) (stored : ℕ → Segments) (live : ℕ → Bool) (handed : NumberMap Handed) (journal : List Placed) (wire : NumberMap Message) (alive : Bool) (master : ℕ) (row : Row) (call : Call) (item : Held) → Messages rows before.logs before.written stored before.tablets live handed journal wire → Stages rows before after master row call item → IsServed rows (before.tablets master) alive master item.table item.key → Messages rows after.logs after.written stored after.tablets live handed journal wire
 messages_staged rows before after stored live handed journal wire alive master row call item old stages served =
-    messages_looks rows before.logs after.logs before.written after.written stored before.keeps after.keeps live handed journal wire old
+    messages_looks rows before.logs after.logs before.written after.written stored before.tablets after.tablets live handed journal wire old
     (staged_looks rows before after master row call item stages alive served)
     (staged_known rows before after master row call item stages)

@@ -1,8 +1,8 @@
 -- What stands behind a place of a list, and how that changes with one more element at its end.
 use Rattle.std.proofs.Common.{◌≡◌, ℕ, zero, suc, ◌≤◌, Bool, true, false, List, [], ◌∷◌, ◌++◌, Some, refl, ap, ◌∙◌, arith}
-use Rattle.std.proofs.lemmas.Bool.{or_left, or_right, or_from, or_parts}
 use Rattle.std.specs.Prelude.{drop, slice_get}
 use Rattle.std.specs.List.{list_any}
+use Rattle.std.proofs.lemmas.Bool.{or_left, or_right, or_from, or_parts}
 
 -- what passes a test and stands behind a place is among what stands there
 pub behind_any : {X : Type 0} (p : X → Bool) (xs : List X) (count place : ℕ) (x : X) → count ≤ place → slice_get xs place ≡ Some x → p x ≡ true → list_any p (drop count xs) ≡ true

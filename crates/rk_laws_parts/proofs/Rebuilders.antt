@@ -1,12 +1,11 @@
 -- What a master that rebuilds has, once a write was staged.
-use Rattle.rk_world.specs.Sound.Small.{as_frozen}
-use Rattle.std.proofs.lemmas.Option.{IfSome_then}
 use Rattle.std.proofs.Common.{refl, ◌≡◌, ℕ, ◌≤◌, ◌<◌, ◌-◌, suc, true, false, List, [], ◌∷◌, ◌++◌, length, Some, None, sym, ap, ◌∙◌, subst, ⊎_elim, arith}
+use Rattle.std.specs.Prelude.{drop, filter, take, ◌==◌, Option, IfSome, None}
+use Rattle.std.specs.List.{All, Contains, flat_map}
 use Rattle.std.proofs.lemmas.Bool.{cases_lt, eq-eqb, false≢true, or_left, or_right}
 use Rattle.std.proofs.lemmas.List.{take-append-le, drop-append-le, length-append, length-drop}
 use Rattle.std.proofs.lemmas.List.Elements.{All-contains}
-use Rattle.std.specs.Prelude.{drop, filter, take, ◌==◌, Option, IfSome, None}
-use Rattle.std.specs.List.{All, Contains, flat_map}
+use Rattle.std.proofs.lemmas.Option.{IfSome_then}
 use Rattle.rk_types.specs.declared.held.Held.{Held}
 use Rattle.rk_types.specs.declared.lineage.Member.{Member}
 use Rattle.rk_types.specs.declared.range.Range.{Range}
@@ -14,23 +13,26 @@ use Rattle.rk_entry.specs.declared.entry.Entry.{Entry}
 use Rattle.rk_entry.specs.declared.entry.Entry.TheVariants as entries
 use Rattle.rk_log.specs.Known.{Known}
 use Rattle.rk_table.specs.Items.{is_in}
-use Rattle.rk_tablet_map.specs.declared.row.Row.{Row}
 use Rattle.rk_transfer.specs.Handover.{is_serving}
 use Rattle.rk_transfer.specs.declared.role.Role.{Role}
 use Rattle.rk_transfer.specs.declared.role.Role.TheVariants as roles
-use Rattle.rk_world.specs.Coordinator.{is_member}
+use Rattle.rk_tablet_map.specs.declared.row.Row.{Row}
+use Rattle.rk_world.specs.Ranges.{has_key}
 use Rattle.rk_world.specs.Ends.{items_of}
-use Rattle.rk_world.specs.Master.{touches}
-use Rattle.rk_world.specs.Material.{Mark, has_key, is_marked, material_of, named, side_entries, unmarked_from}
-use Rattle.rk_world.specs.Requests.{counted_up}
-use Rattle.rk_world.specs.Sound.Rebuilds.{IsMergedOf, merged_place, IsPieceOf, IsRebuilder, IsRebuildTable, named_items, committed_from}
-use Rattle.rk_world.specs.Sound.Receives.{IsFound}
+use Rattle.rk_world.specs.Marks.{Mark, is_marked, unmarked_from}
+use Rattle.rk_world.specs.Material.{material_of, named, side_entries}
+use Rattle.rk_world.specs.Lineage.{is_member, last_of}
 use Rattle.rk_world.specs.Tablet.{Tablet}
-use Rattle.rk_world.specs.Written.{Written, committed_entries, last_of}
-use Rattle.rk_laws_parts.proofs.Changing.{with_one_more}
-use Rattle.rk_laws_parts.proofs.Places.{behind_none}
-use Rattle.rk_laws_parts.proofs.Shares.{named_same, unmarked_from_last}
+use Rattle.rk_world.specs.Master.{touches}
+use Rattle.rk_world.specs.Requests.{counted_up}
 use Rattle.rk_world.specs.Rebuilds.{own_place}
+use Rattle.rk_world.specs.Written.{Written, applied_entries}
+use Rattle.rk_world.specs.Sound.Receives.{IsFound}
+use Rattle.rk_world.specs.Sound.Rebuilds.{IsMergedOf, merged_place, IsPieceOf, IsRebuilder, IsRebuildTable, named_items, applied_from}
+use Rattle.rk_world.specs.Sound.Small.{as_frozen}
+use Rattle.rk_laws_parts.proofs.Changing.{with_one_more}
+use Rattle.rk_laws_parts.proofs.Shares.{named_same, unmarked_from_last}
+use Rattle.rk_laws_parts.proofs.Places.{behind_none}
 
 -- the last member of a lineage is one of it
 pub last_member : (lineage : List Member) (last : Member) (master : ℕ) → last_of lineage ≡ Some last → last.master ≡ master → is_member lineage master ≡ true
@@ -88,15 +90,15 @@ serving_merged role serves = refl
 abbrev AreShared : List Entry → List Held → List Held → Type 0
 AreShared truth table items = (item : Held) → Contains items item → Contains (items_of truth) item × IsFound table item
 
--- the committed entries are what they were
-committed_staged : (w : Written) (item : Held) → w.committed ≤ length w.entries → committed_entries (with_one_more w (entries.Held item)) ≡ committed_entries w
-committed_staged w item fits = take-append-le w.committed w.entries (entries.Held item ∷ []) fits
+-- the applied entries are what they were
+applied_staged : (w : Written) (item : Held) → w.applied ≤ length w.entries → applied_entries (with_one_more w (entries.Held item)) ≡ applied_entries w
+applied_staged w item fits = take-append-le w.applied w.entries (entries.Held item ∷ []) fits
 
--- the table of a master that rebuilds has what is committed, as before
-table_staged : (range : Range) (truth : List Entry) (from : ℕ) (w : Written) (item : Held) (table : List Held) → w.committed ≤ length w.entries → IsRebuildTable range truth (committed_from range from w) table → IsRebuildTable range truth (committed_from range from (with_one_more w (entries.Held item))) table
-table_staged range truth from w item table fits had =
+-- the table of a master that rebuilds has what is applied, as before
+records_staged : (range : Range) (truth : List Entry) (from : ℕ) (w : Written) (item : Held) (table : List Held) → w.applied ≤ length w.entries → IsRebuildTable range truth (applied_from range from w) table → IsRebuildTable range truth (applied_from range from (with_one_more w (entries.Held item))) table
+records_staged range truth from w item table fits had =
     subst (λ (sure : List Entry). IsRebuildTable range truth (material_of range (side_entries w.sides) (drop from sure)) table)
-    (sym (committed_staged w item fits)) had
+    (sym (applied_staged w item fits)) had
 
 -- an item names no side segment
 named_staged : (range : Range) (from : ℕ) (w : Written) (item : Held) → from ≤ length w.entries → named_items range from (with_one_more w (entries.Held item)) ≡ named_items range from w
@@ -115,7 +117,7 @@ placed_staged : (from : ℕ) (w : Written) (item : Held) → from ≤ length w.e
 placed_staged from w item within = omega (arith, within, length-append w.entries (entries.Held item ∷ []))
 
 -- a master that rebuilds a row, and wrote an item of another one
-pub rebuilder_apart : (row : Row) (lineage : List Member) (master : ℕ) (truth own : List Entry) (known : ℕ → Known) (stored : ℕ → ℕ → List ℕ) (w : Written) (tablet : Tablet) (table : List Held) (item : Held) → w.committed ≤ length w.entries → All (λ mark. mark.past ≤ length w.entries) w.marks → has_key row.range item.table item.key ≡ false → IsRebuilder row lineage master truth own known stored w tablet table → IsRebuilder row lineage master truth own known stored (with_one_more w (entries.Held item)) tablet table
+pub rebuilder_apart : (row : Row) (lineage : List Member) (master : ℕ) (truth own : List Entry) (known : ℕ → Known) (stored : ℕ → ℕ → List ℕ) (w : Written) (tablet : Tablet) (table : List Held) (item : Held) → w.applied ≤ length w.entries → All (λ mark. mark.past ≤ length w.entries) w.marks → has_key row.range item.table item.key ≡ false → IsRebuilder row lineage master truth own known stored w tablet table → IsRebuilder row lineage master truth own known stored (with_one_more w (entries.Held item)) tablet table
 rebuilder_apart row lineage master truth own known stored w tablet table item fits marked outside was =
     let from : ℕ = own_place tablet.handover.role in
     record {
@@ -128,13 +130,13 @@ rebuilder_apart row lineage master truth own known stored w tablet table item fi
           (λ entry merged.
           merged_staged row.tablet from own tablet w item entry marked
           (ap (λ (range : Range). has_key range item.table item.key) was.range_is ∙ outside) merged);
-      items = table_staged row.range truth from w item table fits was.items;
+      items = records_staged row.range truth from w item table fits was.items;
       sides = sides_staged row.range truth from w item table was.placed was.sides;
       outside = was.outside;
     }
 
 -- a master that is to rebuild the row and still serves it, as a member of its lineage
-pub rebuilder_serving : (row : Row) (lineage : List Member) (master : ℕ) (truth own own' : List Entry) (known : ℕ → Known) (stored : ℕ → ℕ → List ℕ) (w : Written) (tablet : Tablet) (table : List Held) (item : Held) → w.committed ≤ length w.entries → is_serving tablet.handover.role ≡ true → is_member lineage master ≡ true → IsRebuilder row lineage master truth own known stored w tablet table → IsRebuilder row lineage master truth own' known stored (with_one_more w (entries.Held item)) (counted_up tablet) table
+pub rebuilder_serving : (row : Row) (lineage : List Member) (master : ℕ) (truth own own' : List Entry) (known : ℕ → Known) (stored : ℕ → ℕ → List ℕ) (w : Written) (tablet : Tablet) (table : List Held) (item : Held) → w.applied ≤ length w.entries → is_serving tablet.handover.role ≡ true → is_member lineage master ≡ true → IsRebuilder row lineage master truth own known stored w tablet table → IsRebuilder row lineage master truth own' known stored (with_one_more w (entries.Held item)) (counted_up tablet) table
 rebuilder_serving row lineage master truth own own' known stored w tablet table item fits serves member was =
     let from : ℕ = own_place tablet.handover.role in
     record {
@@ -145,7 +147,7 @@ rebuilder_serving row lineage master truth own own' known stored w tablet table 
       merged =
           subst (λ (place : Option ℕ). IfSome place (λ entry. IsMergedOf row.tablet from own' (counted_up tablet) (with_one_more w (entries.Held item)) entry))
           (sym (serving_merged tablet.handover.role serves)) tt;
-      items = table_staged row.range truth from w item table fits was.items;
+      items = records_staged row.range truth from w item table fits was.items;
       sides = sides_staged row.range truth from w item table was.placed was.sides;
       outside = λ apart. absurd (false≢true (sym apart ∙ member));
     }
@@ -160,7 +162,7 @@ rebuilder_frozen row lineage master truth own known stored w tablet table closin
       read = was.read;
       placed = subst (λ (n : ℕ). n ≤ length w.entries) first was.placed;
       merged = tt;
-      items = subst (λ (n : ℕ). IsRebuildTable row.range truth (committed_from row.range n w) table) first was.items;
+      items = subst (λ (n : ℕ). IsRebuildTable row.range truth (applied_from row.range n w) table) first was.items;
       sides = subst (λ (n : ℕ). AreShared truth table (named_items row.range n w)) first was.sides;
       outside = λ apart. subst (λ (n : ℕ). own n ≡ []) first (was.outside apart);
     }

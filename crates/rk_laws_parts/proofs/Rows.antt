@@ -1,14 +1,14 @@
 -- Laws of the part Rows: what logs that grew keep of it.
-use Rattle.std.specs.Prelude.{◌≤◌, ℕ, List, length, All}
 use Rattle.std.proofs.Common.{arith}
+use Rattle.std.specs.Prelude.{◌≤◌, ℕ, List, length, All}
 use Rattle.std.proofs.lemmas.List.Elements.{All-weaker}
-use Rattle.rk_types.specs.declared.history.Placed.{Placed}
 use Rattle.rk_types.specs.declared.call.Call.{Call}
 use Rattle.rk_types.specs.declared.held.Held.{Held}
+use Rattle.rk_types.specs.declared.history.Placed.{Placed}
 use Rattle.rk_tablet_map.specs.Phase.{lineage_of}
 use Rattle.rk_tablet_map.specs.declared.row.Row.{Row}
-use Rattle.rk_world.specs.Sound.Rows.{Rows, IsPlaced}
 use Rattle.rk_world.specs.Written.{Written}
+use Rattle.rk_world.specs.Sound.Rows.{Rows, IsPlaced}
 use Rattle.rk_laws_parts.proofs.Changing.{Lane, Stages}
 use Rattle.rk_laws_parts.proofs.Staged.{staged_grown}
 

@@ -1,19 +1,20 @@
 -- What rows and messages see of a tablet: its term, its range and its role, and of a frozen one its counter and its ends.
-use Rattle.std.specs.Prelude.{◌≡◌, ℕ, true}
 use Rattle.std.proofs.Common.{refl, sym, ap, subst}
+use Rattle.std.specs.Prelude.{◌≡◌, ℕ, true}
 use Rattle.std.proofs.lemmas.Bool.{both_ways}
 use Rattle.rk_types.specs.declared.lineage.Member.{Member}
 use Rattle.rk_types.specs.declared.range.Range.{Range}
 use Rattle.rk_transfer.specs.Handover.{is_serving}
 use Rattle.rk_transfer.specs.declared.role.Role.{Role}
 use Rattle.rk_transfer.specs.declared.role.Role.TheVariants as roles
+use Rattle.rk_world.specs.Tablet.{Tablet}
+use Rattle.rk_world.specs.RoleTests.{is_absent}
 use Rattle.rk_world.specs.Requests.{counted_up}
-use Rattle.rk_world.specs.Tablet.{Tablet, is_absent}
 use Rattle.rk_world.specs.Written.{Written, member_truth}
+use Rattle.rk_world.specs.Sound.Posts.{Post, bond_of, Holds}
+use Rattle.rk_world.specs.Sound.Posts.Post.{Owner, OpeningSource, InvitedTarget, ReadyTarget, MovingSource, MovingTarget, OnlyRebuilder, FirstRebuilder, LastRebuilder, OutsideRebuilder, FormerMember, Bystander}
 use Rattle.rk_world.specs.Sound.Handing.{is_wanting}
 use Rattle.rk_world.specs.Sound.Messages.{HasJoined, HasRebuilt}
-use Rattle.rk_world.specs.Sound.Posts.{Post, bond_of, Holds}
-use Rattle.rk_world.specs.Sound.Posts.Post.{Owner, Giver, Invited, Ready, Given, Taker, Heir, FirstHeir, LastHeir, Outsider, Lost, Apart}
 use Rattle.rk_world.specs.Sound.Small.{as_frozen}
 use Rattle.rk_laws_parts.proofs.Changing.{Freezes}
 use Rattle.rk_laws_parts.proofs.Differs.{keeps_each}
@@ -24,11 +25,11 @@ pub record GoesOn (old new : Role) : Type 0 where
   pub wanting : is_wanting new ≡ is_wanting old
   pub waits : (place : ℕ) → old ≡ roles.Wanting place → new ≡ roles.Wanting place
   pub frozen : old ≡ roles.Frozen → new ≡ roles.Frozen
-  pub joined : (committed : ℕ) → HasJoined old committed → HasJoined new committed
-  pub rebuilt : (committed place : ℕ) → HasRebuilt old committed place → HasRebuilt new committed place
+  pub joined : (applied : ℕ) → HasJoined old applied → HasJoined new applied
+  pub rebuilt : (applied place : ℕ) → HasRebuilt old applied place → HasRebuilt new applied place
   pub fits :
-      (post : Post) (term kept committed : ℕ)
-      → Holds (bond_of post old) term kept committed → Holds (bond_of post new) term kept committed
+      (post : Post) (term own applied : ℕ)
+      → Holds (bond_of post old) term own applied → Holds (bond_of post new) term own applied
 
 -- a tablet is seen as another was
 pub record LooksAs (old new : Tablet) : Type 0 where
@@ -39,10 +40,10 @@ pub record LooksAs (old new : Tablet) : Type 0 where
   pub counter : old.handover.role ≡ roles.Frozen → new.handover.counter ≡ old.handover.counter
   pub completions : old.handover.role ≡ roles.Frozen → new.completions ≡ old.completions
 
--- each tablet is seen as it was, as much is committed, and that counts as before
-pub record AllLook (written written' : ℕ → Written) (keeps keeps' : ℕ → ℕ → Tablet) : Type 0 where
-  pub tablets : (q r : ℕ) → LooksAs (keeps q r) (keeps' q r)
-  pub committed : (q : ℕ) → (written' q).committed ≡ (written q).committed
+-- each tablet is seen as it was, as much is applied, and that counts as before
+pub record AllLook (written written' : ℕ → Written) (tablets tablets' : ℕ → ℕ → Tablet) : Type 0 where
+  pub each : (q r : ℕ) → LooksAs (tablets q r) (tablets' q r)
+  pub applied : (q : ℕ) → (written' q).applied ≡ (written q).applied
   pub truths : (range : Range) (member : Member) → member_truth written' range member ≡ member_truth written range member
 
 -- a role goes on as itself
@@ -69,19 +70,19 @@ looks_same tablet = record {
 }
 
 -- a post that takes a role that closes takes a frozen one at the same terms
-fits_frozen : (post : Post) (term kept committed : ℕ) → Holds (bond_of post roles.Closing) term kept committed → Holds (bond_of post roles.Frozen) term kept committed
-fits_frozen (Owner place) term kept committed holds = holds
-fits_frozen Giver term kept committed holds = holds
-fits_frozen Invited term kept committed holds = absurd holds
-fits_frozen (Ready place) term kept committed holds = holds
-fits_frozen Given term kept committed holds = absurd holds
-fits_frozen (Taker place) term kept committed holds = holds
-fits_frozen (Heir place) term kept committed holds = holds
-fits_frozen (FirstHeir place) term kept committed holds = absurd holds
-fits_frozen (LastHeir place) term kept committed holds = holds
-fits_frozen Outsider term kept committed holds = absurd holds
-fits_frozen Lost term kept committed holds = holds
-fits_frozen Apart term kept committed holds = absurd holds
+fits_frozen : (post : Post) (term own applied : ℕ) → Holds (bond_of post roles.Closing) term own applied → Holds (bond_of post roles.Frozen) term own applied
+fits_frozen (Owner place) term own applied holds = holds
+fits_frozen OpeningSource term own applied holds = holds
+fits_frozen InvitedTarget term own applied holds = absurd holds
+fits_frozen (ReadyTarget place) term own applied holds = holds
+fits_frozen MovingSource term own applied holds = absurd holds
+fits_frozen (MovingTarget place) term own applied holds = holds
+fits_frozen (OnlyRebuilder place) term own applied holds = holds
+fits_frozen (FirstRebuilder place) term own applied holds = absurd holds
+fits_frozen (LastRebuilder place) term own applied holds = holds
+fits_frozen OutsideRebuilder term own applied holds = absurd holds
+fits_frozen FormerMember term own applied holds = holds
+fits_frozen Bystander term own applied holds = absurd holds
 
 -- a role that closes goes on as a frozen one
 pub closing_goes_on : GoesOn roles.Closing roles.Frozen
@@ -90,8 +91,8 @@ closing_goes_on = record {
   wanting = refl;
   waits = λ place is. absurd (cc);
   frozen = λ is. absurd (cc);
-  joined = λ committed has. has;
-  rebuilt = λ committed place has. has;
+  joined = λ applied has. has;
+  rebuilt = λ applied place has. has;
   fits = fits_frozen;
 }
 
@@ -118,7 +119,7 @@ counted_looks tablet serves = record {
 }
 
 -- where a tablet that closes is frozen, each looks as it did
-pub each_looks_frozen : (master number : ℕ) (keeps now : ℕ → ℕ → Tablet) → (keeps master number).handover.role ≡ roles.Closing → Freezes master number keeps now → (q r : ℕ) → LooksAs (keeps q r) (now q r)
-each_looks_frozen master number keeps now closing change =
-    keeps_each LooksAs master number (as_frozen (keeps master number)) keeps now change looks_same
-    (frozen_looks (keeps master number) closing)
+pub each_looks_frozen : (master number : ℕ) (tablets now : ℕ → ℕ → Tablet) → (tablets master number).handover.role ≡ roles.Closing → Freezes master number tablets now → (q r : ℕ) → LooksAs (tablets q r) (now q r)
+each_looks_frozen master number tablets now closing change =
+    keeps_each LooksAs master number (as_frozen (tablets master number)) tablets now change looks_same
+    (frozen_looks (tablets master number) closing)

@@ -5,10 +5,10 @@ use Rattle.std.specs.Option.{option_map_or, option_or}
 use Rattle.std.proofs.lemmas.Bool.{cases_eq, cases_lt, cond-true, cond-false, cond_both, eq-eqb, ne_eqb, lt-ltb, ltb-true}
 use Rattle.std.proofs.lemmas.List.{append-nil, get_or_append_left, get_or_past}
 use Rattle.std.proofs.lemmas.List.Folds.{find-append}
+use Rattle.rk_segment.specs.Segment.{NumberedBytes}
 use Rattle.rk_entry.specs.Spelling.{spelled}
 use Rattle.rk_entry.specs.declared.entry.Entry.{Entry}
 use Rattle.rk_entry.specs.declared.lists.TheConstants.{FIRST_SIDE_SEGMENT}
-use Rattle.rk_segment.specs.Segment.{NumberedBytes}
 use Rattle.rk_log.proofs.Cuts.{cut_push, cut_filled, length-le-bytes, room_some}
 use Rattle.rk_log.specs.Cut.{last_of, has_room, in_last, with_bytes, cut}
 use Rattle.rk_log.specs.Log.{Log, bytes_of, numbered, segment_bytes, segment_of, side_segments, with_entry}

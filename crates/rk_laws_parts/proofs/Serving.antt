@@ -8,21 +8,22 @@ use Rattle.rk_types.specs.Range.{meets}
 use Rattle.rk_types.specs.declared.history.Placed.{Placed}
 use Rattle.rk_types.specs.declared.lineage.Member.{Member}
 use Rattle.rk_types.specs.declared.range.Range.{Range}
+use Rattle.rk_transfer.specs.Handover.{is_serving}
+use Rattle.rk_transfer.specs.declared.role.Role.{Role}
+use Rattle.rk_transfer.specs.declared.role.Role.TheVariants as roles
 use Rattle.rk_tablet_map.proofs.Lawful.{number_of}
 use Rattle.rk_tablet_map.specs.Phase.{lineage_of}
 use Rattle.rk_tablet_map.specs.Rows.{Precedes, row_of}
 use Rattle.rk_tablet_map.specs.declared.phase.Phase.{Phase}
 use Rattle.rk_tablet_map.specs.declared.phase.Phase.TheVariants.{Owned, Opening, Moving, Rebuilding}
 use Rattle.rk_tablet_map.specs.declared.row.Row.{Row}
-use Rattle.rk_transfer.specs.Handover.{is_serving}
-use Rattle.rk_transfer.specs.declared.role.Role.{Role}
-use Rattle.rk_transfer.specs.declared.role.Role.TheVariants as roles
-use Rattle.rk_world.specs.Coordinator.{is_member}
-use Rattle.rk_world.specs.Tablet.{Tablet, is_absent}
+use Rattle.rk_world.specs.Lineage.{is_member}
+use Rattle.rk_world.specs.Tablet.{Tablet}
+use Rattle.rk_world.specs.RoleTests.{is_absent}
 use Rattle.rk_world.specs.Written.{Written}
-use Rattle.rk_world.specs.Sound.Posts.{Heir, FirstHeir, LastHeir, Outsider, Lost, Apart, heir_of, post_of, bond_of, Holds, StillCounts}
-use Rattle.rk_world.specs.Sound.Roles.{Roles, RoleFits}
 use Rattle.rk_world.specs.Sound.Rows.{Rows}
+use Rattle.rk_world.specs.Sound.Posts.{OnlyRebuilder, FirstRebuilder, LastRebuilder, OutsideRebuilder, FormerMember, Bystander, rebuilder_post, post_of, bond_of, Holds, StillCounts}
+use Rattle.rk_world.specs.Sound.Roles.{Roles, RoleFits}
 use Rattle.rk_laws_parts.proofs.Apart.{one_precedes}
 use Rattle.rk_laws_parts.proofs.Speakers.{speaks_serving, speaker_of, speaker_is}
 
@@ -39,47 +40,47 @@ present roles.Absent serves = absurd (cc)
 present role serves = refl
 
 -- an outsider does not serve
-outsider : (role : Role) (term kept committed : ℕ) → Holds (bond_of Outsider role) term kept committed → is_serving role ≡ true → ⊥
-outsider roles.Absent term kept committed fits serves = absurd (cc)
-outsider roles.Closing term kept committed fits serves = absurd (cc)
-outsider roles.Frozen term kept committed fits serves = absurd (cc)
-outsider (roles.Wanting from) term kept committed fits serves = absurd (cc)
-outsider (roles.Rebuilding from entry) term kept committed fits serves = absurd (cc)
-outsider roles.Serving term kept committed fits serves = fits
-outsider roles.Receiving term kept committed fits serves = fits
-outsider (roles.Joining entry) term kept committed fits serves = fits
+outsider : (role : Role) (term own applied : ℕ) → Holds (bond_of OutsideRebuilder role) term own applied → is_serving role ≡ true → ⊥
+outsider roles.Absent term own applied fits serves = absurd (cc)
+outsider roles.Closing term own applied fits serves = absurd (cc)
+outsider roles.Frozen term own applied fits serves = absurd (cc)
+outsider (roles.Wanting from) term own applied fits serves = absurd (cc)
+outsider (roles.Rebuilding from entry) term own applied fits serves = absurd (cc)
+outsider roles.Serving term own applied fits serves = fits
+outsider roles.Receiving term own applied fits serves = fits
+outsider (roles.Joining entry) term own applied fits serves = fits
 
 -- an heir that serves is of the lineage, by the tests that tell its post
-heir_of_one : (here : Bool) (place : ℕ) (role : Role) (term kept committed : ℕ) → Holds (bond_of (cond here (Heir place) Outsider) role) term kept committed → is_serving role ≡ true → (here || false) ≡ true
-heir_of_one true place role term kept committed fits serves = refl
-heir_of_one false place role term kept committed fits serves = absurd (outsider role term kept committed fits serves)
+heir_of_one : (here : Bool) (place : ℕ) (role : Role) (term own applied : ℕ) → Holds (bond_of (cond here (OnlyRebuilder place) OutsideRebuilder) role) term own applied → is_serving role ≡ true → (here || false) ≡ true
+heir_of_one true place role term own applied fits serves = refl
+heir_of_one false place role term own applied fits serves = absurd (outsider role term own applied fits serves)
 
-heir_of_two : (first last more : Bool) (one other : ℕ) (role : Role) (term kept committed : ℕ) → Holds (bond_of (cond first (FirstHeir one) (cond last (LastHeir other) Outsider)) role) term kept committed → is_serving role ≡ true → (first || (last || more)) ≡ true
-heir_of_two true last more one other role term kept committed fits serves = refl
-heir_of_two false true more one other role term kept committed fits serves = refl
-heir_of_two false false more one other role term kept committed fits serves = absurd (outsider role term kept committed fits serves)
+heir_of_two : (first last more : Bool) (one other : ℕ) (role : Role) (term own applied : ℕ) → Holds (bond_of (cond first (FirstRebuilder one) (cond last (LastRebuilder other) OutsideRebuilder)) role) term own applied → is_serving role ≡ true → (first || (last || more)) ≡ true
+heir_of_two true last more one other role term own applied fits serves = refl
+heir_of_two false true more one other role term own applied fits serves = refl
+heir_of_two false false more one other role term own applied fits serves = absurd (outsider role term own applied fits serves)
 
-heir_member : (lineage : List Member) (master : ℕ) (role : Role) (term kept committed : ℕ) → Holds (bond_of (heir_of lineage master) role) term kept committed → is_serving role ≡ true → is_member lineage master ≡ true
-heir_member [] master role term kept committed fits serves = absurd (outsider role term kept committed fits serves)
-heir_member (only ∷ []) master role term kept committed fits serves =
-    heir_of_one (eqb only.master master) only.from role term kept committed fits serves
-heir_member (first ∷ last ∷ more) master role term kept committed fits serves =
-    heir_of_two (eqb first.master master) (eqb last.master master) (is_member more master) first.from last.from role term kept committed fits serves
+heir_member : (lineage : List Member) (master : ℕ) (role : Role) (term own applied : ℕ) → Holds (bond_of (rebuilder_post lineage master) role) term own applied → is_serving role ≡ true → is_member lineage master ≡ true
+heir_member [] master role term own applied fits serves = absurd (outsider role term own applied fits serves)
+heir_member (only ∷ []) master role term own applied fits serves =
+    heir_of_one (eqb only.master master) only.from role term own applied fits serves
+heir_member (first ∷ last ∷ more) master role term own applied fits serves =
+    heir_of_two (eqb first.master master) (eqb last.master master) (is_member more master) first.from last.from role term own applied fits serves
 
 -- the master that speaks for a row is of its lineage, where it serves
-speaker_member : (phase : Phase) (role : Role) (term kept committed : ℕ) → Holds (bond_of (post_of phase (speaker_of phase)) role) term kept committed → is_serving role ≡ true → is_member (lineage_of phase) (speaker_of phase) ≡ true
-speaker_member (Owned owner from) role term kept committed fits serves = ap (λ (b : Bool). b || false) (eq-eqb owner owner refl)
-speaker_member (Opening source sfrom target dfrom) role term kept committed fits serves =
+speaker_member : (phase : Phase) (role : Role) (term own applied : ℕ) → Holds (bond_of (post_of phase (speaker_of phase)) role) term own applied → is_serving role ≡ true → is_member (lineage_of phase) (speaker_of phase) ≡ true
+speaker_member (Owned owner from) role term own applied fits serves = ap (λ (b : Bool). b || false) (eq-eqb owner owner refl)
+speaker_member (Opening source sfrom target dfrom) role term own applied fits serves =
     ap (λ (b : Bool). b || false) (eq-eqb source source refl)
-speaker_member (Moving source sfrom target dfrom) role term kept committed fits serves =
+speaker_member (Moving source sfrom target dfrom) role term own applied fits serves =
     ap (λ (b : Bool). eqb source target || (b || false)) (eq-eqb target target refl) ∙ or_true (eqb source target)
   where
     or_true : (b : Bool) → (b || true) ≡ true
     or_true true = refl
     or_true false = refl
-speaker_member (Rebuilding lineage to) role term kept committed fits serves =
-    heir_member lineage to role term kept committed
-    (subst (λ (b : Bool). Holds (bond_of (cond b (heir_of lineage to) (cond (is_member lineage to) Lost Apart)) role) term kept committed)
+speaker_member (Rebuilding lineage to) role term own applied fits serves =
+    heir_member lineage to role term own applied
+    (subst (λ (b : Bool). Holds (bond_of (cond b (rebuilder_post lineage to) (cond (is_member lineage to) FormerMember Bystander)) role) term own applied)
     (eq-eqb to to refl) fits) serves
 
 -- what is found stands in the list
@@ -94,36 +95,36 @@ found_stands (first ∷ rows) number row found =
     first_or rows first row number (found_stands rows number row) (eqb first.tablet number) found
 
 -- a tablet that is served here and meets a row is the row's, and its master speaks for the row
-pub serves_for : (rows : List Row) (keeps : ℕ → ℕ → Tablet) (written : ℕ → Written) (live : ℕ → Bool) (journal : List Placed) (row : Row) (master tablet : ℕ) → Rows rows written journal → Roles rows keeps written live → Contains rows row → live master ≡ true → is_serving (keeps master tablet).handover.role ≡ true → meets (keeps master tablet).handover.range row.range ≡ true → (tablet ≡ row.tablet) × (master ≡ speaker_of row.phase)
-serves_for rows keeps written live journal row master tablet rows_fit roles_fit stands lives serves met =
-    at (row_of rows tablet) refl (roles_fit.known master tablet lives (present (keeps master tablet).handover.role serves))
+pub serves_for : (rows : List Row) (tablets : ℕ → ℕ → Tablet) (written : ℕ → Written) (live : ℕ → Bool) (journal : List Placed) (row : Row) (master tablet : ℕ) → Rows rows written journal → Roles rows tablets written live → Contains rows row → live master ≡ true → is_serving (tablets master tablet).handover.role ≡ true → meets (tablets master tablet).handover.range row.range ≡ true → (tablet ≡ row.tablet) × (master ≡ speaker_of row.phase)
+serves_for rows tablets written live journal row master tablet rows_fit roles_fit stands lives serves met =
+    at (row_of rows tablet) refl (roles_fit.known master tablet lives (present (tablets master tablet).handover.role serves))
   where
     at : (found : Option Row) → row_of rows tablet ≡ found → is_some found ≡ true → (tablet ≡ row.tablet) × (master ≡ speaker_of row.phase)
     at None found some = absurd (cc)
     at (Some own) found some =
         let here = found_stands rows tablet own found in
         let number : own.tablet ≡ tablet = number_of rows tablet own found in
-        let serving : is_serving (keeps master own.tablet).handover.role ≡ true =
-        subst (λ (n : ℕ). is_serving (keeps master n).handover.role ≡ true) (sym number) serves in
-        let fits : RoleFits own master (keeps master own.tablet).handover (written master).committed =
+        let serving : is_serving (tablets master own.tablet).handover.role ≡ true =
+        subst (λ (n : ℕ). is_serving (tablets master n).handover.role ≡ true) (sym number) serves in
+        let fits : RoleFits own master (tablets master own.tablet).handover (written master).applied =
         All-contains
-        (λ r. StillCounts (live master) (keeps master r.tablet).handover.term r.term
-        → RoleFits r master (keeps master r.tablet).handover (written master).committed) rows own (roles_fit.fitting master) here (inl lives) in
+        (λ r. StillCounts (live master) (tablets master r.tablet).handover.term r.term
+        → RoleFits r master (tablets master r.tablet).handover (written master).applied) rows own (roles_fit.fitting master) here (inl lives) in
         let speaker : master ≡ speaker_of own.phase =
-        speaker_is own master (keeps master own.tablet).handover (written master).committed fits
-        (speaks_serving (post_of own.phase master) (keeps master own.tablet).handover own.term serving) in
+        speaker_is own master (tablets master own.tablet).handover (written master).applied fits
+        (speaks_serving (post_of own.phase master) (tablets master own.tablet).handover own.term serving) in
         let member : is_member (lineage_of own.phase) master ≡ true =
         subst (λ (m : ℕ). is_member (lineage_of own.phase) m ≡ true) (sym speaker)
-        (speaker_member own.phase (keeps master own.tablet).handover.role own.term (keeps master own.tablet).handover.term (written master).committed
-        (subst (λ (m : ℕ). Holds (bond_of (post_of own.phase m) (keeps master own.tablet).handover.role) own.term (keeps master own.tablet).handover.term (written master).committed) speaker fits)
+        (speaker_member own.phase (tablets master own.tablet).handover.role own.term (tablets master own.tablet).handover.term (written master).applied
+        (subst (λ (m : ℕ). Holds (bond_of (post_of own.phase m) (tablets master own.tablet).handover.role) own.term (tablets master own.tablet).handover.term (written master).applied) speaker fits)
         serving) in
-        let range : (keeps master own.tablet).handover.range ≡ own.range =
+        let range : (tablets master own.tablet).handover.range ≡ own.range =
         All-contains
-        (λ r. StillCounts (live master) (keeps master r.tablet).handover.term r.term
-        → is_member (lineage_of r.phase) master ≡ true → (keeps master r.tablet).handover.range ≡ r.range) rows own
+        (λ r. StillCounts (live master) (tablets master r.tablet).handover.term r.term
+        → is_member (lineage_of r.phase) master ≡ true → (tablets master r.tablet).handover.range ≡ r.range) rows own
         (roles_fit.ranged master) here (inl lives) member in
         let meeting : meets own.range row.range ≡ true =
-        subst (λ (r : Range). meets r row.range ≡ true) range (subst (λ (n : ℕ). meets (keeps master n).handover.range row.range ≡ true) (sym number) met) in
+        subst (λ (r : Range). meets r row.range ≡ true) range (subst (λ (n : ℕ). meets (tablets master n).handover.range row.range ≡ true) (sym number) met) in
         let same : own ≡ row = same_row own here meeting in
         (sym number ∙ ap (λ (r : Row). r.tablet) same, speaker ∙ ap (λ (r : Row). speaker_of r.phase) same)
       where
@@ -141,8 +142,8 @@ serves_for rows keeps written live journal row master tablet rows_fit roles_fit 
             differ e = absurd (cc)
 
 -- so two living masters that answer calls for a range of one row are one, for one tablet
-pub one_serves : (rows : List Row) (keeps : ℕ → ℕ → Tablet) (written : ℕ → Written) (live : ℕ → Bool) (journal : List Placed) (row : Row) (a b i j : ℕ) → Rows rows written journal → Roles rows keeps written live → Contains rows row → live a ≡ true → live b ≡ true → is_serving (keeps a i).handover.role ≡ true → is_serving (keeps b j).handover.role ≡ true → meets (keeps a i).handover.range row.range ≡ true → meets (keeps b j).handover.range row.range ≡ true → (a ≡ b) × (i ≡ j)
-one_serves rows keeps written live journal row a b i j rows_fit roles_fit stands live_a live_b serves_a serves_b met_a met_b =
-    let first = serves_for rows keeps written live journal row a i rows_fit roles_fit stands live_a serves_a met_a in
-    let second = serves_for rows keeps written live journal row b j rows_fit roles_fit stands live_b serves_b met_b in
+pub one_serves : (rows : List Row) (tablets : ℕ → ℕ → Tablet) (written : ℕ → Written) (live : ℕ → Bool) (journal : List Placed) (row : Row) (a b i j : ℕ) → Rows rows written journal → Roles rows tablets written live → Contains rows row → live a ≡ true → live b ≡ true → is_serving (tablets a i).handover.role ≡ true → is_serving (tablets b j).handover.role ≡ true → meets (tablets a i).handover.range row.range ≡ true → meets (tablets b j).handover.range row.range ≡ true → (a ≡ b) × (i ≡ j)
+one_serves rows tablets written live journal row a b i j rows_fit roles_fit stands live_a live_b serves_a serves_b met_a met_b =
+    let first = serves_for rows tablets written live journal row a i rows_fit roles_fit stands live_a serves_a met_a in
+    let second = serves_for rows tablets written live journal row b j rows_fit roles_fit stands live_b serves_b met_b in
     (first.1 ∙ sym second.1, first.0 ∙ sym second.0)

@@ -1,5 +1,6 @@
--- A small world: a lane after one put that is committed and answered, with one master, one backup and one client.
+-- A small world: a lane after one put that is applied and answered, with one master, one backup and one client.
 use Rattle.std.specs.Prelude.{ℕ, false, List, [], ◌∷◌, length, Some}
+use Rattle.rk_types.specs.NumberMap.{NumberMap}
 use Rattle.rk_types.specs.declared.call.Answer.TheVariants as answers
 use Rattle.rk_types.specs.declared.call.Call.{Call}
 use Rattle.rk_types.specs.declared.call.End.TheVariants as ends
@@ -10,29 +11,28 @@ use Rattle.rk_types.specs.declared.held.Held.{Held}
 use Rattle.rk_types.specs.declared.history.Placed.{Placed}
 use Rattle.rk_types.specs.declared.node.Node.TheVariants as nodes
 use Rattle.rk_types.specs.declared.range.Range.{Range}
+use Rattle.rk_outside.specs.Segments.{Segments}
 use Rattle.rk_entry.specs.Spelling.{spelled}
 use Rattle.rk_entry.specs.declared.entry.Entry.{Entry}
 use Rattle.rk_entry.specs.declared.entry.Entry.TheVariants as entries
 use Rattle.rk_log.specs.Known.{Known, nothing, told}
 use Rattle.rk_log.specs.Log.{Log}
+use Rattle.rk_transfer.specs.declared.role.Role.TheVariants as roles
+use Rattle.rk_tablet_map.specs.declared.phase.Phase.TheVariants.{Owned}
+use Rattle.rk_tablet_map.specs.declared.row.Row.{Row}
 use Rattle.rk_message.specs.declared.calls.Reply.{Reply}
 use Rattle.rk_message.specs.declared.calls.Request.{Request}
 use Rattle.rk_message.specs.declared.message.Body.TheVariants as bodies
 use Rattle.rk_message.specs.declared.message.Message.{Message}
 use Rattle.rk_message.specs.declared.replication.Append.{Append}
 use Rattle.rk_message.specs.declared.replication.Stored.{Stored}
-use Rattle.rk_outside.specs.Segments.{Segments}
-use Rattle.rk_tablet_map.specs.declared.phase.Phase.TheVariants.{Owned}
-use Rattle.rk_tablet_map.specs.declared.row.Row.{Row}
-use Rattle.rk_transfer.specs.declared.role.Role.TheVariants as roles
-use Rattle.rk_world.specs.Backup.{no_segments, with_stored}
 use Rattle.rk_world.specs.Base.{no_base}
-use Rattle.rk_world.specs.Desk.{Desk, LastCall}
-use Rattle.rk_world.specs.Master.{Master}
-use Rattle.rk_world.specs.Tables.{Table}
 use Rattle.rk_world.specs.Tablet.{Tablet, no_tablet}
-use Rattle.rk_world.specs.World.{World, written_in}
+use Rattle.rk_world.specs.Master.{Master}
+use Rattle.rk_world.specs.Backup.{no_segments, with_stored}
+use Rattle.rk_world.specs.Ledger.{Ledger, LastCall}
 use Rattle.rk_world.specs.Written.{truth_of, rest_of}
+use Rattle.rk_world.specs.World.{World, written_in}
 
 -- all hashes of table 1
 abbrev pub small_range : Range
@@ -78,15 +78,15 @@ small_tablet = record no_tablet {
   completions = (1, record { seq = 1; end = ends.Written 1 }) ∷ [];
 }
 
--- the one master: its entry is committed and no call waits
+-- the one master: its entry is applied and no call waits
 abbrev pub small_master : Master
 small_master = record {
   number = 1;
   log = small_log;
   sides = [];
-  committed = 1;
+  applied = 1;
   calls = [];
-  table = small_item ∷ [];
+  records = small_item ∷ [];
   tablets = (1, small_tablet) ∷ [];
 }
 
@@ -138,13 +138,11 @@ abbrev pub small_reply : Message
 small_reply = record { from = nodes.Master 1; to = nodes.Client 1; body = bodies.Reply small_answer }
 
 -- all of them are still on the wire
-abbrev pub small_wire : Table Message
+abbrev pub small_wire : NumberMap Message
 small_wire = (1, small_request) ∷ (2, small_append) ∷ (3, small_told) ∷ (4, small_reply) ∷ []
 
-abbrev pub small_desk : Desk
-small_desk = record {
-  wire = small_wire;
-  sent = 4;
+abbrev pub small_ledger : Ledger
+small_ledger = record {
   clients = (1, Some small_last) ∷ [];
   asked = 1;
   requests = (1, small_request) ∷ [];
@@ -159,7 +157,8 @@ small_world = record {
   masters = (1, small_master) ∷ [];
   backups = (1, small_stored) ∷ [];
   coordinator = record { masters = 1; rows = small_map; noticed = []; handed = [] };
-  desk = small_desk;
+  wire = record { messages = small_wire; sent = 4 };
+  ledger = small_ledger;
   crashed = [];
   top = 4;
   base = no_base;

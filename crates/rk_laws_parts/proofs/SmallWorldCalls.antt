@@ -5,28 +5,30 @@ use Rattle.std.specs.List.{list_any}
 use Rattle.std.specs.List.Sorted.{IsStrictlySortedBy}
 use Rattle.std.proofs.lemmas.List.Elements.{All-nil}
 use Rattle.rk_types.specs.Hashing.{hash_of}
+use Rattle.rk_types.specs.NumberMap.{EachIn}
 use Rattle.rk_types.specs.declared.held.Held.{Held}
-use Rattle.rk_entry.specs.declared.entry.Entry.{Entry}
-use Rattle.rk_overlay.specs.Newest.{newest, is_of}
-use Rattle.rk_tablet_map.specs.Phase.{lineage_of, member}
-use Rattle.rk_world.specs.Base.{no_base}
-use Rattle.rk_world.specs.Desk.{asked_by}
-use Rattle.rk_world.specs.Ends.{ends_of, told}
-use Rattle.rk_world.specs.Master.{Master, tablet_at, new_master, touches}
-use Rattle.rk_world.specs.Tables.{EachIn}
-use Rattle.rk_world.specs.Tablet.{no_tablet}
-use Rattle.rk_world.specs.World.{kept_in, written_in, calls_in, table_in, lives}
-use Rattle.rk_world.specs.Written.{written_by, member_truth}
-use Rattle.rk_world.specs.Sound.Calls.{Calls, IsKnown, IsReached, IsStagedEnd, ReachAll, TellAll}
-use Rattle.rk_world.specs.Sound.Posts.{Post, post_of, StillCounts}
-use Rattle.rk_world.specs.Sound.Rest.{Rest, IsRest, FirstIsDone, OnlyIsUnnamed, IsLast, Waits, HasCall, EachHasCall, is_idle, is_call_entry}
-use Rattle.rk_world.specs.Sound.Tables.{Tables, HasItems, IsTableOf, has_all_items}
 use Rattle.rk_model.specs.Merged.{is_mutation}
+use Rattle.rk_entry.specs.declared.entry.Entry.{Entry}
 use Rattle.rk_table.specs.Order.{IsInScanOrder}
+use Rattle.rk_done.specs.Completions.{ends_of}
+use Rattle.rk_tablet_map.specs.Phase.{lineage_of, member}
 use Rattle.rk_tablet_map.specs.declared.row.Row.{Row}
-use Rattle.rk_world.specs.Material.{is_marked, of_key}
-use Rattle.rk_world.specs.Sound.Calls.{is_record_in}
-use Rattle.rk_laws_parts.proofs.SmallWorld.{small_world, small_desk, small_end, small_entry, small_item, small_journal, small_map, small_master, small_placed, small_range, small_rests, small_row, small_truths, small_wire}
+use Rattle.rk_overlay.specs.Newest.{newest, is_of}
+use Rattle.rk_world.specs.Ends.{told}
+use Rattle.rk_world.specs.Marks.{is_marked}
+use Rattle.rk_world.specs.Material.{of_key}
+use Rattle.rk_world.specs.Base.{no_base}
+use Rattle.rk_world.specs.Tablet.{no_tablet}
+use Rattle.rk_world.specs.RoleTests.{is_idle}
+use Rattle.rk_world.specs.Master.{Master, tablet_at, new_master, touches}
+use Rattle.rk_world.specs.Ledger.{asked_by}
+use Rattle.rk_world.specs.Written.{written_by, member_truth}
+use Rattle.rk_world.specs.World.{tablet_in, written_in, calls_in, records_in, lives}
+use Rattle.rk_world.specs.Sound.Posts.{Post, post_of, StillCounts}
+use Rattle.rk_world.specs.Sound.Calls.{Calls, IsKnown, IsReached, IsStagedEnd, ReachAll, TellAll, is_record_in}
+use Rattle.rk_world.specs.Sound.Rest.{Rest, IsRest, FirstIsDone, OnlyIsUnnamed, IsLast, Waits, HasCall, EachHasCall, is_call_entry}
+use Rattle.rk_world.specs.Sound.Tables.{Tables, HasItems, IsTableOf, has_all_items}
+use Rattle.rk_laws_parts.proofs.SmallWorld.{small_world, small_ledger, small_end, small_entry, small_item, small_journal, small_map, small_master, small_placed, small_range, small_rests, small_row, small_truths, small_wire}
 use Rattle.rk_laws_parts.proofs.SmallWorldLooks.{all_one, each_master, each_none, each_speaking, each_tablet, first_place, nothing_kept, nothing_sent, one_stands, only_one, post_elsewhere}
 use Rattle.rk_laws_parts.proofs.SmallWorldHistory.{truth_is, small_live, small_legal}
 
@@ -61,7 +63,7 @@ known_one = inl (record {
 })
 
 -- the put has one record, and the truth and the completions tell its end
-pub small_calls : Calls no_base small_map small_truths small_rests (kept_in small_world) (lives small_world) [] small_journal small_wire
+pub small_calls : Calls no_base small_map small_truths small_rests (tablet_in small_world) (lives small_world) [] small_journal small_wire
 small_calls = record {
   once = λ i j a b first second same. first_place small_placed a i first ∙ sym (first_place small_placed b j second);
   reached = all_one (λ row. TellAll row.range small_journal (small_truths row)) small_row
@@ -69,7 +71,7 @@ small_calls = record {
   recorded = all_one (λ row. All (IsKnown no_base small_journal) (told (small_truths row))) small_row
       (subst (λ (truth : List Entry). All (IsKnown no_base small_journal) (told truth)) (sym truth_is)
       (all_one (IsKnown no_base small_journal) small_end known_one));
-  kept = λ q. each_speaking (λ row m. ReachAll row.range small_journal (ends_of (tablet_at m row.tablet).completions)) reached_one q;
+  answering = λ q. each_speaking (λ row m. ReachAll row.range small_journal (ends_of (tablet_at m row.tablet).completions)) reached_one q;
   handed_on = nothing_kept (λ row h. ReachAll row.range small_journal h.ends);
   sent = nothing_sent (λ row h. ReachAll row.range small_journal h.ends);
   known = λ q r live. each_tablet
@@ -79,50 +81,50 @@ small_calls = record {
 }
 
 -- nothing stands behind the truth
-rest_one : IsRest no_base small_range (small_truths small_row) (small_rests small_row) small_journal (asked_by small_desk)
+rest_one : IsRest no_base small_range (small_truths small_row) (small_rests small_row) small_journal (asked_by small_ledger)
 rest_one =
-    subst (λ (truth : List Entry). IsRest no_base small_range truth [] small_journal (asked_by small_desk)) (sym truth_is)
+    subst (λ (truth : List Entry). IsRest no_base small_range truth [] small_journal (asked_by small_ledger)) (sym truth_is)
     (record { legal = small_legal; live = small_live; staged = All-nil _; one = λ i j d before within. absurd (omega (arith, within)) })
 
--- a master in an idle role has nothing of the tablet that is not committed
+-- a master in an idle role has nothing of the tablet that is not applied
 abbrev IsIdle : ℕ → Master → Row → Type 0
 IsIdle n m row =
     StillCounts (lives small_world n) (tablet_at m row.tablet).handover.term row.term
     → is_idle (tablet_at m row.tablet).handover.role ≡ true
-    → list_any (touches row.range) (drop m.committed m.log.entries) ≡ false
+    → list_any (touches row.range) (drop m.applied m.log.entries) ≡ false
 
 -- so it is for each master
-nothing_touched : (q : ℕ) → All (λ row. StillCounts (lives small_world q) (kept_in small_world q row.tablet).handover.term row.term → is_idle (kept_in small_world q row.tablet).handover.role ≡ true → list_any (touches row.range) (drop (written_in small_world q).committed (written_in small_world q).entries) ≡ false) small_map
+nothing_touched : (q : ℕ) → All (λ row. StillCounts (lives small_world q) (tablet_in small_world q row.tablet).handover.term row.term → is_idle (tablet_in small_world q row.tablet).handover.role ≡ true → list_any (touches row.range) (drop (written_in small_world q).applied (written_in small_world q).entries) ≡ false) small_map
 nothing_touched =
     each_master (λ n m. All (IsIdle n m) small_map) (all_one (IsIdle 1 small_master) small_row (λ counts idle. refl))
     (λ n apart. all_one (IsIdle n (new_master n [])) small_row (λ counts idle. refl))
 
 -- no call waits
-nothing_waits : (q : ℕ) → EachIn (λ place call. Waits small_map (kept_in small_world q) (written_in small_world q) q place call) (calls_in small_world q)
+nothing_waits : (q : ℕ) → EachIn (λ place call. Waits small_map (tablet_in small_world q) (written_in small_world q) q place call) (calls_in small_world q)
 nothing_waits =
     each_master (λ n m. EachIn (λ place call. Waits small_map (tablet_at m) (written_by m []) n place call) m.calls)
     (each_none (λ place call. Waits small_map (tablet_at small_master) (written_by small_master []) 1 place call))
     (λ n apart. each_none (λ place call. Waits small_map (tablet_at (new_master n [])) (written_by (new_master n []) []) n place call))
 
 -- and so none that was not asked
-none_unasked : (q : ℕ) → EachIn (λ place call. IsLast (asked_by small_desk call.client) call) (calls_in small_world q)
+none_unasked : (q : ℕ) → EachIn (λ place call. IsLast (asked_by small_ledger call.client) call) (calls_in small_world q)
 none_unasked =
-    each_master (λ n m. EachIn (λ place call. IsLast (asked_by small_desk call.client) call) m.calls)
-    (each_none (λ place call. IsLast (asked_by small_desk call.client) call))
-    (λ n apart. each_none (λ place call. IsLast (asked_by small_desk call.client) call))
+    each_master (λ n m. EachIn (λ place call. IsLast (asked_by small_ledger call.client) call) m.calls)
+    (each_none (λ place call. IsLast (asked_by small_ledger call.client) call))
+    (λ n apart. each_none (λ place call. IsLast (asked_by small_ledger call.client) call))
 
--- and no entry stands behind what is committed
+-- and no entry stands behind what is applied
 nothing_behind : (q : ℕ) → EachHasCall (calls_in small_world q) (written_in small_world q)
 nothing_behind q place entry =
     each_master
-    (λ n m. m.committed ≤ place → slice_get m.log.entries place ≡ Some entry → is_call_entry entry ≡ true → is_marked [] place ≡ false → HasCall m.calls place entry)
+    (λ n m. m.applied ≤ place → slice_get m.log.entries place ≡ Some entry → is_call_entry entry ≡ true → is_marked [] place ≡ false → HasCall m.calls place entry)
     (λ behind stands call unmarked. absurd (omega (arith, behind, first_place small_entry entry place stands)))
     (λ n apart behind stands call unmarked. absurd (cc)) q
 
 -- the rest of the row is empty, and goes on lawfully
-pub small_rest : Rest no_base small_map small_truths small_rests (written_in small_world) (kept_in small_world) (calls_in small_world) (lives small_world) small_journal (asked_by small_desk)
+pub small_rest : Rest no_base small_map small_truths small_rests (written_in small_world) (tablet_in small_world) (calls_in small_world) (lives small_world) small_journal (asked_by small_ledger)
 small_rest = record {
-  goes_on = all_one (λ row. IsRest no_base row.range (small_truths row) (small_rests row) small_journal (asked_by small_desk)) small_row rest_one;
+  goes_on = all_one (λ row. IsRest no_base row.range (small_truths row) (small_rests row) small_journal (asked_by small_ledger)) small_row rest_one;
   done = all_one (λ row. FirstIsDone (written_in small_world) row.range (lineage_of row.phase)) small_row tt;
   unnamed = all_one (λ row. OnlyIsUnnamed (written_in small_world) row.range (lineage_of row.phase)) small_row refl;
   idle = nothing_touched;
@@ -146,12 +148,12 @@ table_one item here = (
   λ found. subst (Contains (small_item ∷ [])) (newest_one item found) (one_stands small_item),
 )
 
--- what is committed at the owner is the put alone
+-- what is applied at the owner is the put alone
 member_is : member_truth (written_in small_world) small_range (member 1 0) ≡ small_entry ∷ []
 unfolding hash_of
 member_is = refl
 
--- so the table has what is committed there
+-- so the table has what is applied there
 items_one : HasItems small_row (written_in small_world) (small_item ∷ [])
 items_one = subst (λ (truth : List Entry). IsTableOf small_range truth (small_item ∷ [])) (sym member_is) table_one
 
@@ -159,7 +161,7 @@ items_one = subst (λ (truth : List Entry). IsTableOf small_range truth (small_i
 abbrev IsFull : ℕ → Master → Row → Type 0
 IsFull n m row =
     has_all_items (post_of row.phase n) (tablet_at m row.tablet).handover row.term ≡ true
-    → HasItems row (written_in small_world) m.table
+    → HasItems row (written_in small_world) m.records
 
 -- and another master need not have them
 nothing_full : (n : ℕ) → (n ≡ 1 → ⊥) → has_all_items (post_of small_row.phase n) no_tablet.handover 1 ≡ true → ⊥
@@ -179,9 +181,9 @@ unfolding IsStrictlySortedBy
 order_none = tt
 
 -- the tables are in order, and the owner's has all items
-pub small_tables : Tables small_map (written_in small_world) (kept_in small_world) (table_in small_world) (lives small_world)
+pub small_tables : Tables small_map (written_in small_world) (tablet_in small_world) (records_in small_world) (lives small_world)
 small_tables = record {
-  ordered = each_master (λ n m. IsInScanOrder m.table) (order_one small_item) (λ n apart. order_none);
+  ordered = each_master (λ n m. IsInScanOrder m.records) (order_one small_item) (λ n apart. order_none);
   items = λ q live. each_master (λ n m. All (IsFull n m) small_map)
       (all_one (IsFull 1 small_master) small_row (λ all. items_one))
       (λ n apart. all_one (IsFull n (new_master n [])) small_row (λ all. absurd (nothing_full n apart all))) q;

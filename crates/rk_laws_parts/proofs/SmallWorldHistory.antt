@@ -2,26 +2,26 @@
 use Rattle.std.proofs.Common.{◌≡◌, ◌≤◌, ◌<◌, Bool, true, false, cond, eqb, ◌&&◌, List, [], ◌∷◌, ◌++◌, Some, None, refl, sym, subst, ◌∙◌, arith}
 use Rattle.std.specs.Str.{bytes_eq}
 use Rattle.rk_types.specs.Hashing.{hash_of}
-use Rattle.rk_entry.specs.declared.entry.Entry.{Entry}
 use Rattle.rk_model.proofs.Keys.{name-swap}
 use Rattle.rk_model.specs.History.{record_of as entry_record, IsLegal, live_after, map_after, empty_map}
 use Rattle.rk_model.specs.Machine.{live as live_entry, never, last_version}
+use Rattle.rk_entry.specs.declared.entry.Entry.{Entry}
+use Rattle.rk_table.specs.Items.{is_in}
 use Rattle.rk_overlay.specs.Live.{record_of as item_record, live as live_items}
 use Rattle.rk_overlay.specs.Plain.{IsPlain}
-use Rattle.rk_world.specs.Base.{no_base, base_map}
-use Rattle.rk_world.specs.Desk.{asked_by}
+use Rattle.rk_world.specs.Ranges.{AgreeIn}
 use Rattle.rk_world.specs.Ends.{items_of}
-use Rattle.rk_world.specs.Gather.{floor_of}
 use Rattle.rk_world.specs.Material.{of_key}
-use Rattle.rk_world.specs.Owed.{AgreeIn}
-use Rattle.rk_table.specs.Items.{is_in}
-use Rattle.rk_world.specs.World.{kept_in, written_in, lives}
-use Rattle.rk_world.specs.Written.{written_by}
+use Rattle.rk_world.specs.Base.{no_base, base_map}
+use Rattle.rk_world.specs.Merge.{floor_of}
 use Rattle.rk_world.specs.Master.{tablet_at}
-use Rattle.rk_world.specs.Sound.Counters.{Counters, IsNext, AreAboveMap, IsFloor}
-use Rattle.rk_world.specs.Sound.Order.{Order, AreAbove}
+use Rattle.rk_world.specs.Ledger.{asked_by}
+use Rattle.rk_world.specs.Written.{written_by}
+use Rattle.rk_world.specs.World.{tablet_in, written_in, lives}
 use Rattle.rk_world.specs.Sound.Truth.{Truth, IsTruth, IsAfterSeen}
-use Rattle.rk_laws_parts.proofs.SmallWorld.{small_world, small_desk, small_entry, small_item, small_key, small_placed, small_range, small_row, small_map, small_journal, small_truths, small_rests, small_value, small_wire}
+use Rattle.rk_world.specs.Sound.Order.{Order, AreAbove}
+use Rattle.rk_world.specs.Sound.Counters.{Counters, IsNext, AreAboveMap, IsFloor}
+use Rattle.rk_laws_parts.proofs.SmallWorld.{small_world, small_ledger, small_entry, small_item, small_key, small_placed, small_range, small_row, small_map, small_journal, small_truths, small_rests, small_value, small_wire}
 use Rattle.rk_laws_parts.proofs.SmallWorldLooks.{each_speaking, nothing_kept, nothing_sent, all_one, only_one}
 
 -- the truth of the row is the put alone
@@ -55,11 +55,11 @@ truth_one =
     (record { plain = small_plain; live = small_live })
 
 -- the journal is lawful, and the row's truth tells it
-pub small_truth : Truth no_base small_map small_truths small_journal (asked_by small_desk)
+pub small_truth : Truth no_base small_map small_truths small_journal (asked_by small_ledger)
 small_truth = record {
   legal = small_legal;
   rising = (omega arith, tt);
-  seen = all_one (λ placed. IsAfterSeen (asked_by small_desk placed.call.client) placed) small_placed (λ same. omega arith);
+  seen = all_one (λ placed. IsAfterSeen (asked_by small_ledger placed.call.client) placed) small_placed (λ same. omega arith);
   true = all_one (λ row. IsTruth no_base row.range (small_truths row) small_journal) small_row truth_one;
 }
 
@@ -96,7 +96,7 @@ next_one = record {
 }
 
 -- the next version is above all that were given
-pub small_counters : Counters no_base small_map small_truths small_rests (written_in small_world) (kept_in small_world) (lives small_world) [] small_journal small_wire
+pub small_counters : Counters no_base small_map small_truths small_rests (written_in small_world) (tablet_in small_world) (lives small_world) [] small_journal small_wire
 small_counters = record {
   low = all_one (λ row. AreAboveMap row.range (map_after (base_map no_base) small_journal) (small_truths row)) small_row low_one;
   counted = λ q. each_speaking

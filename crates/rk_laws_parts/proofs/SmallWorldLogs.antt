@@ -2,16 +2,16 @@
 use Rattle.std.proofs.Common.{◌≡◌, ◌≢◌, ℕ, ◌≤◌, max, Bool, true, cond, List, [], ◌++◌, length, Some, None, refl, sym, ap, subst, ◌∙◌, ⊎_elim, arith, append-nil}
 use Rattle.std.specs.Prelude.{All}
 use Rattle.std.specs.Option.{option_map_or}
-use Rattle.rk_segment.specs.Segment.{NumberedBytes}
 use Rattle.std.proofs.lemmas.Bool.{cases_eq, ne_eqb, cond-true, and_from, le-leb}
 use Rattle.std.proofs.lemmas.List.Elements.{All-nil}
+use Rattle.rk_outside.specs.Segments.{bytes_of as stored_bytes}
+use Rattle.rk_segment.specs.Segment.{NumberedBytes}
+use Rattle.rk_log.proofs.KnownLaws.{told_length, told_other}
 use Rattle.rk_log.specs.Known.{known_length, nothing}
 use Rattle.rk_log.specs.Log.{new_log, bytes_of, committed, known_of, is_side_stored}
-use Rattle.rk_log.proofs.KnownLaws.{told_length, told_other}
-use Rattle.rk_outside.specs.Segments.{bytes_of as stored_bytes}
 use Rattle.rk_world.specs.Master.{new_master}
-use Rattle.rk_world.specs.World.{backup_at, log_in, written_in}
 use Rattle.rk_world.specs.Written.{written_by}
+use Rattle.rk_world.specs.World.{backup_at, log_in, written_in}
 use Rattle.rk_world.specs.Sound.Logs.{Logs, IsLog, IsCopy, IsFirstPart, IsKnownBefore, IsFromLog, LogSays, segments_in, stored_of}
 use Rattle.rk_laws_parts.proofs.SmallWorld.{small_world, small_bytes, small_entry, small_known, small_log, small_master, small_piece, small_stored, small_wire}
 use Rattle.rk_laws_parts.proofs.SmallWorldLooks.{each_master, each_message, all_one}
@@ -27,7 +27,7 @@ known_here =
 known_elsewhere : (segment : ℕ) → (segment ≡ 1 → ⊥) → known_length small_known segment ≡ 0
 known_elsewhere segment apart = told_other nothing 1 (length small_bytes) segment apart
 
--- so its entry counts as committed
+-- so its entry counts as applied
 pub committed_here : committed small_log ≡ 1
 committed_here =
     cond-true _ 1 0 (and_from _ true (le-leb _ _ (omega (arith, known_here))) refl)
@@ -116,7 +116,7 @@ piece_one = record {
 -- each log has its copies, and the Append and the Stored tell of them
 pub small_logs : Logs (log_in small_world) (written_in small_world) (backup_at small_world) small_wire
 small_logs = record {
-  kept = λ q. each_master (λ n m. IsLog m.log (written_by m []) (stored_of (backup_at small_world) n)) log_one
+  each = λ q. each_master (λ n m. IsLog m.log (written_by m []) (stored_of (backup_at small_world) n)) log_one
       (λ n apart. log_none n (stored_of (backup_at small_world) n)) q;
   sent = each_message (λ n m. LogSays (log_in small_world) (backup_at small_world) m.from m.to m.body) tt piece_one (omega arith) tt;
 }

@@ -4,35 +4,36 @@ use Rattle.std.specs.Prelude.{All, IfSome, Contains, slice_get, unwrap_or}
 use Rattle.std.specs.Cmp.{unsigned_tied}
 use Rattle.std.proofs.lemmas.Bool.{cases_eq, eq-eqb, ne_eqb, cond-true, cond-false}
 use Rattle.std.proofs.lemmas.List.Elements.{All-nil, All-cons, All-contains}
-use Rattle.rk_message.specs.declared.message.Message.{Message}
+use Rattle.rk_types.proofs.NumberMaps.{each_insert}
+use Rattle.rk_types.specs.NumberMap.{EachIn, get}
 use Rattle.rk_outside.specs.Segments.{Segments}
 use Rattle.rk_tablet_map.specs.declared.row.Row.{Row}
-use Rattle.rk_world.specs.Backup.{no_segments}
-use Rattle.rk_world.specs.Desk.{LastCall, asked_by}
-use Rattle.rk_world.specs.Master.{Master, new_master, tablet_at}
-use Rattle.rk_world.specs.Tables.{EachIn, look_up}
+use Rattle.rk_message.specs.Wire.{silent}
+use Rattle.rk_message.specs.declared.message.Message.{Message}
 use Rattle.rk_world.specs.Tablet.{Tablet, no_tablet}
-use Rattle.rk_world.specs.World.{master_at, backup_at, kept_in, lives}
+use Rattle.rk_world.specs.Master.{Master, new_master, tablet_at}
 use Rattle.rk_world.specs.Coordinator.{Handed}
-use Rattle.rk_world.specs.Sound.Handing.{handed_by, kept_handed}
-use Rattle.rk_world.specs.Sound.Posts.{Post, Owner, Apart, post_of, speaks, StillCounts}
-use Rattle.rk_laws_parts.proofs.Found.{each_with}
-use Rattle.rk_laws_parts.proofs.SmallWorld.{small_world, small_master, small_tablet, small_stored, small_last, small_wire, small_request, small_append, small_told, small_reply, small_desk, small_row, small_map}
+use Rattle.rk_world.specs.Backup.{no_segments}
+use Rattle.rk_world.specs.Ledger.{LastCall, asked_by}
+use Rattle.rk_world.specs.World.{master_at, backup_at, tablet_in, lives}
+use Rattle.rk_world.specs.Sound.Posts.{Post, Owner, Bystander, post_of, speaks, StillCounts}
+use Rattle.rk_world.specs.Sound.Handing.{handed_by, handed_for_grant}
+use Rattle.rk_laws_parts.proofs.SmallWorld.{small_world, small_master, small_tablet, small_stored, small_last, small_wire, small_request, small_append, small_told, small_reply, small_ledger, small_row, small_map}
 
 -- what is found in a table of one thing
-found_one : {X : Type 0} (number : ℕ) (thing : X) (q : ℕ) → look_up ((number, thing) ∷ []) q ≡ cond (eqb q number) (Some thing) None
+found_one : {X : Type 0} (number : ℕ) (thing : X) (q : ℕ) → get ((number, thing) ∷ []) q ≡ cond (eqb q number) (Some thing) None
 found_one number thing q = ap (λ (b : Bool). cond b (Some thing) None) (unsigned_tied q number)
 
 -- what holds of the one thing, and of nothing under each other number, holds of what is found
-each_found : {X : Type 0} (P : ℕ → Option X → Type 0) (number : ℕ) (thing : X) → P number (Some thing) → ((q : ℕ) → (q ≡ number → ⊥) → P q None) → (q : ℕ) → P q (look_up ((number, thing) ∷ []) q)
+each_found : {X : Type 0} (P : ℕ → Option X → Type 0) (number : ℕ) (thing : X) → P number (Some thing) → ((q : ℕ) → (q ≡ number → ⊥) → P q None) → (q : ℕ) → P q (get ((number, thing) ∷ []) q)
 each_found {X} P number thing here others q =
     ⊎_elim
     (λ (is : q ≡ number).
-    let e : look_up ((number, thing) ∷ []) q ≡ Some thing =
+    let e : get ((number, thing) ∷ []) q ≡ Some thing =
     found_one number thing q ∙ cond-true (eqb q number) (Some thing) None (eq-eqb q number is)
     in subst (P q) (sym e) (subst (λ (n : ℕ). P n (Some thing)) (sym is) here))
     (λ (apart : q ≡ number → ⊥).
-    let e : look_up ((number, thing) ∷ []) q ≡ None =
+    let e : get ((number, thing) ∷ []) q ≡ None =
     found_one number thing q ∙ cond-false (eqb q number) (Some thing) None (ne_eqb q number apart)
     in subst (P q) (sym e) (others q apart))
     (cases_eq q number)
@@ -42,7 +43,7 @@ pub each_master : (P : ℕ → Master → Type 0) → P 1 small_master → ((q :
 each_master P here others q = each_found (λ n o. P n (unwrap_or o (new_master n []))) 1 small_master here others q
 
 -- what holds of the tablet at the master, and of no tablet everywhere else, holds of each
-pub each_tablet : (P : ℕ → ℕ → Tablet → Type 0) → P 1 1 small_tablet → ((q r : ℕ) → (q ≡ 1 → r ≡ 1 → ⊥) → P q r no_tablet) → (q r : ℕ) → P q r (kept_in small_world q r)
+pub each_tablet : (P : ℕ → ℕ → Tablet → Type 0) → P 1 1 small_tablet → ((q r : ℕ) → (q ≡ 1 → r ≡ 1 → ⊥) → P q r no_tablet) → (q r : ℕ) → P q r (tablet_in small_world q r)
 each_tablet P here others q r =
     each_master (λ n m. P n r (tablet_at m r))
     (each_found (λ t o. P 1 t (unwrap_or o no_tablet)) 1 small_tablet here (λ t apart. others 1 t (λ one. apart)) r)
@@ -54,7 +55,7 @@ pub each_backup : (P : ℕ → Segments → Type 0) → P 1 small_stored → ((q
 each_backup P here others q = each_found (λ n o. P n (unwrap_or o no_segments)) 1 small_stored here others q
 
 -- what holds of the client's call, and of no call of each other client, holds of each
-pub each_client : (P : ℕ → Option LastCall → Type 0) → P 1 (Some small_last) → ((q : ℕ) → (q ≡ 1 → ⊥) → P q None) → (q : ℕ) → P q (asked_by small_desk q)
+pub each_client : (P : ℕ → Option LastCall → Type 0) → P 1 (Some small_last) → ((q : ℕ) → (q ≡ 1 → ⊥) → P q None) → (q : ℕ) → P q (asked_by small_ledger q)
 each_client P here others q = each_found (λ n o. P n (unwrap_or o None)) 1 (Some small_last) here others q
 
 -- nothing is kept in an empty table
@@ -64,14 +65,14 @@ each_none Fits number thing e = absurd (cc)
 -- what holds of the four messages holds of each on the wire
 pub each_message : (Fits : ℕ → Message → Type 0) → Fits 1 small_request → Fits 2 small_append → Fits 3 small_told → Fits 4 small_reply → EachIn Fits small_wire
 each_message Fits first second third fourth =
-    each_with Fits ((1, small_request) ∷ (2, small_append) ∷ (3, small_told) ∷ []) 4 small_reply
-    (each_with Fits ((1, small_request) ∷ (2, small_append) ∷ []) 3 small_told
-    (each_with Fits ((1, small_request) ∷ []) 2 small_append
-    (each_with Fits [] 1 small_request (each_none Fits) first) second) third) fourth
+    each_insert Fits ((1, small_request) ∷ (2, small_append) ∷ (3, small_told) ∷ []) 4 small_reply
+    (each_insert Fits ((1, small_request) ∷ (2, small_append) ∷ []) 3 small_told
+    (each_insert Fits ((1, small_request) ∷ []) 2 small_append
+    (each_insert Fits [] 1 small_request (each_none Fits) first) second) third) fourth
 
 -- what holds of the request holds of each that is kept
-pub each_request : (Fits : ℕ → Message → Type 0) → Fits 1 small_request → EachIn Fits small_desk.requests
-each_request Fits first = each_with Fits [] 1 small_request (each_none Fits) first
+pub each_request : (Fits : ℕ → Message → Type 0) → Fits 1 small_request → EachIn Fits small_ledger.requests
+each_request Fits first = each_insert Fits [] 1 small_request (each_none Fits) first
 
 -- what holds of one thing holds of each in a list of it
 pub all_one : {X : Type 0} (P : X → Type 0) (x : X) → P x → All P (x ∷ [])
@@ -102,11 +103,11 @@ pub not_owner : (q : ℕ) → (q ≡ 1 → ⊥) → eqb 1 q ≡ false
 not_owner q apart = ne_eqb 1 q (λ e. apart (sym e))
 
 -- so it has nothing to do with the tablet
-pub post_elsewhere : (q : ℕ) → (q ≡ 1 → ⊥) → post_of small_row.phase q ≡ Apart
-post_elsewhere q apart = cond-false (eqb 1 q) (Owner 0) Apart (not_owner q apart)
+pub post_elsewhere : (q : ℕ) → (q ≡ 1 → ⊥) → post_of small_row.phase q ≡ Bystander
+post_elsewhere q apart = cond-false (eqb 1 q) (Owner 0) Bystander (not_owner q apart)
 
 -- what holds of the master and the row holds of each master that answers calls, or will, while that counts
-pub each_speaking : (P : Row → Master → Type 0) → P small_row small_master → (q : ℕ) → All (λ row. StillCounts (lives small_world q) (kept_in small_world q row.tablet).handover.term row.term → speaks (post_of row.phase q) (kept_in small_world q row.tablet).handover row.term ≡ true → P row (master_at small_world q)) small_map
+pub each_speaking : (P : Row → Master → Type 0) → P small_row small_master → (q : ℕ) → All (λ row. StillCounts (lives small_world q) (tablet_in small_world q row.tablet).handover.term row.term → speaks (post_of row.phase q) (tablet_in small_world q row.tablet).handover row.term ≡ true → P row (master_at small_world q)) small_map
 each_speaking P here q =
     each_master
     (λ n m. All (λ row. StillCounts (lives small_world q) (tablet_at m row.tablet).handover.term row.term → speaks (post_of row.phase n) (tablet_at m row.tablet).handover row.term ≡ true → P row m) small_map)
@@ -125,9 +126,9 @@ each_speaking P here q =
         in let f : true ≡ false = sym says ∙ e in absurd (cc)
 
 -- nothing that was handed over is kept
-pub nothing_kept : (F : Row → Handed → Type 0) → All (λ row. IfSome (kept_handed row (kept_in small_world) []) (F row)) small_map
-nothing_kept F = all_one (λ row. IfSome (kept_handed row (kept_in small_world) []) (F row)) small_row tt
+pub nothing_kept : (F : Row → Handed → Type 0) → All (λ row. IfSome (handed_for_grant row (tablet_in small_world) []) (F row)) small_map
+nothing_kept F = all_one (λ row. IfSome (handed_for_grant row (tablet_in small_world) []) (F row)) small_row tt
 
 -- and no message hands anything over
-pub nothing_sent : (F : Row → Handed → Type 0) → EachIn (λ number message. All (λ row. IfSome (handed_by row (kept_in small_world) message.body) (F row)) small_map) small_wire
-nothing_sent F = each_sent (λ row message. IfSome (handed_by row (kept_in small_world) message.body) (F row)) tt tt tt tt
+pub nothing_sent : (F : Row → Handed → Type 0) → EachIn (λ number message. All (λ row. IfSome (handed_by row (tablet_in small_world) message.body) (F row)) small_map) small_wire
+nothing_sent F = each_sent (λ row message. IfSome (handed_by row (tablet_in small_world) message.body) (F row)) tt tt tt tt

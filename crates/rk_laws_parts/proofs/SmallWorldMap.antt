@@ -1,24 +1,26 @@
 -- The small world keeps the parts Nodes, Rows, Terms, Cover and Roles.
-use Rattle.std.proofs.Common.{◌≡◌, ℕ, ◌≤◌, Bool, true, false, eqb, ◌||◌, [], length, None, refl, sym, ap, subst, ◌∙◌, arith}
+use Rattle.std.proofs.Common.{[], ◌≡◌, ℕ, ◌≤◌, Bool, true, false, eqb, ◌||◌, length, None, refl, sym, ap, subst, ◌∙◌, arith}
 use Rattle.std.specs.Prelude.{All, IfSome, is_some}
 use Rattle.std.specs.List.{flat_map}
 use Rattle.std.proofs.lemmas.Bool.{eqb-true}
 use Rattle.std.proofs.lemmas.List.Elements.{All-nil}
 use Rattle.rk_types.specs.Hashing.{hash_of}
-use Rattle.rk_message.specs.declared.message.Body.{Body}
-use Rattle.rk_tablet_map.specs.Rows.{row_of, is_covered}
 use Rattle.rk_transfer.specs.declared.role.Role.TheVariants as roles
-use Rattle.rk_world.specs.Coordinator.{names, is_member}
-use Rattle.rk_world.specs.Master.{tablet_at}
-use Rattle.rk_world.specs.Tablet.{is_absent, no_tablet}
-use Rattle.rk_world.specs.World.{master_at, kept_in, table_in, written_in, lives}
 use Rattle.rk_tablet_map.specs.Phase.{member, lineage_of}
-use Rattle.rk_world.specs.Sound.Cover.{Cover, IsWithinRows, IsItemWithin, IsEntryWithin, IsOfWholeRows}
+use Rattle.rk_tablet_map.specs.Rows.{row_of, is_covered}
+use Rattle.rk_message.specs.declared.message.Body.{Body}
+use Rattle.rk_world.specs.Lineage.{is_member}
+use Rattle.rk_world.specs.Tablet.{no_tablet}
+use Rattle.rk_world.specs.RoleTests.{is_absent}
+use Rattle.rk_world.specs.Master.{tablet_at}
+use Rattle.rk_world.specs.Notices.{names}
+use Rattle.rk_world.specs.World.{master_at, tablet_in, records_in, written_in, lives}
 use Rattle.rk_world.specs.Sound.Nodes.{Nodes, IsMaster}
+use Rattle.rk_world.specs.Sound.Rows.{Rows, IsFormed, IsPlaced}
+use Rattle.rk_world.specs.Sound.Terms.{Terms, HandoverFits, SentFits, IsWithinTerm, IsBelowOthers, tenure_in, range_in}
+use Rattle.rk_world.specs.Sound.Cover.{Cover, IsWithinRows, IsItemWithin, IsEntryWithin, IsOfWholeRows}
 use Rattle.rk_world.specs.Sound.Posts.{Post, Holds, bond_of, StillCounts}
 use Rattle.rk_world.specs.Sound.Roles.{Roles, RoleFits, KeepTerm}
-use Rattle.rk_world.specs.Sound.Rows.{Rows, IsFormed, IsPlaced}
-use Rattle.rk_world.specs.Sound.Terms.{Terms, KeptFits, SentFits, IsWithinTerm, IsBelowOthers, tenure_in, range_in}
 use Rattle.rk_laws_parts.proofs.SmallWorld.{small_world, small_entry, small_item, small_key, small_master, small_range, small_tablet, small_row, small_map, small_journal, small_placed, small_wire, small_request, small_append, small_told, small_reply}
 use Rattle.rk_laws_parts.proofs.SmallWorldLooks.{each_master, each_message, each_tablet, each_sent, all_one, not_owner, post_elsewhere}
 
@@ -57,18 +59,18 @@ small_rows = record {
 }
 
 -- a tablet that is not absent is the one of the master
-pub present_one : (q r : ℕ) → is_absent (kept_in small_world q r).handover.role ≡ false → (q ≡ 1) × (r ≡ 1)
+pub present_one : (q r : ℕ) → is_absent (tablet_in small_world q r).handover.role ≡ false → (q ≡ 1) × (r ≡ 1)
 present_one q r there =
     each_tablet (λ n t tablet. is_absent tablet.handover.role ≡ false → (n ≡ 1) × (t ≡ 1))
     (λ h. (refl, refl)) (λ n t apart h. absurd (cc)) q r there
 
 -- what the master keeps of the tablet is at the row's term, with its range
-kept_here : KeptFits small_row 1 small_tablet.handover
-kept_here = record { within = λ same. omega arith; below = λ apart meet. absurd (apart refl); exact = λ same term. refl }
+handover_here : HandoverFits small_row 1 small_tablet.handover
+handover_here = record { within = λ same. omega arith; below = λ apart meet. absurd (apart refl); exact = λ same term. refl }
 
 -- what nobody keeps is at term 0
-kept_nowhere : (r : ℕ) → KeptFits small_row r no_tablet.handover
-kept_nowhere r = record {
+handover_nowhere : (r : ℕ) → HandoverFits small_row r no_tablet.handover
+handover_nowhere r = record {
   within = λ same. omega arith;
   below = λ apart meet. omega arith;
   exact = λ same term. absurd (omega (arith, term));
@@ -85,11 +87,11 @@ no_tenure body none = record {
 }
 
 -- no term is ahead of the row, and no two tablets meet
-pub small_terms : Terms small_map (kept_in small_world) small_wire
+pub small_terms : Terms small_map (tablet_in small_world) small_wire
 small_terms = record {
-  kept = each_tablet (λ q r tablet. All (λ row. KeptFits row r tablet.handover) small_map)
-      (all_one (λ row. KeptFits row 1 small_tablet.handover) small_row kept_here)
-      (λ q r apart. all_one (λ row. KeptFits row r no_tablet.handover) small_row (kept_nowhere r));
+  handovers = each_tablet (λ q r tablet. All (λ row. HandoverFits row r tablet.handover) small_map)
+      (all_one (λ row. HandoverFits row 1 small_tablet.handover) small_row handover_here)
+      (λ q r apart. all_one (λ row. HandoverFits row r no_tablet.handover) small_row (handover_nowhere r));
   apart = λ q a b apart first second. absurd (apart ((present_one q a first).1 ∙ sym (present_one q b second).1));
   sent = each_sent (λ row message. SentFits row message.body)
       (no_tenure small_request.body refl) (no_tenure small_append.body refl)
@@ -101,7 +103,7 @@ within_one : IsWithinRows small_map small_range
 within_one hash here = ap (λ (b : Bool). b || false) here
 
 -- the tablet has a row, and nothing is spoken of that lies in none
-pub small_cover : Cover small_map (written_in small_world) (kept_in small_world) (table_in small_world) small_wire
+pub small_cover : Cover small_map (written_in small_world) (tablet_in small_world) (records_in small_world) small_wire
 small_cover = record {
   unknown = each_tablet (λ q r tablet. row_of small_map r ≡ None → tablet.handover.term ≡ 0) (λ none. absurd (cc)) (λ q r apart none. refl);
   marks = λ q. All-nil _;
@@ -112,7 +114,7 @@ small_cover = record {
   entries = each_master (λ q m. All (IsEntryWithin small_map) m.log.entries)
       (all_one (IsEntryWithin small_map) small_entry covered_one) (λ q apart. All-nil _);
   sides = each_master (λ q m. All (IsItemWithin small_map) (flat_map (λ items. items) m.sides)) (All-nil _) (λ q apart. All-nil _);
-  items = each_master (λ q m. All (IsItemWithin small_map) m.table)
+  items = each_master (λ q m. All (IsItemWithin small_map) m.records)
       (all_one (IsItemWithin small_map) small_item covered_one) (λ q apart. All-nil _);
   wholes = each_master (λ q m. All (IsOfWholeRows small_map) m.log.entries)
       (all_one (IsOfWholeRows small_map) small_entry tt) (λ q apart. All-nil _);
@@ -134,16 +136,16 @@ not_member q apart there =
     let f : true ≡ false = sym there ∙ e in absurd (cc)
 
 -- the owner serves, and each other master is absent
-pub small_roles : Roles small_map (kept_in small_world) (written_in small_world) (lives small_world)
+pub small_roles : Roles small_map (tablet_in small_world) (written_in small_world) (lives small_world)
 small_roles = record {
   fitting = λ q. each_master
-      (λ n m. All (λ row. StillCounts (lives small_world q) (tablet_at m row.tablet).handover.term row.term → RoleFits row n (tablet_at m row.tablet).handover m.committed) small_map)
+      (λ n m. All (λ row. StillCounts (lives small_world q) (tablet_at m row.tablet).handover.term row.term → RoleFits row n (tablet_at m row.tablet).handover m.applied) small_map)
       (all_one (λ row. StillCounts (lives small_world q) (tablet_at small_master row.tablet).handover.term row.term → RoleFits row 1 (tablet_at small_master row.tablet).handover 1) small_row (λ counts. role_here))
       (λ n apart. all_one (λ row. StillCounts (lives small_world q) no_tablet.handover.term row.term → RoleFits row n no_tablet.handover 0) small_row (λ counts. role_elsewhere n apart)) q;
   ranged = λ q. each_master
       (λ n m. All (λ row. StillCounts (lives small_world q) (tablet_at m row.tablet).handover.term row.term → is_member (lineage_of row.phase) n ≡ true → (tablet_at m row.tablet).handover.range ≡ row.range) small_map)
       (all_one (λ row. StillCounts (lives small_world q) (tablet_at small_master row.tablet).handover.term row.term → is_member (lineage_of row.phase) 1 ≡ true → (tablet_at small_master row.tablet).handover.range ≡ row.range) small_row (λ counts there. refl))
       (λ n apart. all_one (λ row. StillCounts (lives small_world q) no_tablet.handover.term row.term → is_member (lineage_of row.phase) n ≡ true → no_tablet.handover.range ≡ row.range) small_row (λ counts there. absurd (not_member n apart there))) q;
-  at_term = all_one (λ row. KeepTerm row.phase (λ q. (kept_in small_world q row.tablet).handover.term) row.term) small_row tt;
+  at_term = all_one (λ row. KeepTerm row.phase (λ q. (tablet_in small_world q row.tablet).handover.term) row.term) small_row tt;
   known = λ q r live there. ap (λ (t : ℕ). is_some (row_of small_map t)) (present_one q r there).1;
 }

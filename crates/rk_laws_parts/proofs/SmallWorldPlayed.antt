@@ -1,7 +1,9 @@
--- The small world comes about: from a new lane a put is asked, staged, stored by the backup, committed and answered.
+-- The small world comes about: from a new lane a put is asked, staged, stored by the backup, applied and answered.
+use Rattle.std.proofs.Common.{sym, subst}
 use Rattle.std.specs.Prelude.{◌≡◌, [], ◌∷◌, Some, refl}
 use Rattle.rk_types.specs.Hashing.{hash_of}
 use Rattle.rk_types.specs.Held.{spelled_of}
+use Rattle.rk_types.specs.NumberMap.{NumberMap}
 use Rattle.rk_types.specs.declared.call.Op.TheVariants as ops
 use Rattle.rk_types.specs.declared.node.Node.TheVariants as nodes
 use Rattle.rk_entry.specs.Ends.{range_bytes, outcome_bytes, end_bytes}
@@ -10,17 +12,15 @@ use Rattle.rk_entry.specs.Lists.{ends_bytes, segments_bytes}
 use Rattle.rk_entry.specs.Numbers.{number_bytes}
 use Rattle.rk_entry.specs.Spelling.{head_bytes, held_bytes, refused_bytes, carried_bytes, joined_bytes, body_length, front_bytes, spelled, mark_of}
 use Rattle.rk_entry.specs.Texts.{key_bytes, value_bytes}
-use Rattle.rk_world.specs.Base.{no_base}
-use Rattle.rk_world.specs.Client.{Session, new_session}
 use Rattle.rk_message.specs.declared.message.Message.{Message}
-use Rattle.rk_world.specs.Tables.{Table}
-use Rattle.rk_world.specs.World.{new_world}
 use Rattle.rk_world.specs.declared.event.Event.TheVariants as events
 use Rattle.rk_world.proofs.Scene.{Scene, Does, Calls, Asks, Delivers, played}
-use Rattle.std.proofs.Common.{sym, subst}
+use Rattle.rk_world.specs.Base.{no_base}
+use Rattle.rk_world.specs.Client.{Session, new_session}
+use Rattle.rk_world.specs.World.{new_world}
 use Rattle.rk_world.specs.Sound.Whole.{IsSound}
+use Rattle.rk_laws_parts.proofs.SmallWorld.{small_world, small_range, small_key, small_value, small_request, small_append, small_told, small_reply}
 use Rattle.rk_laws_parts.proofs.SmallWorldSound.{small_is_sound}
-use Rattle.rk_laws_parts.proofs.SmallWorld.{small_world, small_desk, small_range, small_key, small_value, small_request, small_append, small_told, small_reply}
 
 -- a client that knows who owns the range
 abbrev pub knowing : Session
@@ -40,7 +40,7 @@ pub played_is_small : small_played.world ≡ small_world
 unfolding small_played hash_of spelled_of spelled_all spelled front_bytes body_length head_bytes held_bytes refused_bytes carried_bytes joined_bytes mark_of number_bytes key_bytes value_bytes range_bytes outcome_bytes end_bytes ends_bytes segments_bytes
 played_is_small = refl
 
--- so a sound world with a committed put is reached from a new one
+-- so a sound world with an applied put is reached from a new one
 pub played_is_sound : IsSound small_played.world
 played_is_sound = subst IsSound (sym played_is_small) small_is_sound
 
@@ -53,10 +53,10 @@ small_learned =
     ∷ Does (events.Deliver 5) ∷ [])
 
 -- the four messages under later numbers
-abbrev pub later_wire : Table Message
+abbrev pub later_wire : NumberMap Message
 later_wire = (3, small_request) ∷ (4, small_append) ∷ (5, small_told) ∷ (6, small_reply) ∷ []
 
 -- what comes of it is the small world but for these numbers
-pub learned_is_small : small_learned.world ≡ record small_world { desk = record small_desk { wire = later_wire; sent = 6 }; top = 6 }
+pub learned_is_small : small_learned.world ≡ record small_world { wire = record { messages = later_wire; sent = 6 }; top = 6 }
 unfolding small_learned hash_of spelled_of spelled_all spelled front_bytes body_length head_bytes held_bytes refused_bytes carried_bytes joined_bytes mark_of number_bytes key_bytes value_bytes range_bytes outcome_bytes end_bytes ends_bytes segments_bytes
 learned_is_small = refl

@@ -2,12 +2,12 @@
 use Rattle.std.proofs.Common.{◌≡◌, ◌≤◌, refl, arith}
 use Rattle.std.specs.Prelude.{All}
 use Rattle.std.specs.List.{flat_map}
-use Rattle.rk_world.specs.World.{bytes_of_logs, standing}
 use Rattle.std.proofs.lemmas.List.Elements.{All-nil, All-from_recursion}
 use Rattle.rk_entry.specs.Entries.{spelled_all}
 use Rattle.rk_entry.specs.Numbers.{number_bytes}
 use Rattle.rk_entry.specs.Spelling.{head_bytes, held_bytes, body_length, front_bytes, spelled, mark_of}
 use Rattle.rk_entry.specs.Texts.{key_bytes, value_bytes}
+use Rattle.rk_world.specs.World.{bytes_of_logs, standing}
 use Rattle.rk_world.specs.Sound.Room.{AreAtMost, numbers_of, numbers_told}
 use Rattle.rk_world.specs.Sound.Whole.{HasRoom}
 use Rattle.rk_laws_parts.proofs.SmallWorld.{small_entry, small_request, small_world}

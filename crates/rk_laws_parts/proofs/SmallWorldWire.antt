@@ -1,39 +1,39 @@
 -- The small world keeps the parts Receives, Rebuilds, Messages and Asked: nothing moves, nothing is rebuilt, and what its four
 -- messages say is so.
-use Rattle.std.proofs.Common.{◌≡◌, [], refl, sym, ◌∙◌, inl}
+use Rattle.std.proofs.Common.{[], ◌≡◌, refl, sym, ◌∙◌, inl}
 use Rattle.std.specs.Prelude.{All, IfSome}
 use Rattle.std.proofs.lemmas.List.Elements.{All-nil}
 use Rattle.rk_types.specs.Hashing.{hash_of}
 use Rattle.rk_types.specs.declared.call.Outcome.TheVariants as outcomes
 use Rattle.rk_model.specs.Merged.{lane_of_key}
 use Rattle.rk_tablet_map.specs.Phase.{lineage_of}
-use Rattle.rk_world.specs.Desk.{asked_by}
-use Rattle.rk_world.specs.World.{backup_at, kept_in, lives, log_in, table_in, written_in}
-use Rattle.rk_world.specs.Sound.Asked.{Asked, IsLastCall, IsRequest, RequestFits, RequestSays, WasAsked}
-use Rattle.rk_world.specs.Sound.Messages.{Messages, IsRecordAt, Says, SaysOf}
-use Rattle.rk_world.specs.Sound.Rebuilds.{Rebuilds, HasOwnRange, MarkFits, RowIsRebuilt}
+use Rattle.rk_world.specs.Ledger.{asked_by}
+use Rattle.rk_world.specs.World.{backup_at, tablet_in, lives, log_in, records_in, written_in}
 use Rattle.rk_world.specs.Sound.Receives.{Receives, HandedFits, IsBare, MembersFit, wanted_place}
-use Rattle.rk_laws_parts.proofs.SmallWorld.{small_answer, small_asks, small_desk, small_journal, small_key, small_map, small_placed, small_row, small_truths, small_wire, small_world}
+use Rattle.rk_world.specs.Sound.Rebuilds.{Rebuilds, HasOwnRange, MarkFits, RowIsRebuilt}
+use Rattle.rk_world.specs.Sound.Messages.{Messages, IsRecordAt, Says, SaysOf}
+use Rattle.rk_world.specs.Sound.Asked.{Asked, IsLastCall, IsRequest, RequestFits, RequestSays, WasAsked}
+use Rattle.rk_laws_parts.proofs.SmallWorld.{small_answer, small_asks, small_ledger, small_journal, small_key, small_map, small_placed, small_row, small_truths, small_wire, small_world}
 use Rattle.rk_laws_parts.proofs.SmallWorldLooks.{all_one, each_client, each_message, each_request, each_sent, each_tablet, first_place}
 
 -- nothing moves, and nobody made ready for a tablet
-pub small_receives : Receives small_map (written_in small_world) (kept_in small_world) (table_in small_world) []
+pub small_receives : Receives small_map (written_in small_world) (tablet_in small_world) (records_in small_world) []
 small_receives = record {
-  targets = all_one (λ row. MembersFit row (written_in small_world) (kept_in small_world) (table_in small_world) [] (lineage_of row.phase)) small_row tt;
-  handed_on = all_one (λ row. HandedFits row (kept_in small_world) [] (lineage_of row.phase)) small_row tt;
+  targets = all_one (λ row. MembersFit row (written_in small_world) (tablet_in small_world) (records_in small_world) [] (lineage_of row.phase)) small_row tt;
+  handed_on = all_one (λ row. HandedFits row (tablet_in small_world) [] (lineage_of row.phase)) small_row tt;
   bare = λ q r. each_tablet
-      (λ n t tablet. IfSome (wanted_place tablet.handover.role) (λ from. IsBare tablet.handover.range from (written_in small_world q) (table_in small_world q)))
+      (λ n t tablet. IfSome (wanted_place tablet.handover.role) (λ from. IsBare tablet.handover.range from (written_in small_world q) (records_in small_world q)))
       tt (λ n t apart. tt) q r;
 }
 
 -- nothing is rebuilt, and nothing is marked
-pub small_rebuilds : Rebuilds small_map small_truths (log_in small_world) (written_in small_world) (backup_at small_world) (kept_in small_world) (table_in small_world) (lives small_world)
+pub small_rebuilds : Rebuilds small_map small_truths (log_in small_world) (written_in small_world) (backup_at small_world) (tablet_in small_world) (records_in small_world) (lives small_world)
 small_rebuilds = record {
   rebuilt = all_one
-      (λ row. RowIsRebuilt row row.phase (small_truths row) (log_in small_world) (written_in small_world) (backup_at small_world) (kept_in small_world) (table_in small_world) (lives small_world))
+      (λ row. RowIsRebuilt row row.phase (small_truths row) (log_in small_world) (written_in small_world) (backup_at small_world) (tablet_in small_world) (records_in small_world) (lives small_world))
       small_row tt;
   marks = λ q. all_one
-      (λ row. All (λ mark. mark.tablet ≡ row.tablet → MarkFits row q (kept_in small_world q row.tablet) (lives small_world q) mark) (written_in small_world q).marks)
+      (λ row. All (λ mark. mark.tablet ≡ row.tablet → MarkFits row q (tablet_in small_world q row.tablet) (lives small_world q) mark) (written_in small_world q).marks)
       small_row (All-nil _);
   pieces = λ q. all_one
       (λ row. All (λ mark. mark.tablet ≡ row.tablet → HasOwnRange row.range (written_in small_world q).entries mark) (written_in small_world q).marks)
@@ -52,10 +52,10 @@ reply_one = record {
 }
 
 -- no message speaks of the row, and the reply is that of the record
-pub small_messages : Messages small_map (log_in small_world) (written_in small_world) (backup_at small_world) (kept_in small_world) (lives small_world) [] small_journal small_wire
+pub small_messages : Messages small_map (log_in small_world) (written_in small_world) (backup_at small_world) (tablet_in small_world) (lives small_world) [] small_journal small_wire
 small_messages = record {
   of_rows = each_sent
-      (λ row message. SaysOf row (log_in small_world) (written_in small_world) (backup_at small_world) (kept_in small_world) (lives small_world) [] message.from message.to message.body)
+      (λ row message. SaysOf row (log_in small_world) (written_in small_world) (backup_at small_world) (tablet_in small_world) (lives small_world) [] message.from message.to message.body)
       tt tt tt tt;
   others = each_message (λ number message. Says small_journal message.to message.body) tt tt tt reply_one;
 }
@@ -66,16 +66,16 @@ unfolding hash_of
 lane_one = refl
 
 -- the request is that of the last call
-request_one : RequestFits (asked_by small_desk) small_journal 1 small_asks
+request_one : RequestFits (asked_by small_ledger) small_journal 1 small_asks
 request_one = record { was_asked = inl refl; seen = λ same. refl }
 
 -- the put is the last call of its client, and the request asks it
-pub small_asked : Asked 4 (asked_by small_desk) small_desk.requests small_journal small_wire
+pub small_asked : Asked 4 (asked_by small_ledger) small_ledger.requests small_journal small_wire
 small_asked = record {
   last = each_client (λ client last. IfSome last (IsLastCall 4 client)) (record { own = refl; here = lane_one }) (λ client apart. tt);
   own_keys = all_one (λ placed. lane_of_key placed.call.key ≡ 4) small_placed lane_one;
-  recorded = all_one (λ placed. WasAsked (asked_by small_desk placed.call.client) small_journal placed.call) small_placed (inl refl);
+  recorded = all_one (λ placed. WasAsked (asked_by small_ledger placed.call.client) small_journal placed.call) small_placed (inl refl);
   once = λ i j a b first second same. first_place small_placed a i first ∙ sym (first_place small_placed b j second);
-  sent = each_message (λ number message. RequestSays (asked_by small_desk) small_journal message.from message.body) request_one tt tt tt;
-  again = each_request (λ client message. IsRequest (asked_by small_desk) small_journal client message.from message.body) (refl, request_one);
+  sent = each_message (λ number message. RequestSays (asked_by small_ledger) small_journal message.from message.body) request_one tt tt tt;
+  again = each_request (λ client message. IsRequest (asked_by small_ledger) small_journal client message.from message.body) (refl, request_one);
 }

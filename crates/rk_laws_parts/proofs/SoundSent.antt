@@ -2,33 +2,33 @@
 use Rattle.std.proofs.Common.{◌+◌}
 use Rattle.rk_message.specs.declared.message.Message.{Message}
 use Rattle.rk_world.specs.World.{World}
-use Rattle.rk_world.specs.Sound.Small.{message_sent, MaySend}
 use Rattle.rk_world.specs.Sound.Whole.{IsSound}
-use Rattle.rk_laws_parts.proofs.Asked.{asked_sent}
-use Rattle.rk_laws_parts.proofs.Calls.{calls_sent}
-use Rattle.rk_laws_parts.proofs.Counters.{counters_sent}
+use Rattle.rk_world.specs.Sound.Small.{message_sent, MaySend}
+use Rattle.rk_laws_parts.proofs.Terms.{terms_sent}
 use Rattle.rk_laws_parts.proofs.Cover.{cover_sent}
 use Rattle.rk_laws_parts.proofs.Logs.{logs_sent}
+use Rattle.rk_laws_parts.proofs.Calls.{calls_sent}
+use Rattle.rk_laws_parts.proofs.Counters.{counters_sent}
 use Rattle.rk_laws_parts.proofs.Messages.{messages_sent}
-use Rattle.rk_laws_parts.proofs.Terms.{terms_sent}
+use Rattle.rk_laws_parts.proofs.Asked.{asked_sent}
 
 pub sound_sent : (w : World) (message : Message) → IsSound w → MaySend w message → IsSound (message_sent w message)
 sound_sent w message sound may = record {
   nodes = sound.nodes;
   rows = sound.rows;
-  terms = terms_sent _ _ w.desk.wire (w.desk.sent + 1) message sound.terms may.terms;
-  cover = cover_sent _ _ _ _ w.desk.wire (w.desk.sent + 1) message sound.cover may.within_rows;
+  terms = terms_sent _ _ w.wire.messages (w.wire.sent + 1) message sound.terms may.terms;
+  cover = cover_sent _ _ _ _ w.wire.messages (w.wire.sent + 1) message sound.cover may.within_rows;
   roles = sound.roles;
-  logs = logs_sent _ _ _ w.desk.wire (w.desk.sent + 1) message sound.logs may.logs_say;
+  logs = logs_sent _ _ _ w.wire.messages (w.wire.sent + 1) message sound.logs may.logs_say;
   truth = sound.truth;
   order = sound.order;
-  calls = calls_sent _ _ _ _ _ _ _ _ w.desk.wire (w.desk.sent + 1) message sound.calls may.ends;
-  counters = counters_sent _ _ _ _ _ _ _ _ _ w.desk.wire (w.desk.sent + 1) message sound.counters may.floors;
+  calls = calls_sent _ _ _ _ _ _ _ _ w.wire.messages (w.wire.sent + 1) message sound.calls may.ends;
+  counters = counters_sent _ _ _ _ _ _ _ _ _ w.wire.messages (w.wire.sent + 1) message sound.counters may.floors;
   rest = sound.rest;
-  tables = sound.tables;
+  records = sound.records;
   receives = sound.receives;
   rebuilds = sound.rebuilds;
   messages =
-      messages_sent _ _ _ _ _ _ _ _ w.desk.wire (w.desk.sent + 1) message sound.messages may.rows_say may.others_say;
-  asked = asked_sent _ _ _ _ w.desk.wire (w.desk.sent + 1) message sound.asked may.request_says;
+      messages_sent _ _ _ _ _ _ _ _ w.wire.messages (w.wire.sent + 1) message sound.messages may.rows_say may.others_say;
+  asked = asked_sent _ _ _ _ w.wire.messages (w.wire.sent + 1) message sound.asked may.request_says;
 }

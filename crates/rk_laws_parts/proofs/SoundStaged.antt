@@ -6,37 +6,37 @@ use Rattle.rk_types.specs.declared.held.Held.{Held}
 use Rattle.rk_entry.specs.declared.entry.Entry.{Entry}
 use Rattle.rk_tablet_map.specs.Phase.{lineage_of}
 use Rattle.rk_tablet_map.specs.declared.row.Row.{Row}
-use Rattle.rk_world.specs.Desk.{asked_by}
 use Rattle.rk_world.specs.Requests.{item_of}
-use Rattle.rk_world.specs.World.{World, backup_at, lives, kept_in, written_in, log_in, table_in, calls_in}
+use Rattle.rk_world.specs.Ledger.{asked_by}
 use Rattle.rk_world.specs.Written.{truth_of, rest_of}
+use Rattle.rk_world.specs.World.{World, backup_at, lives, tablet_in, written_in, log_in, records_in, calls_in}
+use Rattle.rk_world.specs.Sound.Cover.{Cover}
+use Rattle.rk_world.specs.Sound.Truth.{Truth}
+use Rattle.rk_world.specs.Sound.Order.{Order}
 use Rattle.rk_world.specs.Sound.Calls.{Calls}
 use Rattle.rk_world.specs.Sound.Counters.{Counters}
-use Rattle.rk_world.specs.Sound.Cover.{Cover}
-use Rattle.rk_world.specs.Sound.Order.{Order}
-use Rattle.rk_world.specs.Sound.Rebuilds.{Rebuilds}
-use Rattle.rk_world.specs.Sound.Receives.{Receives}
 use Rattle.rk_world.specs.Sound.Rest.{Rest, FirstIsDone}
 use Rattle.rk_world.specs.Sound.Tables.{Tables}
-use Rattle.rk_world.specs.Sound.Truth.{Truth}
-use Rattle.rk_world.specs.Sound.Small.{call_staged, MayStage}
+use Rattle.rk_world.specs.Sound.Receives.{Receives}
+use Rattle.rk_world.specs.Sound.Rebuilds.{Rebuilds}
 use Rattle.rk_world.specs.Sound.Whole.{IsSound}
-use Rattle.rk_laws_parts.proofs.Calls.{calls_staged}
+use Rattle.rk_world.specs.Sound.Small.{call_staged, MayStage}
 use Rattle.rk_laws_parts.proofs.Changing.{Stages}
-use Rattle.rk_laws_parts.proofs.Counters.{counters_staged}
-use Rattle.rk_laws_parts.proofs.Cover.{cover_staged}
-use Rattle.rk_laws_parts.proofs.Logs.{logs_staged}
-use Rattle.rk_laws_parts.proofs.Messages.{messages_staged}
+use Rattle.rk_laws_parts.proofs.WorldStaged.{lane_of, stages, truths_same, records_staged, numbers_staged, known_staged}
 use Rattle.rk_laws_parts.proofs.Nodes.{nodes_staged}
-use Rattle.rk_laws_parts.proofs.Order.{order_staged}
-use Rattle.rk_laws_parts.proofs.Rebuilds.{rebuilds_staged}
-use Rattle.rk_laws_parts.proofs.Receives.{receives_staged}
-use Rattle.rk_laws_parts.proofs.Rest.{rest_staged}
-use Rattle.rk_laws_parts.proofs.Roles.{roles_staged}
 use Rattle.rk_laws_parts.proofs.Rows.{rows_staged}
-use Rattle.rk_laws_parts.proofs.Tables.{tables_staged}
 use Rattle.rk_laws_parts.proofs.Terms.{terms_staged}
-use Rattle.rk_laws_parts.proofs.WorldStaged.{lane_of, stages, truths_same, table_staged, numbers_staged, known_staged}
+use Rattle.rk_laws_parts.proofs.Cover.{cover_staged}
+use Rattle.rk_laws_parts.proofs.Roles.{roles_staged}
+use Rattle.rk_laws_parts.proofs.Logs.{logs_staged}
+use Rattle.rk_laws_parts.proofs.Order.{order_staged}
+use Rattle.rk_laws_parts.proofs.Calls.{calls_staged}
+use Rattle.rk_laws_parts.proofs.Counters.{counters_staged}
+use Rattle.rk_laws_parts.proofs.Messages.{messages_staged}
+use Rattle.rk_laws_parts.proofs.Tables.{tables_staged}
+use Rattle.rk_laws_parts.proofs.Receives.{receives_staged}
+use Rattle.rk_laws_parts.proofs.Rebuilds.{rebuilds_staged}
+use Rattle.rk_laws_parts.proofs.Rest.{rest_staged}
 
 module _ (w : World) (master : ℕ) (call : Call) (value : Option (List ℕ)) (sound : IsSound w) (may : MayStage w master call value) where
   -- the world with the write
@@ -45,7 +45,7 @@ module _ (w : World) (master : ℕ) (call : Call) (value : Option (List ℕ)) (s
 
   -- the item that it leaves
   abbrev item : Held
-  item = item_of call (kept_in w master may.served.row.tablet).handover.counter value
+  item = item_of call (tablet_in w master may.served.row.tablet).handover.counter value
 
   staged : Stages w.coordinator.rows (lane_of w) (lane_of now) master may.served.row call item
   staged = stages w master call value sound may
@@ -54,8 +54,8 @@ module _ (w : World) (master : ℕ) (call : Call) (value : Option (List ℕ)) (s
   of_truths : (P : (Row → List Entry) → Type 0) → P (truth_of w.base (written_in w)) → P (truth_of w.base (written_in now))
   of_truths P holds = subst P (sym (truths_same w master call value sound may)) holds
 
-  of_tables : (P : (ℕ → List Held) → Type 0) → P (table_in w) → P (table_in now)
-  of_tables P holds = subst P (sym (table_staged w master may.served.row.tablet call value)) holds
+  of_tables : (P : (ℕ → List Held) → Type 0) → P (records_in w) → P (records_in now)
+  of_tables P holds = subst P (sym (records_staged w master may.served.row.tablet call value)) holds
 
   pub sound_staged : IsSound (call_staged w master may.served.row.tablet call value)
   sound_staged = record {
@@ -66,8 +66,8 @@ module _ (w : World) (master : ℕ) (call : Call) (value : Option (List ℕ)) (s
     terms =
         terms_staged _ (lane_of w) (lane_of now) _ (lives w master) master may.served.row call item sound.terms staged may.served;
     cover =
-        of_tables (λ tables. Cover w.coordinator.rows (written_in now) (kept_in now) tables w.desk.wire)
-        (cover_staged _ (lane_of w) (lane_of now) _ w.desk.wire (lives w master) master may.served.row call item sound.cover staged
+        of_tables (λ records. Cover w.coordinator.rows (written_in now) (tablet_in now) records w.wire.messages)
+        (cover_staged _ (lane_of w) (lane_of now) _ w.wire.messages (lives w master) master may.served.row call item sound.cover staged
         may.served);
     roles =
         roles_staged _ (lane_of w) (lane_of now) (lives w) (lives w master) master may.served.row call item sound.roles staged
@@ -75,45 +75,45 @@ module _ (w : World) (master : ℕ) (call : Call) (value : Option (List ℕ)) (s
     logs =
         logs_staged _ (lane_of w) (lane_of now) (backup_at w) _ master may.served.row call item sound.logs staged may.room;
     truth =
-        of_truths (λ truths. Truth w.base w.coordinator.rows truths w.desk.journal (asked_by w.desk)) sound.truth;
+        of_truths (λ truths. Truth w.base w.coordinator.rows truths w.ledger.journal (asked_by w.ledger)) sound.truth;
     order =
         of_truths (λ truths. Order w.coordinator.rows truths (rest_of (written_in now)))
-        (order_staged _ _ _ (lane_of w) (lane_of now) (lives w) w.coordinator.handed _ w.desk.wire master may.served.row call item
+        (order_staged _ _ _ (lane_of w) (lane_of now) (lives w) w.coordinator.handed _ w.wire.messages master may.served.row call item
         sound.order staged may.served sound.counters);
     calls =
         of_truths
-        (λ truths. Calls w.base w.coordinator.rows truths (rest_of (written_in now)) (kept_in now) (lives w)
-        w.coordinator.handed w.desk.journal w.desk.wire)
+        (λ truths. Calls w.base w.coordinator.rows truths (rest_of (written_in now)) (tablet_in now) (lives w)
+        w.coordinator.handed w.ledger.journal w.wire.messages)
         (calls_staged _ _ _ (lane_of w) (lane_of now) _ _ _ _ master may.served.row call item sound.calls staged);
     counters =
         of_truths
-        (λ truths. Counters w.base w.coordinator.rows truths (rest_of (written_in now)) (written_in now) (kept_in now) (lives w)
-        w.coordinator.handed w.desk.journal w.desk.wire)
+        (λ truths. Counters w.base w.coordinator.rows truths (rest_of (written_in now)) (written_in now) (tablet_in now) (lives w)
+        w.coordinator.handed w.ledger.journal w.wire.messages)
         (counters_staged _ _ _ (lane_of w) (lane_of now) (backup_at w) _ _ _ _ master may.served.row call item sound.counters staged
         may.served sound.rows sound.roles sound.messages);
     rest =
         of_truths
-        (λ truths. Rest w.base w.coordinator.rows truths (rest_of (written_in now)) (written_in now) (kept_in now)
-        (calls_in now) (lives w) w.desk.journal (asked_by w.desk))
+        (λ truths. Rest w.base w.coordinator.rows truths (rest_of (written_in now)) (written_in now) (tablet_in now)
+        (calls_in now) (lives w) w.ledger.journal (asked_by w.ledger))
         (rest_staged _ _ _ (lane_of w) (lane_of now) (backup_at w) (lives w) _ _ _ _ master call value sound.rest sound.rows sound.logs
         sound.counters may staged);
-    tables =
-        of_tables (λ tables. Tables w.coordinator.rows (written_in now) (kept_in now) tables (lives w))
-        (tables_staged _ (lane_of w) (lane_of now) _ _ master may.served.row call item sound.tables staged);
+    records =
+        of_tables (λ records. Tables w.coordinator.rows (written_in now) (tablet_in now) records (lives w))
+        (tables_staged _ (lane_of w) (lane_of now) _ _ master may.served.row call item sound.records staged);
     receives =
         of_tables
-        (λ tables. Receives w.coordinator.rows (written_in now) (kept_in now) tables w.coordinator.handed)
+        (λ records. Receives w.coordinator.rows (written_in now) (tablet_in now) records w.coordinator.handed)
         (receives_staged w.base _ (lane_of w) (lane_of now) (backup_at w) _ (lives w) _ _ _ master call.table call.key call item
         sound.receives sound.rows sound.logs sound.counters sound.terms sound.roles may.served staged
         (All-contains (λ row. FirstIsDone (written_in w) row.range (lineage_of row.phase)) w.coordinator.rows may.served.row
         sound.rest.done may.served.has_row));
     rebuilds =
         of_truths
-        (λ truths. Rebuilds w.coordinator.rows truths (log_in now) (written_in now) (backup_at w) (kept_in now) (table_in now)
+        (λ truths. Rebuilds w.coordinator.rows truths (log_in now) (written_in now) (backup_at w) (tablet_in now) (records_in now)
         (lives w))
         (of_tables
-        (λ tables. Rebuilds w.coordinator.rows (truth_of w.base (written_in w)) (log_in now) (written_in now) (backup_at w)
-        (kept_in now) tables (lives w))
+        (λ records. Rebuilds w.coordinator.rows (truth_of w.base (written_in w)) (log_in now) (written_in now) (backup_at w)
+        (tablet_in now) records (lives w))
         (rebuilds_staged _ _ (lane_of w) (lane_of now) (backup_at w) _ (lives w) _ _ master call.table call.key call item
         sound.rebuilds sound.rows sound.logs may.served staged));
     messages =

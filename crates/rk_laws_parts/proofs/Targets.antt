@@ -1,30 +1,31 @@
 -- What a target has that pulls, once its log has one more item at its end.
 use Rattle.std.proofs.Common.{◌≡◌, ℕ, ◌≤◌, ◌<◌, true, false, List, [], ◌∷◌, ◌++◌, length, Option, Some, None, sym, ap, ◌∙◌, subst, ⊎_elim, arith}
+use Rattle.std.specs.Prelude.{drop, take, None, Option}
+use Rattle.std.specs.List.{All, Contains, list_any}
 use Rattle.std.proofs.lemmas.Bool.{cases_Bool, cond-true, cond-false}
 use Rattle.std.proofs.lemmas.List.{append-nil, take-append-le, drop-append-le, length-append}
 use Rattle.std.proofs.lemmas.List.Elements.{All-push, filter-append}
 use Rattle.std.proofs.lemmas.Option.{IfSome_then}
-use Rattle.std.specs.Prelude.{drop, take, None, Option}
-use Rattle.std.specs.List.{All, Contains, list_any}
 use Rattle.rk_types.specs.declared.held.Held.{Held}
 use Rattle.rk_types.specs.declared.range.Range.{Range}
+use Rattle.rk_model.proofs.Places.{slice_get_front}
 use Rattle.rk_entry.specs.declared.entry.Entry.{Entry}
 use Rattle.rk_entry.specs.declared.entry.Entry.TheVariants as entries
-use Rattle.rk_model.proofs.Places.{slice_get_front}
-use Rattle.rk_world.specs.Coordinator.{Handed}
+use Rattle.rk_world.specs.Ranges.{has_key}
 use Rattle.rk_world.specs.Ends.{items_of}
-use Rattle.rk_world.specs.Master.{touches}
-use Rattle.rk_world.specs.Material.{counts, counting, has_key}
-use Rattle.rk_world.specs.Requests.{counted_up}
-use Rattle.rk_world.specs.Sound.Receives.{IsTarget, IsReceived, IsBare, HasArrived, HasClosing, beginning_of, before_closing, copied_items, entries_from, scan_items, joined_place}
+use Rattle.rk_world.specs.Material.{counts, counting}
 use Rattle.rk_world.specs.Tablet.{Tablet}
+use Rattle.rk_world.specs.Master.{touches}
+use Rattle.rk_world.specs.Requests.{counted_up}
+use Rattle.rk_world.specs.Waiting.{joined_entry}
+use Rattle.rk_world.specs.Coordinator.{Handed}
 use Rattle.rk_world.specs.Written.{Written}
+use Rattle.rk_world.specs.Sound.Receives.{IsTarget, IsReceived, IsBare, HasArrived, HasClosing, beginning_of, before_closing, copied_items, entries_from, scan_items, joined_place}
 use Rattle.rk_laws_parts.proofs.Changing.{with_one_more}
-use Rattle.rk_laws_parts.proofs.Grows.{Extends, drop_extends, still_contains, take_extends}
-use Rattle.rk_laws_parts.proofs.Histories.{items_push}
-use Rattle.rk_laws_parts.proofs.Places.{behind_none}
 use Rattle.rk_laws_parts.proofs.Shares.{joined_same}
-use Rattle.rk_world.specs.Commits.{joined_entry}
+use Rattle.rk_laws_parts.proofs.Places.{behind_none}
+use Rattle.rk_laws_parts.proofs.Histories.{items_push}
+use Rattle.rk_laws_parts.proofs.Grows.{Extends, drop_extends, still_contains, take_extends}
 
 -- each version among some is below this item's
 abbrev pub AreBelow : List Held → Held → Type 0
@@ -78,7 +79,7 @@ own_push P range from list item within old new =
     (cases_Bool (has_key range item.table item.key)))
 
 -- a target that wrote an item, above each one of its source if it is of the range
-pub target_pushed : (range : Range) (source : ℕ) (truth material : List Entry) (from : ℕ) (written : Written) (tablet : Tablet) (handed : Option Handed) (table : List Held) (item : Held) → written.committed ≤ length written.entries → from ≤ length written.entries → (has_key range item.table item.key ≡ true → AreBelow (items_of material) item) → IsTarget range source truth material from written tablet handed table → IsTarget range source truth material from (with_one_more written (entries.Held item)) tablet handed table
+pub target_pushed : (range : Range) (source : ℕ) (truth material : List Entry) (from : ℕ) (written : Written) (tablet : Tablet) (handed : Option Handed) (table : List Held) (item : Held) → written.applied ≤ length written.entries → from ≤ length written.entries → (has_key range item.table item.key ≡ true → AreBelow (items_of material) item) → IsTarget range source truth material from written tablet handed table → IsTarget range source truth material from (with_one_more written (entries.Held item)) tablet handed table
 target_pushed range source truth material from written tablet handed table item fits within new old = record {
   from_source = old.from_source;
   workers = old.workers;
@@ -87,13 +88,13 @@ target_pushed range source truth material from written tablet handed table item 
       subst
       (λ (sure : List Entry). IsReceived (HasArrived tablet.handover.role tablet.pulling (scan_items truth)) range (scan_items truth)
       (items_of (entries_from range from sure)) (copied_items tablet.handover.role tablet.pulling written.sides) table)
-      (sym (take-append-le written.committed written.entries (entries.Held item ∷ []) fits)) old.received;
+      (sym (take-append-le written.applied written.entries (entries.Held item ∷ []) fits)) old.received;
   above = own_push (AreBelow (items_of material)) range from written.entries item within old.above new;
   told =
       IfSome_then handed old.told (λ h told.
       told_push (joined_place tablet.handover.role) from written.entries (entries.Held item ∷ []) (beginning_of tablet h) told);
   early =
-      ap (λ (all : List Entry). list_any (touches range) (drop written.committed all)) (take-append-le from written.entries (entries.Held item ∷ []) within)
+      ap (λ (all : List Entry). list_any (touches range) (drop written.applied all)) (take-append-le from written.entries (entries.Held item ∷ []) within)
       ∙ old.early;
   closing = closing_push (joined_place tablet.handover.role) (joined_entry tablet) range from written.entries item old.closing;
 }

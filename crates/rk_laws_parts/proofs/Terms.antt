@@ -1,42 +1,42 @@
 -- Laws of the part Terms: what a message that is sent, and a tablet that looks the same, keep of it.
-use Rattle.std.specs.Prelude.{◌≡◌, ◌≤◌, ◌<◌, ℕ, List, All}
 use Rattle.std.proofs.Common.{sym, ap, subst, ◌∙◌, Bool}
+use Rattle.std.specs.Prelude.{◌≡◌, ◌≤◌, ◌<◌, ℕ, List, All}
 use Rattle.std.proofs.lemmas.List.Elements.{All-weaker}
+use Rattle.rk_types.proofs.NumberMaps.{HasNoMore, each_insert}
+use Rattle.rk_types.specs.NumberMap.{NumberMap, insert}
 use Rattle.rk_types.specs.Range.{meets}
-use Rattle.rk_types.specs.declared.range.Range.{Range}
 use Rattle.rk_types.specs.declared.call.Call.{Call}
 use Rattle.rk_types.specs.declared.held.Held.{Held}
-use Rattle.rk_message.specs.declared.message.Message.{Message}
-use Rattle.rk_tablet_map.specs.declared.row.Row.{Row}
+use Rattle.rk_types.specs.declared.range.Range.{Range}
 use Rattle.rk_transfer.specs.declared.role.Role.TheVariants as roles
-use Rattle.rk_world.specs.Tables.{Table, with_at}
+use Rattle.rk_tablet_map.specs.declared.row.Row.{Row}
+use Rattle.rk_message.specs.declared.message.Message.{Message}
 use Rattle.rk_world.specs.Tablet.{Tablet}
-use Rattle.rk_world.specs.Sound.Terms.{Terms, KeptFits, SentFits}
+use Rattle.rk_world.specs.Sound.Terms.{Terms, HandoverFits, SentFits}
 use Rattle.rk_world.specs.Sound.Changes.{IsServed}
-use Rattle.rk_laws_parts.proofs.Found.{HasNoMore, each_with}
-use Rattle.rk_laws_parts.proofs.Seen.{LooksAs, each_looks_frozen}
 use Rattle.rk_laws_parts.proofs.Changing.{Lane, Freezes, Stages}
+use Rattle.rk_laws_parts.proofs.Seen.{LooksAs, each_looks_frozen}
 use Rattle.rk_laws_parts.proofs.Staged.{staged_looks}
 
 -- a message is sent that speaks of no term and of no range too early
-pub terms_sent : (rows : List Row) (keeps : ℕ → ℕ → Tablet) (wire : Table Message) (number : ℕ) (message : Message) → Terms rows keeps wire → All (λ row. SentFits row message.body) rows → Terms rows keeps (with_at wire number message)
-terms_sent rows keeps wire number message old says = record {
-  kept = old.kept;
+pub terms_sent : (rows : List Row) (tablets : ℕ → ℕ → Tablet) (wire : NumberMap Message) (number : ℕ) (message : Message) → Terms rows tablets wire → All (λ row. SentFits row message.body) rows → Terms rows tablets (insert wire number message)
+terms_sent rows tablets wire number message old says = record {
+  handovers = old.handovers;
   apart = old.apart;
-  sent = each_with (λ n m. All (λ row. SentFits row m.body) rows) wire number message old.sent says;
+  sent = each_insert (λ n m. All (λ row. SentFits row m.body) rows) wire number message old.sent says;
 }
 
 -- fewer messages are on the wire
-pub terms_forgotten : (rows : List Row) (keeps : ℕ → ℕ → Tablet) (wire less : Table Message) → Terms rows keeps wire → HasNoMore less wire → Terms rows keeps less
-terms_forgotten rows keeps wire less old no_more = record {
-  kept = old.kept;
+pub terms_forgotten : (rows : List Row) (tablets : ℕ → ℕ → Tablet) (wire less : NumberMap Message) → Terms rows tablets wire → HasNoMore less wire → Terms rows tablets less
+terms_forgotten rows tablets wire less old no_more = record {
+  handovers = old.handovers;
   apart = old.apart;
   sent = λ n m found. old.sent n m (no_more n m found);
 }
 
 -- a tablet that looks as before fits beside a row as before
-kept_looks : (row : Row) (number : ℕ) (old new : Tablet) → LooksAs old new → KeptFits row number old.handover → KeptFits row number new.handover
-kept_looks row number old new looks fits = record {
+handover_looks : (row : Row) (number : ℕ) (old new : Tablet) → LooksAs old new → HandoverFits row number old.handover → HandoverFits row number new.handover
+handover_looks row number old new looks fits = record {
   within = λ is. subst (λ (term : ℕ). term ≤ row.term) (sym looks.term) (fits.within is);
   below = λ another meeting.
       subst (λ (term : ℕ). term < row.term) (sym looks.term)
@@ -45,13 +45,13 @@ kept_looks row number old new looks fits = record {
 }
 
 -- each tablet looks as before
-pub terms_looks : (rows : List Row) (keeps keeps' : ℕ → ℕ → Tablet) (wire : Table Message) → Terms rows keeps wire → ((q r : ℕ) → LooksAs (keeps q r) (keeps' q r)) → Terms rows keeps' wire
-terms_looks rows keeps keeps' wire old looks = record {
-  kept = λ master number.
-      All-weaker (λ row. KeptFits row number (keeps master number).handover)
-      (λ row. KeptFits row number (keeps' master number).handover)
-      (λ row. kept_looks row number (keeps master number) (keeps' master number) (looks master number)) rows
-      (old.kept master number);
+pub terms_looks : (rows : List Row) (tablets tablets' : ℕ → ℕ → Tablet) (wire : NumberMap Message) → Terms rows tablets wire → ((q r : ℕ) → LooksAs (tablets q r) (tablets' q r)) → Terms rows tablets' wire
+terms_looks rows tablets tablets' wire old looks = record {
+  handovers = λ master number.
+      All-weaker (λ row. HandoverFits row number (tablets master number).handover)
+      (λ row. HandoverFits row number (tablets' master number).handover)
+      (λ row. handover_looks row number (tablets master number) (tablets' master number) (looks master number)) rows
+      (old.handovers master number);
   apart = λ master a b other a_there b_there.
       (λ i. meets ((looks master a).range i) ((looks master b).range i))
       ∙ old.apart master a b other (sym (looks master a).role.absent ∙ a_there) (sym (looks master b).role.absent ∙ b_there);
@@ -59,12 +59,12 @@ terms_looks rows keeps keeps' wire old looks = record {
 }
 
 -- a tablet that closes is frozen
-pub terms_frozen : (rows : List Row) (keeps now : ℕ → ℕ → Tablet) (wire : Table Message) (master number : ℕ) → Terms rows keeps wire → (keeps master number).handover.role ≡ roles.Closing → Freezes master number keeps now → Terms rows now wire
-terms_frozen rows keeps now wire master number old closing change =
-    terms_looks rows keeps now wire old (each_looks_frozen master number keeps now closing change)
+pub terms_frozen : (rows : List Row) (tablets now : ℕ → ℕ → Tablet) (wire : NumberMap Message) (master number : ℕ) → Terms rows tablets wire → (tablets master number).handover.role ≡ roles.Closing → Freezes master number tablets now → Terms rows now wire
+terms_frozen rows tablets now wire master number old closing change =
+    terms_looks rows tablets now wire old (each_looks_frozen master number tablets now closing change)
 
 -- a write is staged at a master that answers calls for its key
-pub terms_staged : (rows : List Row) (before after : Lane) (wire : Table Message) (alive : Bool) (master : ℕ) (row : Row) (call : Call) (item : Held) → Terms rows before.keeps wire → Stages rows before after master row call item → IsServed rows (before.keeps master) alive master item.table item.key → Terms rows after.keeps wire
+pub terms_staged : (rows : List Row) (before after : Lane) (wire : NumberMap Message) (alive : Bool) (master : ℕ) (row : Row) (call : Call) (item : Held) → Terms rows before.tablets wire → Stages rows before after master row call item → IsServed rows (before.tablets master) alive master item.table item.key → Terms rows after.tablets wire
 terms_staged rows before after wire alive master row call item old stages served =
-    terms_looks rows before.keeps after.keeps wire old
-    (staged_looks rows before after master row call item stages alive served).tablets
+    terms_looks rows before.tablets after.tablets wire old
+    (staged_looks rows before after master row call item stages alive served).each

@@ -1,34 +1,38 @@
 -- The calls that wait at a master, and the rows that they wait for, once a write was staged.
 use Rattle.std.proofs.Common.{◌≡◌, ℕ, ◌≤◌, ◌<◌, true, false, List, [], ◌∷◌, length, Some, refl, sym, ap, ◌∙◌, subst, ⊎_elim, arith}
+use Rattle.std.specs.Prelude.{slice_index_or, slice_get, drop, max, Option}
+use Rattle.std.specs.List.{All, Contains, list_any}
 use Rattle.std.proofs.lemmas.Bool.{cases_eq, false≢true}
 use Rattle.std.proofs.lemmas.List.Elements.{Contains-get_or}
 use Rattle.std.proofs.lemmas.Option.{slice_get_within}
-use Rattle.std.specs.Prelude.{slice_index_or, slice_get, drop, max, Option}
-use Rattle.std.specs.List.{All, Contains, list_any}
+use Rattle.rk_types.proofs.NumberMaps.{each_insert, each_weaker, get_same, get_other}
+use Rattle.rk_types.specs.NumberMap.{NumberMap, EachIn, insert}
 use Rattle.rk_types.specs.declared.call.Call.{Call}
 use Rattle.rk_types.specs.declared.held.Held.{Held}
 use Rattle.rk_types.specs.declared.lineage.Member.{Member}
-use Rattle.rk_entry.specs.declared.entry.Entry.{Entry}
 use Rattle.rk_model.proofs.Places.{slice_get_end, slice_get_push_cases}
-use Rattle.rk_tablet_map.specs.Phase.{lineage_of}
-use Rattle.rk_tablet_map.specs.declared.row.Row.{Row}
+use Rattle.rk_entry.specs.declared.entry.Entry.{Entry}
+use Rattle.rk_entry.specs.declared.entry.Entry.TheVariants as entries
 use Rattle.rk_transfer.specs.Handover.{is_serving}
 use Rattle.rk_transfer.specs.declared.role.Role.{Role}
-use Rattle.rk_world.specs.Master.{touches}
-use Rattle.rk_world.specs.Material.{Mark, has_key, is_marked, joined_from}
-use Rattle.rk_world.specs.Sound.Rest.{Waits, IsEntryOf, FirstIsDone, EachHasCall, is_idle, may_have_staged, OnlyIsUnnamed, IsLast}
-use Rattle.rk_world.specs.Sound.Rows.{AreApart, IsFormed}
-use Rattle.rk_world.specs.Tables.{Table, EachIn, with_at}
-use Rattle.rk_world.specs.Tablet.{Tablet}
-use Rattle.rk_world.specs.Written.{Written, last_of}
-use Rattle.rk_laws_parts.proofs.Changing.{Lane, Stages, with_one_more}
-use Rattle.rk_laws_parts.proofs.Found.{each_with, each_weaker, found_same, found_other}
-use Rattle.rk_laws_parts.proofs.Places.{behind_none}
-use Rattle.rk_laws_parts.proofs.Staged.{HasGrown, row_cases, counted_same, written_cases, written_grown, first_apart, formed_apart}
-use Rattle.rk_entry.specs.declared.entry.Entry.TheVariants as entries
 use Rattle.rk_transfer.specs.declared.role.Role.TheVariants as roles
+use Rattle.rk_tablet_map.specs.Phase.{lineage_of}
+use Rattle.rk_tablet_map.specs.declared.row.Row.{Row}
+use Rattle.rk_world.specs.Ranges.{has_key}
+use Rattle.rk_world.specs.Marks.{Mark, is_marked}
+use Rattle.rk_world.specs.Material.{joined_from}
+use Rattle.rk_world.specs.Lineage.{last_of}
+use Rattle.rk_world.specs.Tablet.{Tablet}
+use Rattle.rk_world.specs.RoleTests.{is_idle, may_have_staged}
+use Rattle.rk_world.specs.Master.{touches}
+use Rattle.rk_world.specs.Ledger.{LastCall}
+use Rattle.rk_world.specs.Written.{Written}
+use Rattle.rk_world.specs.Sound.Rows.{AreApart, IsFormed}
+use Rattle.rk_world.specs.Sound.Rest.{Waits, IsEntryOf, FirstIsDone, EachHasCall, OnlyIsUnnamed, IsLast}
+use Rattle.rk_laws_parts.proofs.Changing.{Lane, Stages, with_one_more}
 use Rattle.rk_laws_parts.proofs.Shares.{joined_same}
-use Rattle.rk_world.specs.Desk.{LastCall}
+use Rattle.rk_laws_parts.proofs.Staged.{HasGrown, row_cases, counted_same, written_cases, written_grown, first_apart, formed_apart}
+use Rattle.rk_laws_parts.proofs.Places.{behind_none}
 
 -- a master that serves a tablet is not idle
 serving_busy : (role : Role) → is_serving role ≡ true → is_idle role ≡ false
@@ -45,9 +49,9 @@ serving_stages (roles.Wanting from) serves = absurd (cc)
 serving_stages role serves = refl
 
 -- a call that waits goes on to wait, where the master has what it had and may stage as before
-waits_on : (rows : List Row) (keeps keeps' : ℕ → Tablet) (written written' : Written) (master place : ℕ) (call : Call) → HasGrown written written' → ((number : ℕ) → may_have_staged (keeps' number).handover.role ≡ may_have_staged (keeps number).handover.role) → Waits rows keeps written master place call → Waits rows keeps' written' master place call
-waits_on rows keeps keeps' written written' master place call grown same old = record {
-  behind = subst (λ (n : ℕ). n ≤ place) (sym grown.committed) old.behind;
+waits_on : (rows : List Row) (tablets tablets' : ℕ → Tablet) (written written' : Written) (master place : ℕ) (call : Call) → HasGrown written written' → ((number : ℕ) → may_have_staged (tablets' number).handover.role ≡ may_have_staged (tablets number).handover.role) → Waits rows tablets written master place call → Waits rows tablets' written' master place call
+waits_on rows tablets tablets' written written' master place call grown same old = record {
+  behind = subst (λ (n : ℕ). n ≤ place) (sym grown.applied) old.behind;
   entry = old.entry;
   stands = grown.stays place old.entry old.stands;
   own = old.own;
@@ -58,11 +62,11 @@ waits_on rows keeps keeps' written written' master place call grown same old = r
   last = old.last;
   is_last = old.is_last;
   here = old.here;
-  kept = same old.row.tablet ∙ old.kept;
+  may_stage = same old.row.tablet ∙ old.may_stage;
 }
 
 -- each entry of a call has it, with one more entry and its call
-calls_push : (calls : Table Call) (written : Written) (call : Call) (entry : Entry) → IsEntryOf call entry → EachHasCall calls written → EachHasCall (with_at calls (length written.entries) call) (with_one_more written entry)
+calls_push : (calls : NumberMap Call) (written : Written) (call : Call) (entry : Entry) → IsEntryOf call entry → EachHasCall calls written → EachHasCall (insert calls (length written.entries) call) (with_one_more written entry)
 calls_push calls written call entry own old place e behind stands is unmarked =
     ⊎_elim
     (λ (before : slice_get written.entries place ≡ Some e).
@@ -70,18 +74,18 @@ calls_push calls written call entry own old place e behind stands is unmarked =
     let within : place < length written.entries = slice_get_within written.entries place e before in
     record {
       call = has.call;
-      kept = found_other calls (length written.entries) call place (λ same. omega (arith, same, within)) ∙ has.kept;
+      waits = get_other calls (length written.entries) call place (λ same. omega (arith, same, within)) ∙ has.waits;
       own = has.own;
     })
     (λ (last : (place ≡ length written.entries) × (entry ≡ e)).
     record {
       call = call;
-      kept = found_same calls (length written.entries) call place last.0;
+      waits = get_same calls (length written.entries) call place last.0;
       own = subst (IsEntryOf call) last.1 own;
     })
     (slice_get_push_cases written.entries entry e place stands)
 
-module _ (rows : List Row) (before after : Lane) (master : ℕ) (row : Row) (call : Call) (item : Held) (last : Member) (stages : Stages rows before after master row call item) (is_last : last_of (lineage_of row.phase) ≡ Some last) (here : last.master ≡ master) (serves : is_serving (before.keeps master row.tablet).handover.role ≡ true) where
+module _ (rows : List Row) (before after : Lane) (master : ℕ) (row : Row) (call : Call) (item : Held) (last : Member) (stages : Stages rows before after master row call item) (is_last : last_of (lineage_of row.phase) ≡ Some last) (here : last.master ≡ master) (serves : is_serving (before.tablets master row.tablet).handover.role ≡ true) where
   -- of two members the first has nothing more
   done_at : (other : Row) → Contains rows other → (lineage : List Member) → AreApart lineage → lineage_of other.phase ≡ lineage → FirstIsDone before.written other.range lineage → FirstIsDone after.written other.range lineage
   done_at other has [] apart is done = tt
@@ -106,10 +110,10 @@ module _ (rows : List Row) (before after : Lane) (master : ℕ) (row : Row) (cal
   unnamed_staged other (only ∷ []) none =
       ⊎_elim
       (λ (same : after.written only.master ≡ before.written only.master).
-      subst (λ (w : Written). joined_from other.range (max only.from w.committed) w.entries ≡ []) (sym same) none)
+      subst (λ (w : Written). joined_from other.range (max only.from w.applied) w.entries ≡ []) (sym same) none)
       (λ (at : (only.master ≡ master) × (after.written only.master ≡ with_one_more (before.written only.master) (entries.Held item))).
-      subst (λ (w : Written). joined_from other.range (max only.from w.committed) w.entries ≡ []) (sym at.1)
-      (joined_same other.range (max only.from (before.written only.master).committed) (before.written only.master).entries item ∙ none))
+      subst (λ (w : Written). joined_from other.range (max only.from w.applied) w.entries ≡ []) (sym at.1)
+      (joined_same other.range (max only.from (before.written only.master).applied) (before.written only.master).entries item ∙ none))
       (written_cases rows before after master row call item stages only.master)
   unnamed_staged other (first ∷ second ∷ more) none = tt
 
@@ -119,37 +123,37 @@ module _ (rows : List Row) (before after : Lane) (master : ℕ) (row : Row) (cal
       ⊎_elim
       (λ (at : q ≡ master).
       subst (EachIn (λ place c. IsLast (asked c.client) c)) (sym stages.calls_differ.here ∙ ap after.calls (sym at))
-      (each_with (λ place c. IsLast (asked c.client) c) (before.calls master) (length (before.written master).entries) call
+      (each_insert (λ place c. IsLast (asked c.client) c) (before.calls master) (length (before.written master).entries) call
       (subst (λ (n : ℕ). EachIn (λ place c. IsLast (asked c.client) c) (before.calls n)) at old) last))
       (λ (other : q ≡ master → ⊥).
       subst (EachIn (λ place c. IsLast (asked c.client) c)) (sym (stages.calls_differ.others q other)) old)
       (cases_eq q master)
 
-  -- what an idle master has not committed is of other rows
-  pub idle_staged : (q : ℕ) (other : Row) → Contains rows other → (is_idle (before.keeps q other.tablet).handover.role ≡ true → list_any (touches other.range) (drop (before.written q).committed (before.written q).entries) ≡ false) → is_idle (after.keeps q other.tablet).handover.role ≡ true → list_any (touches other.range) (drop (after.written q).committed (after.written q).entries) ≡ false
+  -- what an idle master has not applied is of other rows
+  pub idle_staged : (q : ℕ) (other : Row) → Contains rows other → (is_idle (before.tablets q other.tablet).handover.role ≡ true → list_any (touches other.range) (drop (before.written q).applied (before.written q).entries) ≡ false) → is_idle (after.tablets q other.tablet).handover.role ≡ true → list_any (touches other.range) (drop (after.written q).applied (after.written q).entries) ≡ false
   idle_staged q other has old idles =
-      let idle : is_idle (before.keeps q other.tablet).handover.role ≡ true =
+      let idle : is_idle (before.tablets q other.tablet).handover.role ≡ true =
       sym (counted_same rows before after master row call item stages (λ (tablet : Tablet). is_idle tablet.handover.role) (λ tablet. refl) q other.tablet) ∙ idles in
       ⊎_elim
       (λ (same : after.written q ≡ before.written q).
-      subst (λ (w : Written). list_any (touches other.range) (drop w.committed w.entries) ≡ false) (sym same) (old idle))
+      subst (λ (w : Written). list_any (touches other.range) (drop w.applied w.entries) ≡ false) (sym same) (old idle))
       (λ (at : (q ≡ master) × (after.written q ≡ with_one_more (before.written q) (entries.Held item))).
       let apart : has_key other.range item.table item.key ≡ false =
       ⊎_elim
       (λ (its : other ≡ row).
-      let busy : is_idle (before.keeps q other.tablet).handover.role ≡ false =
-      ap (λ (n : ℕ). is_idle (before.keeps n other.tablet).handover.role) at.0
-      ∙ ap (λ (r : Row). is_idle (before.keeps master r.tablet).handover.role) its
-      ∙ serving_busy (before.keeps master row.tablet).handover.role serves in
+      let busy : is_idle (before.tablets q other.tablet).handover.role ≡ false =
+      ap (λ (n : ℕ). is_idle (before.tablets n other.tablet).handover.role) at.0
+      ∙ ap (λ (r : Row). is_idle (before.tablets master r.tablet).handover.role) its
+      ∙ serving_busy (before.tablets master row.tablet).handover.role serves in
       absurd (false≢true (sym busy ∙ idle)))
       (λ (differs : other.tablet ≡ row.tablet → ⊥). stages.outside other has differs)
       (row_cases rows before after master row call item stages other has) in
-      subst (λ (w : Written). list_any (touches other.range) (drop w.committed w.entries) ≡ false) (sym at.1)
-      (behind_none (touches other.range) (before.written q).entries (before.written q).committed (entries.Held item) (old idle) apart))
+      subst (λ (w : Written). list_any (touches other.range) (drop w.applied w.entries) ≡ false) (sym at.1)
+      (behind_none (touches other.range) (before.written q).entries (before.written q).applied (entries.Held item) (old idle) apart))
       (written_cases rows before after master row call item stages q)
 
   -- the call that was staged waits
-  waits_new : IsEntryOf call (entries.Held item) → has_key row.range call.table call.key ≡ true → (before.written master).committed ≤ length (before.written master).entries → is_marked (before.written master).marks (length (before.written master).entries) ≡ false → Waits rows (after.keeps master) (with_one_more (before.written master) (entries.Held item)) master (length (before.written master).entries) call
+  waits_new : IsEntryOf call (entries.Held item) → has_key row.range call.table call.key ≡ true → (before.written master).applied ≤ length (before.written master).entries → is_marked (before.written master).marks (length (before.written master).entries) ≡ false → Waits rows (after.tablets master) (with_one_more (before.written master) (entries.Held item)) master (length (before.written master).entries) call
   waits_new own inside fits unmarked = record {
     behind = fits;
     entry = entries.Held item;
@@ -162,31 +166,31 @@ module _ (rows : List Row) (before after : Lane) (master : ℕ) (row : Row) (cal
     last = last;
     is_last = is_last;
     here = here;
-    kept =
+    may_stage =
         counted_same rows before after master row call item stages (λ (tablet : Tablet). may_have_staged tablet.handover.role) (λ tablet. refl) master row.tablet
-        ∙ serving_stages (before.keeps master row.tablet).handover.role serves;
+        ∙ serving_stages (before.tablets master row.tablet).handover.role serves;
   }
 
   -- the calls that wait at a master
-  pub waiting_staged : IsEntryOf call (entries.Held item) → has_key row.range call.table call.key ≡ true → (before.written master).committed ≤ length (before.written master).entries → is_marked (before.written master).marks (length (before.written master).entries) ≡ false → (q : ℕ) → EachIn (λ place c. Waits rows (before.keeps q) (before.written q) q place c) (before.calls q) → EachIn (λ place c. Waits rows (after.keeps q) (after.written q) q place c) (after.calls q)
+  pub waiting_staged : IsEntryOf call (entries.Held item) → has_key row.range call.table call.key ≡ true → (before.written master).applied ≤ length (before.written master).entries → is_marked (before.written master).marks (length (before.written master).entries) ≡ false → (q : ℕ) → EachIn (λ place c. Waits rows (before.tablets q) (before.written q) q place c) (before.calls q) → EachIn (λ place c. Waits rows (after.tablets q) (after.written q) q place c) (after.calls q)
   waiting_staged own inside fits unmarked q old =
-      let on : (place : ℕ) (c : Call) → Waits rows (before.keeps q) (before.written q) q place c → Waits rows (after.keeps q) (after.written q) q place c = λ place c.
-      waits_on rows (before.keeps q) (after.keeps q) (before.written q) (after.written q) q place c
+      let on : (place : ℕ) (c : Call) → Waits rows (before.tablets q) (before.written q) q place c → Waits rows (after.tablets q) (after.written q) q place c = λ place c.
+      waits_on rows (before.tablets q) (after.tablets q) (before.written q) (after.written q) q place c
       (written_grown rows before after master row call item stages q)
       (counted_same rows before after master row call item stages (λ (tablet : Tablet). may_have_staged tablet.handover.role) (λ tablet. refl) q) in
-      let each : EachIn (λ place c. Waits rows (after.keeps q) (after.written q) q place c) (before.calls q) =
-      each_weaker (λ place c. Waits rows (before.keeps q) (before.written q) q place c) (λ place c. Waits rows (after.keeps q) (after.written q) q place c) (before.calls q) on old in
+      let each : EachIn (λ place c. Waits rows (after.tablets q) (after.written q) q place c) (before.calls q) =
+      each_weaker (λ place c. Waits rows (before.tablets q) (before.written q) q place c) (λ place c. Waits rows (after.tablets q) (after.written q) q place c) (before.calls q) on old in
       ⊎_elim
       (λ (at : q ≡ master).
-      let new : Waits rows (after.keeps q) (after.written q) q (length (before.written master).entries) call =
-      subst (λ (n : ℕ). Waits rows (after.keeps n) (after.written n) n (length (before.written master).entries) call) (sym at)
-      (subst (λ (w : Written). Waits rows (after.keeps master) w master (length (before.written master).entries) call) (sym stages.written_differ.here) (waits_new own inside fits unmarked)) in
-      let table : with_at (before.calls q) (length (before.written master).entries) call ≡ after.calls q =
-      ap (λ (n : ℕ). with_at (before.calls n) (length (before.written master).entries) call) at ∙ sym stages.calls_differ.here ∙ ap after.calls (sym at) in
-      subst (λ (table : Table Call). EachIn (λ place c. Waits rows (after.keeps q) (after.written q) q place c) table) table
-      (each_with (λ place c. Waits rows (after.keeps q) (after.written q) q place c) (before.calls q) (length (before.written master).entries) call each new))
+      let new : Waits rows (after.tablets q) (after.written q) q (length (before.written master).entries) call =
+      subst (λ (n : ℕ). Waits rows (after.tablets n) (after.written n) n (length (before.written master).entries) call) (sym at)
+      (subst (λ (w : Written). Waits rows (after.tablets master) w master (length (before.written master).entries) call) (sym stages.written_differ.here) (waits_new own inside fits unmarked)) in
+      let table : insert (before.calls q) (length (before.written master).entries) call ≡ after.calls q =
+      ap (λ (n : ℕ). insert (before.calls n) (length (before.written master).entries) call) at ∙ sym stages.calls_differ.here ∙ ap after.calls (sym at) in
+      subst (λ (table : NumberMap Call). EachIn (λ place c. Waits rows (after.tablets q) (after.written q) q place c) table) table
+      (each_insert (λ place c. Waits rows (after.tablets q) (after.written q) q place c) (before.calls q) (length (before.written master).entries) call each new))
       (λ (other : q ≡ master → ⊥).
-      subst (λ (table : Table Call). EachIn (λ place c. Waits rows (after.keeps q) (after.written q) q place c) table) (sym (stages.calls_differ.others q other)) each)
+      subst (λ (table : NumberMap Call). EachIn (λ place c. Waits rows (after.tablets q) (after.written q) q place c) table) (sym (stages.calls_differ.others q other)) each)
       (cases_eq q master)
 
   -- the entries that have calls
@@ -194,14 +198,14 @@ module _ (rows : List Row) (before after : Lane) (master : ℕ) (row : Row) (cal
   found_staged own q old =
       ⊎_elim
       (λ (at : q ≡ master).
-      let table : with_at (before.calls q) (length (before.written q).entries) call ≡ after.calls q =
-      ap (λ (n : ℕ). with_at (before.calls n) (length (before.written n).entries) call) at ∙ sym stages.calls_differ.here ∙ ap after.calls (sym at) in
+      let table : insert (before.calls q) (length (before.written q).entries) call ≡ after.calls q =
+      ap (λ (n : ℕ). insert (before.calls n) (length (before.written n).entries) call) at ∙ sym stages.calls_differ.here ∙ ap after.calls (sym at) in
       let more : with_one_more (before.written q) (entries.Held item) ≡ after.written q =
       ap (λ (n : ℕ). with_one_more (before.written n) (entries.Held item)) at ∙ sym stages.written_differ.here ∙ ap after.written (sym at) in
       subst (λ (w : Written). EachHasCall (after.calls q) w) more
-      (subst (λ (table : Table Call). EachHasCall table (with_one_more (before.written q) (entries.Held item))) table
+      (subst (λ (table : NumberMap Call). EachHasCall table (with_one_more (before.written q) (entries.Held item))) table
       (calls_push (before.calls q) (before.written q) call (entries.Held item) own old)))
       (λ (other : q ≡ master → ⊥).
       subst (λ (w : Written). EachHasCall (after.calls q) w) (sym (stages.written_differ.others q other))
-      (subst (λ (table : Table Call). EachHasCall table (before.written q)) (sym (stages.calls_differ.others q other)) old))
+      (subst (λ (table : NumberMap Call). EachHasCall table (before.written q)) (sym (stages.calls_differ.others q other)) old))
       (cases_eq q master)

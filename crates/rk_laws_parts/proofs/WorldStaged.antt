@@ -4,6 +4,7 @@ use Rattle.std.specs.List.{Contains, flat_map}
 use Rattle.std.proofs.lemmas.Bool.{cases_eq}
 use Rattle.std.proofs.lemmas.List.{take-append-le}
 use Rattle.std.proofs.lemmas.List.Elements.{All-contains}
+use Rattle.rk_types.specs.NumberMap.{insert}
 use Rattle.rk_types.specs.declared.call.Call.{Call}
 use Rattle.rk_types.specs.declared.held.Held.{Held}
 use Rattle.rk_types.specs.declared.lineage.Member.{Member}
@@ -13,22 +14,24 @@ use Rattle.rk_entry.specs.declared.entry.Entry.TheVariants as entries
 use Rattle.rk_log.specs.Log.{with_entry}
 use Rattle.rk_tablet_map.specs.Phase.{lineage_of}
 use Rattle.rk_tablet_map.specs.declared.row.Row.{Row}
+use Rattle.rk_world.specs.Ranges.{has_key}
+use Rattle.rk_world.specs.Marks.{unmarked_from}
+use Rattle.rk_world.specs.Material.{counting, log_material}
+use Rattle.rk_world.specs.Lineage.{last_of}
 use Rattle.rk_world.specs.Base.{Base, base_entries}
-use Rattle.rk_world.specs.Desk.{marks_of}
 use Rattle.rk_world.specs.Master.{Master}
-use Rattle.rk_world.specs.Material.{has_key, counting, unmarked_from, log_material}
 use Rattle.rk_world.specs.Requests.{item_of, counted_up}
-use Rattle.rk_world.specs.Tables.{with_at}
-use Rattle.rk_world.specs.World.{World, master_at, kept_in, written_in, log_in, table_in, calls_in}
-use Rattle.rk_world.specs.Written.{Written, written_by, committed_entries, member_truth, member_rest, member_material, lineage_truth, lineage_rest, truth_of, rest_of, last_of}
+use Rattle.rk_world.specs.Ledger.{marks_of}
+use Rattle.rk_world.specs.Written.{Written, written_by, applied_entries, member_truth, member_rest, member_material, lineage_truth, lineage_rest, truth_of, rest_of}
+use Rattle.rk_world.specs.World.{World, master_at, tablet_in, written_in, log_in, records_in, calls_in}
 use Rattle.rk_world.specs.Sound.Rows.{IsPlaced}
-use Rattle.rk_world.specs.Sound.Small.{call_staged, MayStage}
 use Rattle.rk_world.specs.Sound.Whole.{IsSound}
-use Rattle.rk_laws_parts.proofs.Apart.{same_number, in_one_row}
-use Rattle.rk_laws_parts.proofs.Committed.{committed_within}
-use Rattle.rk_laws_parts.proofs.Changing.{DiffersAt, KeepsNow, Lane, Stages, with_one_more}
+use Rattle.rk_world.specs.Sound.Small.{call_staged, MayStage}
 use Rattle.rk_laws_parts.proofs.Masters.{master_same, master_other, same_of_each, same_of_all, tablet_here, tablet_apart, keeps_with}
+use Rattle.rk_laws_parts.proofs.Changing.{DiffersAt, KeepsNow, Lane, Stages, with_one_more}
 use Rattle.rk_laws_parts.proofs.Shares.{material_outside, rest_outside, rest_inside}
+use Rattle.rk_laws_parts.proofs.Apart.{same_number, in_one_row}
+use Rattle.rk_laws_parts.proofs.Applied.{applied_within}
 
 -- the truth of a lineage, by what counts of each member
 abbrev truth_by : Base → (Range → Member → List Entry) → Range → List Member → List Entry
@@ -51,12 +54,12 @@ module _ (written written' : ℕ → Written) (master : ℕ) (item : Held) (diff
       (λ (apart : member.master ≡ master → ⊥). ap f (differ.others member.master apart))
       (cases_eq member.master master)
 
-  -- what is committed counts as before
-  pub truth_staged : (written master).committed ≤ length (written master).entries → (range : Range) (member : Member) → member_truth written' range member ≡ member_truth written range member
+  -- what is applied counts as before
+  pub truth_staged : (written master).applied ≤ length (written master).entries → (range : Range) (member : Member) → member_truth written' range member ≡ member_truth written range member
   truth_staged within range member =
-      of_member (λ w. log_material range w.marks w.sides member.from (committed_entries w)) member
+      of_member (λ w. log_material range w.marks w.sides member.from (applied_entries w)) member
       (λ is. ap (log_material range (written master).marks (written master).sides member.from)
-      (take-append-le (written master).committed (written master).entries (entries.Held item ∷ []) within))
+      (take-append-le (written master).applied (written master).entries (entries.Held item ∷ []) within))
 
   -- so does what a member has written, unless the item is its own and of the range
   pub material_staged : (range : Range) (member : Member) → (member.master ≡ master → has_key range item.table item.key ≡ false) → member_material written' range member ≡ member_material written range member
@@ -66,8 +69,8 @@ module _ (written written' : ℕ → Written) (master : ℕ) (item : Held) (diff
 
   pub rest_staged : (range : Range) (member : Member) → (member.master ≡ master → has_key range item.table item.key ≡ false) → member_rest written' range member ≡ member_rest written range member
   rest_staged range member outside =
-      of_member (λ w. counting range (unmarked_from w.marks (max member.from w.committed) w.entries)) member
-      (λ is. rest_outside range item (outside is) (written master).marks (max member.from (written master).committed) (written master).entries)
+      of_member (λ w. counting range (unmarked_from w.marks (max member.from w.applied) w.entries)) member
+      (λ is. rest_outside range item (outside is) (written master).marks (max member.from (written master).applied) (written master).entries)
 
   -- the rest of a lineage that has not the key
   pub lineage_rest_staged : (range : Range) (members : List Member) → has_key range item.table item.key ≡ false → lineage_rest written' range members ≡ lineage_rest written range members
@@ -76,22 +79,22 @@ module _ (written written' : ℕ → Written) (master : ℕ) (item : Held) (diff
   lineage_rest_staged range (member ∷ next ∷ more) outside = lineage_rest_staged range (next ∷ more) outside
 
   -- and of one that ends with the master
-  pub lineage_rest_grown : (range : Range) (members : List Member) (last : Member) → last_of members ≡ Some last → last.master ≡ master → has_key range item.table item.key ≡ true → All (λ mark. mark.past ≤ length (written master).entries) (written master).marks → max last.from (written master).committed ≤ length (written master).entries → lineage_rest written' range members ≡ lineage_rest written range members ++ entries.Held item ∷ []
+  pub lineage_rest_grown : (range : Range) (members : List Member) (last : Member) → last_of members ≡ Some last → last.master ≡ master → has_key range item.table item.key ≡ true → All (λ mark. mark.past ≤ length (written master).entries) (written master).marks → max last.from (written master).applied ≤ length (written master).entries → lineage_rest written' range members ≡ lineage_rest written range members ++ entries.Held item ∷ []
   lineage_rest_grown range [] last is here inside free within = absurd (cc)
   lineage_rest_grown range (member ∷ []) last is here inside free within =
       let same : member ≡ last = cc in
       let at : member.master ≡ master = ap (λ (m : Member). m.master) same ∙ here in
-      let from : max member.from (written master).committed ≤ length (written master).entries =
-      subst (λ (m : Member). max m.from (written master).committed ≤ length (written master).entries) (sym same) within in
-      ap (λ (n : ℕ). counting range (unmarked_from (written' n).marks (max member.from (written' n).committed) (written' n).entries)) at
-      ∙ ap (λ (w : Written). counting range (unmarked_from w.marks (max member.from w.committed) w.entries)) differ.here
-      ∙ rest_inside range item (written master).marks (max member.from (written master).committed) (written master).entries inside free from
-      ∙ ap (λ (n : ℕ). counting range (unmarked_from (written n).marks (max member.from (written n).committed) (written n).entries) ++ entries.Held item ∷ []) (sym at)
+      let from : max member.from (written master).applied ≤ length (written master).entries =
+      subst (λ (m : Member). max m.from (written master).applied ≤ length (written master).entries) (sym same) within in
+      ap (λ (n : ℕ). counting range (unmarked_from (written' n).marks (max member.from (written' n).applied) (written' n).entries)) at
+      ∙ ap (λ (w : Written). counting range (unmarked_from w.marks (max member.from w.applied) w.entries)) differ.here
+      ∙ rest_inside range item (written master).marks (max member.from (written master).applied) (written master).entries inside free from
+      ∙ ap (λ (n : ℕ). counting range (unmarked_from (written n).marks (max member.from (written n).applied) (written n).entries) ++ entries.Held item ∷ []) (sym at)
   lineage_rest_grown range (member ∷ next ∷ more) last is here inside free within =
       lineage_rest_grown range (next ∷ more) last is here inside free within
 
   -- the truth of every row is as before
-  pub truths_staged : (written master).committed ≤ length (written master).entries → (base : Base) → ◌≡◌ {A = Row → List Entry} (truth_of base written') (truth_of base written)
+  pub truths_staged : (written master).applied ≤ length (written master).entries → (base : Base) → ◌≡◌ {A = Row → List Entry} (truth_of base written') (truth_of base written)
   truths_staged within base i row =
       (truth_is base written' row.range (lineage_of row.phase)
       ∙ ap (λ (sure : Range → Member → List Entry). truth_by base sure row.range (lineage_of row.phase))
@@ -101,8 +104,8 @@ module _ (written written' : ℕ → Written) (master : ℕ) (item : Held) (diff
 -- ---- the world
 
 module _ (w : World) (master number : ℕ) (call : Call) (value : Option (List ℕ)) where
-  pub table_staged : ◌≡◌ {A = ℕ → List Held} (table_in (call_staged w master number call value)) (table_in w)
-  table_staged = same_of_all (λ q m. m.table) w master _ refl
+  pub records_staged : ◌≡◌ {A = ℕ → List Held} (records_in (call_staged w master number call value)) (records_in w)
+  records_staged = same_of_all (λ q m. m.records) w master _ refl
 
   pub numbers_staged : (q : ℕ) → (master_at (call_staged w master number call value) q).number ≡ (master_at w q).number
   numbers_staged q = same_of_each (λ q m. m.number) w master _ refl q
@@ -110,29 +113,29 @@ module _ (w : World) (master number : ℕ) (call : Call) (value : Option (List �
   pub known_staged : (q : ℕ) → (master_at (call_staged w master number call value) q).log.known ≡ (master_at w q).log.known
   known_staged q = same_of_each (λ q m. m.log.known) w master _ refl q
 
-  logs_staged : DiffersAt master (with_entry (log_in w master) (entries.Held (item_of call (kept_in w master number).handover.counter value))) (log_in w) (log_in (call_staged w master number call value))
+  logs_staged : DiffersAt master (with_entry (log_in w master) (entries.Held (item_of call (tablet_in w master number).handover.counter value))) (log_in w) (log_in (call_staged w master number call value))
   logs_staged = record {
     here = ap (λ (m : Master). m.log) (master_same w master _ master refl);
     others = λ q apart. ap (λ (m : Master). m.log) (master_other w master _ q apart);
   }
 
-  pub written_staged : DiffersAt master (with_one_more (written_in w master) (entries.Held (item_of call (kept_in w master number).handover.counter value))) (written_in w) (written_in (call_staged w master number call value))
+  pub written_staged : DiffersAt master (with_one_more (written_in w master) (entries.Held (item_of call (tablet_in w master number).handover.counter value))) (written_in w) (written_in (call_staged w master number call value))
   written_staged = record {
-    here = ap (λ (m : Master). written_by m (marks_of w.desk master)) (master_same w master _ master refl);
-    others = λ q apart. ap (λ (m : Master). written_by m (marks_of w.desk q)) (master_other w master _ q apart);
+    here = ap (λ (m : Master). written_by m (marks_of w.ledger master)) (master_same w master _ master refl);
+    others = λ q apart. ap (λ (m : Master). written_by m (marks_of w.ledger q)) (master_other w master _ q apart);
   }
 
-  calls_staged : DiffersAt master (with_at (calls_in w master) (length (written_in w master).entries) call) (calls_in w) (calls_in (call_staged w master number call value))
+  calls_staged : DiffersAt master (insert (calls_in w master) (length (written_in w master).entries) call) (calls_in w) (calls_in (call_staged w master number call value))
   calls_staged = record {
     here = ap (λ (m : Master). m.calls) (master_same w master _ master refl);
     others = λ q apart. ap (λ (m : Master). m.calls) (master_other w master _ q apart);
   }
 
-  keeps_staged : KeepsNow master number (counted_up (kept_in w master number)) (kept_in w) (kept_in (call_staged w master number call value))
+  keeps_staged : KeepsNow master number (counted_up (tablet_in w master number)) (tablet_in w) (tablet_in (call_staged w master number call value))
   keeps_staged =
-      keeps_with w master number _ (counted_up (kept_in w master number))
-      (tablet_here (master_at w master) number (counted_up (kept_in w master number)))
-      (tablet_apart (master_at w master) number (counted_up (kept_in w master number)))
+      keeps_with w master number _ (counted_up (tablet_in w master number))
+      (tablet_here (master_at w master) number (counted_up (tablet_in w master number)))
+      (tablet_apart (master_at w master) number (counted_up (tablet_in w master number)))
 
 -- the last member is one of the lineage
 last_stands : (members : List Member) (last : Member) → last_of members ≡ Some last → Contains members last
@@ -146,23 +149,23 @@ abbrev pub lane_of : World → Lane
 lane_of w = record {
   logs = log_in w;
   written = written_in w;
-  keeps = kept_in w;
+  tablets = tablet_in w;
   calls = calls_in w;
   rests = rest_of (written_in w);
 }
 
 -- a write that may be staged is staged so
-pub stages : (w : World) (master : ℕ) (call : Call) (value : Option (List ℕ)) → IsSound w → (may : MayStage w master call value) → Stages w.coordinator.rows (lane_of w) (lane_of (call_staged w master may.served.row.tablet call value)) master may.served.row call (item_of call (kept_in w master may.served.row.tablet).handover.counter value)
+pub stages : (w : World) (master : ℕ) (call : Call) (value : Option (List ℕ)) → IsSound w → (may : MayStage w master call value) → Stages w.coordinator.rows (lane_of w) (lane_of (call_staged w master may.served.row.tablet call value)) master may.served.row call (item_of call (tablet_in w master may.served.row.tablet).handover.counter value)
 stages w master call value sound may =
     let served = may.served in
     let row = served.row in
-    let item = item_of call (kept_in w master row.tablet).handover.counter value in
+    let item = item_of call (tablet_in w master row.tablet).handover.counter value in
     let differ = written_staged w master row.tablet call value in
-    let log = sound.logs.kept master in
-    let within = committed_within (log_in w master) (written_in w master) _ log in
+    let log = sound.logs.each master in
+    let within = applied_within (log_in w master) (written_in w master) _ log in
     let outside : (other : Row) → Contains w.coordinator.rows other → (other.tablet ≡ row.tablet → ⊥) → has_key other.range item.table item.key ≡ false =
     λ other stands apart. in_one_row w.coordinator.rows row other call.table call.key sound.rows.apart served.has_row stands apart served.in_row in
-    let placed : max served.last.from (written_in w master).committed ≤ length (written_in w master).entries =
+    let placed : max served.last.from (written_in w master).applied ≤ length (written_in w master).entries =
     let at = All-contains (IsPlaced (written_in w)) (lineage_of row.phase) served.last (All-contains (λ r. All (IsPlaced (written_in w)) (lineage_of r.phase)) w.coordinator.rows row sound.rows.placed served.has_row) (last_stands (lineage_of row.phase) served.last served.is_last) in
     let here : served.last.from ≤ length (written_in w master).entries = subst (λ (n : ℕ). served.last.from ≤ length (written_in w n).entries) served.here at in
     omega (arith, here, within) in
@@ -186,8 +189,8 @@ stages w master call value sound may =
 -- so the truth of every row is as before
 pub truths_same : (w : World) (master : ℕ) (call : Call) (value : Option (List ℕ)) → IsSound w → (may : MayStage w master call value) → ◌≡◌ {A = Row → List Entry} (truth_of w.base (written_in (call_staged w master may.served.row.tablet call value))) (truth_of w.base (written_in w))
 truths_same w master call value sound may =
-    let log = sound.logs.kept master in
+    let log = sound.logs.each master in
     truths_staged (written_in w) (written_in (call_staged w master may.served.row.tablet call value)) master
-    (item_of call (kept_in w master may.served.row.tablet).handover.counter value)
+    (item_of call (tablet_in w master may.served.row.tablet).handover.counter value)
     (written_staged w master may.served.row.tablet call value)
-    (committed_within (log_in w master) (written_in w master) _ log) w.base
+    (applied_within (log_in w master) (written_in w master) _ log) w.base

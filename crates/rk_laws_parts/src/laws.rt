@@ -9,9 +9,9 @@ ghost use Rattle.rk_types.specs.declared.call.Call.{Call};
 ghost use Rattle.rk_types.specs.Range.{meets};
 ghost use Rattle.rk_world.specs.Base.{Base};
 ghost use Rattle.rk_world.specs.Sound.Logs.{stored_of};
-ghost use Rattle.rk_world.specs.Sound.Small.{MayComeTo, MayFreeze, MayKeep, MaySend, MayStage, call_staged, client_come, message_forgotten, message_sent, request_kept, tablet_frozen};
+ghost use Rattle.rk_world.specs.Sound.Small.{MayComeTo, MayFreeze, MaySave, MaySend, MayStage, call_staged, client_come, message_forgotten, message_sent, request_saved, tablet_frozen};
 ghost use Rattle.rk_world.specs.Sound.Whole.{IsSound};
-ghost use Rattle.rk_world.specs.World.{World, backup_at, kept_in, lives, log_in, new_world, written_in};
+ghost use Rattle.rk_world.specs.World.{World, backup_at, tablet_in, lives, log_in, new_world, written_in};
 
 /// A lane where nothing has happened is sound, with any number of masters and one backup or more, whatever its history
 /// starts from.
@@ -20,15 +20,15 @@ pub fn new_lanes_are_sound()
         → 1 ≤ backups → IsSound (new_world base lane masters backups) }
 {}
 
-/// A sound lane stays sound when a message is sent or forgotten, when a client comes, when a request is kept that may be
+/// A sound lane stays sound when a message is sent or forgotten, when a client comes, when a request is saved that may be
 /// sent again, when a write is staged, and when a tablet freezes, wherever the condition of the change holds; forgetting
 /// has none.
 pub fn small_changes_keep_lanes_sound()
     ensures sent { (w : World) (message : Message) → IsSound w → MaySend w message → IsSound (message_sent w message) }
     ensures forgotten { (w : World) (number : ℕ) → IsSound w → IsSound (message_forgotten w number) }
     ensures come { (w : World) (client : ℕ) → IsSound w → MayComeTo w client → IsSound (client_come w client) }
-    ensures kept { (w : World) (client : ℕ) (message : Message)
-        → IsSound w → MayKeep w client message → IsSound (request_kept w client message) }
+    ensures saved { (w : World) (client : ℕ) (message : Message)
+        → IsSound w → MaySave w client message → IsSound (request_saved w client message) }
     ensures staged { (w : World) (master : ℕ) (call : Call) (value : Option (List ℕ))
         → IsSound w → (may : MayStage w master call value)
         → IsSound (call_staged w master may.served.row.tablet call value) }
@@ -40,16 +40,16 @@ pub fn small_changes_keep_lanes_sound()
 pub fn one_master_answers()
     ensures one { (w : World) (row : Row) (a b i j : ℕ)
         → IsSound w → Contains w.coordinator.rows row → lives w a ≡ true → lives w b ≡ true
-        → is_serving (kept_in w a i).handover.role ≡ true → is_serving (kept_in w b j).handover.role ≡ true
-        → meets (kept_in w a i).handover.range row.range ≡ true
-        → meets (kept_in w b j).handover.range row.range ≡ true
+        → is_serving (tablet_in w a i).handover.role ≡ true → is_serving (tablet_in w b j).handover.role ≡ true
+        → meets (tablet_in w a i).handover.range row.range ≡ true
+        → meets (tablet_in w b j).handover.range row.range ≡ true
         → (a ≡ b) × (i ≡ j) }
 {}
 
 /// In a sound lane every backup stores each committed entry of each master, up to its end.
 pub fn what_is_committed_is_stored()
     ensures stored { (w : World) (master backup place : ℕ)
-        → IsSound w → IsBackup (log_in w master) backup → place < (written_in w master).committed
+        → IsSound w → IsBackup (log_in w master) backup → place < (written_in w master).applied
         → IfSome (slice_get (ends (written_in w master).entries) place)
         (λ end. end.offset ≤ length (stored_of (backup_at w) master backup end.segment)) }
 {}

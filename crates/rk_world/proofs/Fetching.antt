@@ -12,10 +12,10 @@ use Rattle.rk_entry.specs.Numbers.{number_bytes}
 use Rattle.rk_entry.specs.Spelling.{head_bytes, held_bytes, refused_bytes, carried_bytes, joined_bytes, body_length, front_bytes, spelled, mark_of}
 use Rattle.rk_entry.specs.Texts.{key_bytes, value_bytes}
 use Rattle.rk_world.specs.declared.event.Event.TheVariants as events
+use Rattle.rk_world.proofs.Granted.{filled, granted}
+use Rattle.rk_world.proofs.Scene.{Scene, Does, Calls, Asks, Delivers, played, answers_of, a, x}
 use Rattle.rk_world.specs.Master.{tablet_at}
 use Rattle.rk_world.specs.World.{master_at}
-use Rattle.rk_world.proofs.Scene.{Scene, Does, Calls, Asks, Delivers, played, answers_of, a, x}
-use Rattle.rk_world.proofs.Granted.{filled, granted}
 
 -- a client reads a at the target before anything was pulled
 early : Scene
@@ -40,7 +40,7 @@ fetched =
     Does (events.Turn (nodes.Master 2)) ∷ Delivers 26 ∷ Delivers 28 ∷ [])
 
 -- the record is there, and still nothing was pulled
-fetched_items : map (λ item. item.key) (master_at fetched.world 2).table ≡ a ∷ []
+fetched_items : map (λ item. item.key) (master_at fetched.world 2).records ≡ a ∷ []
 unfolding fetched early granted filled hash_of spelled_of spelled_all spelled front_bytes body_length head_bytes held_bytes refused_bytes carried_bytes joined_bytes mark_of number_bytes key_bytes value_bytes range_bytes outcome_bytes end_bytes ends_bytes segments_bytes
 fetched_items = refl
 

@@ -3,5 +3,4 @@ pub mod Granted
 mod Writing
 mod Migrating
 mod Fetching
-mod TargetCrash
-mod SourceCrash
+mod Crashes

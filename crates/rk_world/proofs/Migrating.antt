@@ -11,12 +11,12 @@ use Rattle.rk_entry.specs.Lists.{ends_bytes, segments_bytes}
 use Rattle.rk_entry.specs.Numbers.{number_bytes}
 use Rattle.rk_entry.specs.Spelling.{head_bytes, held_bytes, refused_bytes, carried_bytes, joined_bytes, body_length, front_bytes, spelled, mark_of}
 use Rattle.rk_entry.specs.Texts.{key_bytes, value_bytes}
-use Rattle.rk_tablet_map.specs.declared.phase.Phase.TheVariants.{Owned, Moving}
 use Rattle.rk_transfer.specs.declared.role.Role.TheVariants as roles
+use Rattle.rk_tablet_map.specs.declared.phase.Phase.TheVariants.{Owned, Moving}
 use Rattle.rk_world.specs.declared.event.Event.TheVariants as events
-use Rattle.rk_world.specs.World.{master_at}
-use Rattle.rk_world.proofs.Scene.{Scene, Does, Calls, Asks, Delivers, played, answers_of, phases_of, role_at, a, i, x, y}
 use Rattle.rk_world.proofs.Granted.{filled, granted, overwritten}
+use Rattle.rk_world.proofs.Scene.{Scene, Does, Calls, Asks, Delivers, played, answers_of, phases_of, role_at, a, i, x, y}
+use Rattle.rk_world.specs.World.{master_at}
 
 -- the source is frozen
 granted_source : role_at granted 1 ≡ roles.Frozen
@@ -33,7 +33,7 @@ granted_row : phases_of granted ≡ Moving 1 0 2 0 ∷ []
 unfolding granted filled hash_of spelled_of spelled_all spelled front_bytes body_length head_bytes held_bytes refused_bytes carried_bytes joined_bytes mark_of number_bytes key_bytes value_bytes range_bytes outcome_bytes end_bytes ends_bytes segments_bytes
 granted_row = refl
 
--- the write at the target becomes committed, and all records are pulled
+-- the write at the target becomes applied, and all records are pulled
 pulled : Scene
 pulled =
     played overwritten (
@@ -46,7 +46,7 @@ unfolding pulled overwritten granted filled hash_of spelled_of spelled_all spell
 pulled_answers = refl
 
 -- the pulled record of a did not take its place
-pulled_keeps : map (λ item. item.version) (master_at pulled.world 2).table ≡ 3 ∷ 2 ∷ []
+pulled_keeps : map (λ item. item.version) (master_at pulled.world 2).records ≡ 3 ∷ 2 ∷ []
 unfolding pulled overwritten granted filled hash_of spelled_of spelled_all spelled front_bytes body_length head_bytes held_bytes refused_bytes carried_bytes joined_bytes mark_of number_bytes key_bytes value_bytes range_bytes outcome_bytes end_bytes ends_bytes segments_bytes
 pulled_keeps = refl
 
@@ -74,7 +74,7 @@ unfolding moved pulled overwritten granted filled hash_of spelled_of spelled_all
 moved_target = refl
 
 -- the source has nothing of it any more
-moved_source : (master_at moved.world 1).table ≡ []
+moved_source : (master_at moved.world 1).records ≡ []
 unfolding moved pulled overwritten granted filled hash_of spelled_of spelled_all spelled front_bytes body_length head_bytes held_bytes refused_bytes carried_bytes joined_bytes mark_of number_bytes key_bytes value_bytes range_bytes outcome_bytes end_bytes ends_bytes segments_bytes
 moved_source = refl
 

@@ -1,28 +1,28 @@
 -- A scene for worked examples: the world of a lane and its clients, and what is done with them, act by act.
 use Rattle.std.specs.Prelude.{ℕ, List, [], ◌∷◌, fold, map, Option, Some, None, Result, Ok, Err}
+use Rattle.rk_types.specs.NumberMap.{NumberMap, get, get_or, insert}
 use Rattle.rk_types.specs.declared.call.Op.{Op}
 use Rattle.rk_types.specs.declared.call.Outcome.{Outcome}
 use Rattle.rk_types.specs.declared.node.Node.{Node}
 use Rattle.rk_types.specs.declared.node.Node.TheVariants as nodes
 use Rattle.rk_types.specs.declared.range.Range.{Range}
-use Rattle.rk_message.specs.declared.message.Message.{Message}
-use Rattle.rk_tablet_map.specs.declared.phase.Phase.{Phase}
 use Rattle.rk_transfer.specs.declared.role.Role.{Role}
+use Rattle.rk_tablet_map.specs.declared.phase.Phase.{Phase}
+use Rattle.rk_message.specs.declared.message.Message.{Message}
 use Rattle.rk_world.specs.declared.error.StepError.{StepError}
 use Rattle.rk_world.specs.declared.event.Event.{Event}
 use Rattle.rk_world.specs.declared.event.Event.TheVariants as events
-use Rattle.rk_world.specs.Calls.{Visited, ask, accept}
-use Rattle.rk_world.specs.Client.{Session, new_session, with_next_call}
-use Rattle.rk_world.specs.Master.{tablet_at}
-use Rattle.rk_world.specs.Step.{Stepped, step}
-use Rattle.rk_world.specs.Tables.{Table, look_up, look_up_or, with_at}
 use Rattle.rk_world.specs.Base.{no_base}
+use Rattle.rk_world.specs.Master.{tablet_at}
+use Rattle.rk_world.specs.Client.{Session, new_session, with_next_call}
 use Rattle.rk_world.specs.World.{World, new_world, master_at}
+use Rattle.rk_world.specs.Step.{Stepped, step}
+use Rattle.rk_world.specs.Calls.{Visited, ask, accept}
 
 -- the world of a lane, and the session of each client
 pub record Scene : Type 0 where
   pub world : World
-  pub sessions : Table Session
+  pub sessions : NumberMap Session
 
 -- what is done: an event; one whose replica fails after so many bytes; a call that a client asks; a client's turn; a
 -- message that a client takes; and a message that is delivered to whoever it is for, and forgotten
@@ -36,7 +36,7 @@ pub data Act : Type 0 where
 
 -- the session of a client
 abbrev pub session_of : Scene → ℕ → Session
-session_of scene client = look_up_or (new_session client) scene.sessions client
+session_of scene client = get_or (new_session client) scene.sessions client
 
 -- the scene after an event; one that is refused changes nothing
 abbrev pub stepped_in : Scene → Result Stepped StepError → Scene
@@ -46,7 +46,7 @@ stepped_in scene (Err error) = scene
 -- the scene after a client's turn or answer
 abbrev pub visited_in : Scene → ℕ → Result Visited StepError → Scene
 visited_in scene client (Ok visited) =
-    record { world = visited.world; sessions = with_at scene.sessions client visited.session }
+    record { world = visited.world; sessions = insert scene.sessions client visited.session }
 visited_in scene client (Err error) = scene
 
 -- an event happens; `failed` tells whether a replica failed
@@ -72,10 +72,10 @@ abbrev pub acted : Scene → Act → Scene
 acted scene (Does event) = does scene event None
 acted scene (Fails event count) = does scene event (Some count)
 acted scene (Calls client key op) =
-    record scene { sessions = with_at scene.sessions client (with_next_call (session_of scene client) 1 key op) }
+    record scene { sessions = insert scene.sessions client (with_next_call (session_of scene client) 1 key op) }
 acted scene (Asks client) = visited_in scene client (ask scene.world (session_of scene client))
 acted scene (Takes client number) = takes scene client number
-acted scene (Delivers number) = delivers_if scene number (look_up scene.world.desk.wire number)
+acted scene (Delivers number) = delivers_if scene number (get scene.world.wire.messages number)
 
 -- the scene after acts, one after the other
 abbrev pub played : Scene → List Act → Scene
@@ -118,8 +118,8 @@ role_at scene master = (tablet_at (master_at scene.world master) 1).handover.rol
 
 -- the outcomes of the journal
 abbrev pub recorded_in : Scene → List Outcome
-recorded_in scene = map (λ placed. placed.outcome) scene.world.desk.journal
+recorded_in scene = map (λ placed. placed.outcome) scene.world.ledger.journal
 
--- how many first entries of a master are committed
-abbrev pub committed_at : Scene → ℕ → ℕ
-committed_at scene master = (master_at scene.world master).committed
+-- how many first entries of a master are applied
+abbrev pub applied_at : Scene → ℕ → ℕ
+applied_at scene master = (master_at scene.world master).applied

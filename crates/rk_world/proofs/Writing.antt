@@ -12,8 +12,8 @@ use Rattle.rk_entry.specs.Numbers.{number_bytes}
 use Rattle.rk_entry.specs.Spelling.{head_bytes, held_bytes, refused_bytes, carried_bytes, joined_bytes, body_length, front_bytes, spelled, mark_of}
 use Rattle.rk_entry.specs.Texts.{key_bytes, value_bytes}
 use Rattle.rk_world.specs.declared.event.Event.TheVariants as events
+use Rattle.rk_world.proofs.Scene.{Scene, Does, Calls, Asks, Delivers, played, start, answers_of, recorded_in, applied_at, a, x, y}
 use Rattle.rk_world.specs.World.{master_at}
-use Rattle.rk_world.proofs.Scene.{Scene, Does, Calls, Asks, Delivers, played, start, answers_of, recorded_in, committed_at, a, x, y}
 
 -- the put of x at a has reached its master
 staged : Scene
@@ -21,8 +21,8 @@ staged =
     played (start 2) (
     Calls 1 a (Put x) ∷ Asks 1 ∷ Delivers 1 ∷ Delivers 2 ∷ Asks 1 ∷ Delivers 3 ∷ [])
 
--- it is in the log, and not committed
-staged_waits : committed_at staged 1 ≡ 0
+-- it is in the log, and not applied
+staged_waits : applied_at staged 1 ≡ 0
 unfolding staged hash_of spelled_of spelled_all spelled front_bytes body_length head_bytes held_bytes refused_bytes carried_bytes joined_bytes mark_of number_bytes key_bytes value_bytes range_bytes outcome_bytes end_bytes ends_bytes segments_bytes
 staged_waits = refl
 
@@ -38,7 +38,7 @@ half =
     Does (events.Turn (nodes.Master 1)) ∷ Delivers 4 ∷ Delivers 6 ∷ [])
 
 -- one of two is not enough
-half_waits : committed_at half 1 ≡ 0
+half_waits : applied_at half 1 ≡ 0
 unfolding half staged hash_of spelled_of spelled_all spelled front_bytes body_length head_bytes held_bytes refused_bytes carried_bytes joined_bytes mark_of number_bytes key_bytes value_bytes range_bytes outcome_bytes end_bytes ends_bytes segments_bytes
 half_waits = refl
 
@@ -48,8 +48,8 @@ written =
     played half (
     Delivers 5 ∷ Delivers 7 ∷ Delivers 8 ∷ [])
 
--- the put is committed
-written_commits : committed_at written 1 ≡ 1
+-- the put is applied
+written_commits : applied_at written 1 ≡ 1
 unfolding written half staged hash_of spelled_of spelled_all spelled front_bytes body_length head_bytes held_bytes refused_bytes carried_bytes joined_bytes mark_of number_bytes key_bytes value_bytes range_bytes outcome_bytes end_bytes ends_bytes segments_bytes
 written_commits = refl
 
@@ -92,6 +92,6 @@ unfolding refused again written half staged hash_of spelled_of spelled_all spell
 refused_answers = refl
 
 -- its refusal is an entry of the log like any other
-refused_entry : committed_at refused 1 ≡ 2
+refused_entry : applied_at refused 1 ≡ 2
 unfolding refused again written half staged hash_of spelled_of spelled_all spelled front_bytes body_length head_bytes held_bytes refused_bytes carried_bytes joined_bytes mark_of number_bytes key_bytes value_bytes range_bytes outcome_bytes end_bytes ends_bytes segments_bytes
 refused_entry = refl

@@ -1,9 +1,9 @@
--- A backup: it keeps the segments of the masters' logs, which only grow at their end.
+-- A backup: it stores the segments of the masters' logs, which only grow at their end.
 use Rattle.std.specs.Prelude.{ℕ, ◌==◌, ◌&&◌, Bool, true, false, if◌then◌else◌, List, [], ◌∷◌, length, take, Option, Some, None}
-use Rattle.rk_backup.specs.Accepts.{added}
-use Rattle.rk_outside.specs.Segments.{Segments, bytes_of, with_part}
 use Rattle.rk_types.specs.declared.node.Node.{Node}
 use Rattle.rk_types.specs.declared.node.Node.TheVariants as nodes
+use Rattle.rk_outside.specs.Segments.{Segments, bytes_of, with_part}
+use Rattle.rk_backup.specs.Accepts.{added}
 use Rattle.rk_message.specs.declared.message.Body.{Body}
 use Rattle.rk_message.specs.declared.message.Body.TheVariants as bodies
 use Rattle.rk_message.specs.declared.message.Message.{Message}
@@ -32,14 +32,14 @@ with_more segments master segment bytes =
     with_stored segments master segment (with_part (segments master segment) bytes)
 
 -- how much of these bytes was added: all, or where the replica failed the first so many
-abbrev pub kept_of : List ℕ → Option ℕ → List ℕ
-kept_of bytes None = bytes
-kept_of bytes (Some count) = take count bytes
+abbrev pub stored_part : List ℕ → Option ℕ → List ℕ
+stored_part bytes None = bytes
+stored_part bytes (Some count) = take count bytes
 
--- a backup takes an Append; where the replica fails it may keep a first part of the bytes
+-- a backup takes an Append; where the replica fails it may store a first part of the bytes
 abbrev pub append_taken : Segments → ℕ → Append → Option ℕ → Segments
 append_taken segments master append failed =
-    with_more segments master append.segment (kept_of (added_by segments master append) failed)
+    with_more segments master append.segment (stored_part (added_by segments master append) failed)
 
 -- how much of the segment is stored then
 abbrev pub stored_of : Segments → ℕ → Append → Stored
@@ -91,7 +91,7 @@ append_told segments backup master append = record {
   lost = false;
 }
 
--- a backup takes an Append; where its replica fails, a first part may be kept and nothing is told
+-- a backup takes an Append; where its replica fails, a first part may be stored and nothing is told
 abbrev pub append_step : Segments → ℕ → ℕ → Append → Option ℕ → Backed
 append_step segments backup master append None =
     append_told (append_taken segments master append None) backup master append
@@ -116,7 +116,7 @@ master_message segments backup master (bodies.Read read) log failed =
 master_message segments backup master _ log failed = idle segments
 
 -- a backup takes a message, by its sender; `failed` tells whether its replica failed, and of an append how many bytes that
--- kept
+-- stored
 abbrev pub backup_step : Segments → ℕ → Node → Body → (ℕ → ℕ → List ℕ) → Option ℕ → Backed
 backup_step segments backup (nodes.Master master) body log failed =
     master_message segments backup master body log failed

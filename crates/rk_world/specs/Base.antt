@@ -3,10 +3,10 @@ use Rattle.std.specs.Prelude.{ℕ, List, [], ◌∷◌, ◌++◌, Option, Some, 
 use Rattle.rk_types.specs.declared.call.Ended.{Ended}
 use Rattle.rk_types.specs.declared.held.Held.{Held}
 use Rattle.rk_types.specs.declared.range.Range.{Range}
-use Rattle.rk_entry.specs.declared.entry.Entry.{Entry}
-use Rattle.rk_entry.specs.declared.entry.Entry.TheVariants as entries
 use Rattle.rk_model.specs.History.{Map, with_entry, empty_map}
 use Rattle.rk_model.specs.Machine.{Entry as MapEntry, live, gone}
+use Rattle.rk_entry.specs.declared.entry.Entry.{Entry}
+use Rattle.rk_entry.specs.declared.entry.Entry.TheVariants as entries
 use Rattle.rk_world.specs.Material.{counting, as_entries}
 
 -- what a history starts from: the items that were there, and the last end of each client

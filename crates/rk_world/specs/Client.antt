@@ -2,6 +2,7 @@
 use Rattle.std.specs.Prelude.{◌≡◌, ◌≤◌, ℕ, ◌+◌, ◌==◌, Bool, not, max, if◌then◌else◌, List, [], ◌∷◌, ◌++◌, filter, find, Option, Some, None, IfSome, All}
 use Rattle.std.specs.Option.{option_map}
 use Rattle.rk_types.specs.Hashing.{hash_of, lane_of}
+use Rattle.rk_types.specs.NumberMap.{NumberMap, get_or, insert}
 use Rattle.rk_types.specs.Range.{meets}
 use Rattle.rk_types.specs.declared.call.Answer.{Answer}
 use Rattle.rk_types.specs.declared.call.Answer.TheVariants as answers
@@ -17,15 +18,14 @@ use Rattle.rk_message.specs.declared.message.Body.TheVariants as bodies
 use Rattle.rk_message.specs.declared.message.Message.{Message}
 use Rattle.rk_world.specs.declared.event.Taken.{Taken}
 use Rattle.rk_world.specs.declared.event.Taken.TheVariants as taken
-use Rattle.rk_world.specs.Tables.{Table, look_up_or, with_at}
-use Rattle.rk_world.specs.Material.{has_key}
+use Rattle.rk_world.specs.Ranges.{has_key}
 
--- how many requests of a call are sent to a kept owner before it is looked up again
+-- how many requests of a call are sent to a cached owner before it is looked up again
 abbrev pub MOST_REQUESTS : ℕ
 MOST_REQUESTS = 3
 
 -- a client's session: its receipts, oldest first; the seq of its last call; its outstanding call; the highest stamp that it
--- has seen; how many requests of that call it sent since it last looked up or was told where; the ranges that it keeps, by lane; and
+-- has seen; how many requests of that call it sent since it last looked up or was told where; the ranges that it cached, by lane; and
 -- its last request
 pub record Session : Type 0 where
   pub client : ℕ
@@ -34,7 +34,7 @@ pub record Session : Type 0 where
   pub outstanding : Option Call
   pub seen : ℕ
   pub requests : ℕ
-  pub ranges : Table (List Located)
+  pub ranges : NumberMap (List Located)
   pub request : Option Message
 
 -- the outstanding call is the client's own last one, and no receipt has a stamp that was not seen
@@ -76,23 +76,23 @@ with_next_call session table key op = record session {
 abbrev pub call_lane : Call → ℕ
 call_lane call = lane_of (hash_of call.key)
 
--- the ranges that are kept in a lane
+-- the ranges that are cached of a lane
 abbrev pub ranges_in : Session → ℕ → List Located
-ranges_in session lane = look_up_or [] session.ranges lane
+ranges_in session lane = get_or [] session.ranges lane
 
--- whether a kept range has the key of a call
+-- whether a cached range has the key of a call
 abbrev pub has_call : Call → Located → Bool
 has_call call located = has_key located.range call.table call.key
 
--- the kept range that has the key of a call
+-- the cached range that has the key of a call
 abbrev pub range_of : Session → Call → Option Located
 range_of session call = find (has_call call) (ranges_in session (call_lane call))
 
--- the kept range that has the key of a call is dropped
+-- the cached range that has the key of a call is dropped
 abbrev pub without_range : Session → Call → Session
 without_range session call = record session {
   ranges =
-      with_at session.ranges (call_lane call)
+      insert session.ranges (call_lane call)
       (filter (λ located. not (has_call call located)) (ranges_in session (call_lane call)));
 }
 
@@ -124,12 +124,12 @@ request_of session call tablet master = record {
   });
 }
 
--- the client asks where the key is, and forgets what it kept of it
+-- the client asks where the key is, and forgets the range that it cached
 abbrev pub looking_up : Session → Call → ClientTurn
 looking_up session call =
     record { session = record (without_range session call) { requests = 0 }; message = lookup_of session call }
 
--- the client sends a request to the owner that it keeps
+-- the client sends a request to the owner that it cached
 abbrev pub requesting : Session → Call → ℕ → ℕ → ClientTurn
 requesting session call tablet master = record {
   session = record session {
@@ -139,12 +139,12 @@ requesting session call tablet master = record {
   message = request_of session call tablet master;
 }
 
--- a request to the owner of a kept range; one without an owner is not kept
+-- a request to the owner of a cached range; one without an owner is not cached
 abbrev pub turn_to : Session → Call → ℕ → Option ℕ → ClientTurn
 turn_to session call tablet (Some master) = requesting session call tablet master
 turn_to session call tablet None = looking_up session call
 
--- the turn of a client with an outstanding call, by the range that it keeps
+-- the turn of a client with an outstanding call, by the range that it cached
 abbrev pub turn_by : Session → Call → Option Located → ClientTurn
 turn_by session call None = looking_up session call
 turn_by session call (Some located) =
@@ -173,11 +173,11 @@ abbrev pub owned_range : Located → Option ℕ → List Located
 owned_range located None = []
 owned_range located (Some owner) = located ∷ []
 
--- a range is kept in place of those that it meets, where it has an owner
+-- a range is cached in place of those that it meets, where it has an owner
 abbrev pub with_range : Session → ℕ → Located → Session
 with_range session lane located = record session {
   ranges =
-      with_at session.ranges lane
+      insert session.ranges lane
       (filter (λ other. not (meets other.range located.range)) (ranges_in session lane)
       ++ owned_range located located.owner);
   requests = 0;

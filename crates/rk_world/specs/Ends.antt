@@ -1,5 +1,5 @@
 -- How calls ended: what the entries of a log tell of it, and the last end of each client.
-use Rattle.std.specs.Prelude.{ℕ, if◌then◌else◌, List, [], ◌∷◌, map, Option, Some, None}
+use Rattle.std.specs.Prelude.{ℕ, if◌then◌else◌, List, [], ◌∷◌, Option, Some, None}
 use Rattle.std.specs.List.{flat_map}
 use Rattle.rk_types.specs.declared.call.End.{End}
 use Rattle.rk_types.specs.declared.call.End.TheVariants as ends
@@ -10,10 +10,7 @@ use Rattle.rk_types.specs.declared.held.Held.{Held}
 use Rattle.rk_entry.specs.declared.entry.Entry.{Entry}
 use Rattle.rk_entry.specs.declared.entry.Entry.TheVariants as entries
 use Rattle.rk_entry.specs.declared.entry.Refused.{Refused}
-use Rattle.rk_done.specs.Completions.{ended_of, is_later, look_of}
-use Rattle.rk_done.specs.declared.kept.Kept.{Kept}
-use Rattle.rk_done.specs.declared.kept.Look.{Look}
-use Rattle.rk_world.specs.Tables.{Table, look_up, with_at}
+use Rattle.rk_done.specs.Completions.{completions_from, Completions}
 
 -- the outcome that tells an end
 abbrev pub outcome_of : End → Outcome
@@ -61,30 +58,6 @@ items_in (entries.Joined joined) = []
 abbrev pub items_of : List Entry → List Held
 items_of entries = flat_map items_in entries
 
--- the last end of each client, by rising client
-abbrev pub Completions : Type 0
-Completions = Table Kept
-
--- the last ends after one more: a later call of its client takes the place of the one that is kept
-abbrev pub noted : Completions → Ended → Completions
-noted kept ended =
-    if is_later (look_up kept ended.client) ended.seq
-    then with_at kept ended.client (record { seq = ended.seq; end = ended.end })
-    else kept
-
--- the last ends after these, begun with those that are kept
-abbrev pub completions_from : Completions → List Ended → Completions
-completions_from kept [] = kept
-completions_from kept (ended ∷ later) = completions_from (noted kept ended) later
-
--- the last ends that entries tell
+-- how each client's last call ended, as entries tell it
 abbrev pub completions : List Entry → Completions
 completions entries = completions_from [] (told entries)
-
--- the last ends, as they are told
-abbrev pub ends_of : Completions → List Ended
-ends_of kept = map ended_of kept
-
--- what is known of the call of a client with a seq
-abbrev pub look : Completions → ℕ → ℕ → Look
-look kept client seq = look_of (look_up kept client) seq

@@ -1,31 +1,32 @@
 -- What a master makes of the messages that hand a tablet over.
-use Rattle.std.specs.Prelude.{ℕ, ◌==◌, ◌&&◌, ◌||◌, Bool, not, nat_lt, if◌then◌else◌, [], length, map, Option, Some, None}
+use Rattle.std.specs.Prelude.{[], ℕ, ◌==◌, ◌&&◌, ◌||◌, Bool, not, nat_lt, if◌then◌else◌, length, map, Option, Some, None}
 use Rattle.std.specs.List.{list_all}
 use Rattle.rk_types.specs.Range.{meets}
 use Rattle.rk_types.specs.declared.node.Node.TheVariants as nodes
 use Rattle.rk_types.specs.declared.range.Range.{Range}
 use Rattle.rk_entry.specs.declared.entry.Entry.{Entry}
 use Rattle.rk_entry.specs.declared.entry.Entry.TheVariants as entries
+use Rattle.rk_done.specs.Completions.{completions_from, ends_of}
+use Rattle.rk_transfer.specs.Handover.{prepared, closed, frozen, granted, owned, released}
+use Rattle.rk_transfer.specs.declared.handover.Handover.{Handover}
+use Rattle.rk_transfer.specs.declared.role.Role.{Role}
+use Rattle.rk_transfer.specs.declared.role.Role.TheVariants as roles
 use Rattle.rk_message.specs.declared.handover.Grant.{Grant}
 use Rattle.rk_message.specs.declared.handover.Prepare.{Prepare}
 use Rattle.rk_message.specs.declared.handover.Tenure.{Tenure}
 use Rattle.rk_message.specs.declared.message.Body.TheVariants as bodies
 use Rattle.rk_message.specs.declared.message.Message.{Message}
-use Rattle.rk_transfer.specs.Handover.{prepared, closed, frozen, granted, owned, released}
-use Rattle.rk_transfer.specs.declared.handover.Handover.{Handover}
-use Rattle.rk_transfer.specs.declared.role.Role.{Role}
-use Rattle.rk_transfer.specs.declared.role.Role.TheVariants as roles
-use Rattle.rk_world.specs.Ends.{completions_from, ends_of}
 use Rattle.rk_world.specs.Tablet.{Tablet, with_handover, without_merged, without_pulled, pulling_from}
-use Rattle.rk_world.specs.Master.{Master, Worked, tablet_at, changed, sending, from_master, with_tablet, with_appended, without_items}
-use Rattle.rk_world.specs.Commits.{freezing}
-use Rattle.rk_world.specs.Pulls.{is_frozen_at}
+use Rattle.rk_world.specs.RoleTests.{is_frozen_at}
+use Rattle.rk_world.specs.Master.{Master, tablet_at, with_tablet, with_appended, without_items}
+use Rattle.rk_world.specs.Worked.{Worked, changed, sending, from_master}
+use Rattle.rk_world.specs.Waiting.{freezing}
 
 -- whether a term is above that of a tablet, if its range meets this one
 abbrev pub is_above : Range → ℕ → ℕ × Tablet → Bool
 is_above range term entry = not (meets entry.1.handover.range range) || nat_lt entry.1.handover.term term
 
--- whether a term is greater than that of the tablet and of each tablet that is kept with a range that meets this one,
+-- whether a term is greater than that of the recordst and of each tablet that it has with a range that meets this one,
 -- absent ones too: so a message from before a split cannot take what a newer tablet has
 abbrev pub is_greater : Master → ℕ → ℕ → Range → Bool
 is_greater master number term range =
@@ -141,7 +142,7 @@ owning master number (Some handover) =
 -- a master takes an Own
 abbrev pub own_taken : Master → Tenure → Worked
 own_taken master tenure =
-    owning master tenure.tablet (owned (tablet_at master tenure.tablet).handover tenure.term master.committed)
+    owning master tenure.tablet (owned (tablet_at master tenure.tablet).handover tenure.term master.applied)
 
 -- a tablet is another's: its items are dropped
 abbrev pub releasing : Master → ℕ → Option Handover → Worked

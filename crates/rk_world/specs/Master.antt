@@ -1,36 +1,32 @@
--- A master: its log, its table, and what it keeps of each tablet; and the small changes of these.
+-- A master: its log, its records, and what it has of each tablet; and the small changes of these.
 use Rattle.std.specs.Prelude.{ℕ, ◌+◌, ◌==◌, ◌&&◌, Bool, not, List, [], ◌∷◌, ◌++◌, length, drop, find, map, fold, Option, sum}
 use Rattle.std.specs.List.{list_any}
+use Rattle.rk_types.specs.NumberMap.{NumberMap, get_or, insert}
 use Rattle.rk_types.specs.Range.{meets}
 use Rattle.rk_types.specs.declared.call.Call.{Call}
 use Rattle.rk_types.specs.declared.held.Held.{Held}
 use Rattle.rk_types.specs.declared.range.Range.{Range}
-use Rattle.rk_types.specs.declared.node.Node.{Node}
-use Rattle.rk_types.specs.declared.node.Node.TheVariants as nodes
 use Rattle.rk_entry.specs.Entries.{spelled_all}
 use Rattle.rk_entry.specs.declared.entry.Entry.{Entry}
 use Rattle.rk_entry.specs.declared.entry.Entry.TheVariants as entries
-use Rattle.rk_message.specs.declared.message.Message.{Message}
-use Rattle.rk_message.specs.declared.message.Body.{Body}
-use Rattle.rk_transfer.specs.Handover.{is_serving}
-use Rattle.rk_table.specs.Items.{with_newer, without}
 use Rattle.rk_log.specs.Known.{Known}
 use Rattle.rk_log.specs.Log.{Log, new_log, with_entry, with_side, with_told, segment_bytes}
-use Rattle.rk_world.specs.declared.work.Served.{Served}
-use Rattle.rk_world.specs.Tables.{Table, look_up_or, with_at}
-use Rattle.rk_world.specs.Material.{Mark, has_key, as_entries}
+use Rattle.rk_table.specs.Items.{with_newer, without}
+use Rattle.rk_transfer.specs.Handover.{is_serving}
+use Rattle.rk_world.specs.Ranges.{has_key}
+use Rattle.rk_world.specs.Material.{as_entries}
 use Rattle.rk_world.specs.Tablet.{Tablet, no_tablet}
 
--- a master: its number; its log, with the items of its side segments; how many first entries are committed; the calls
--- whose entries are not, by the place of the entry; the committed items, in scan order; and what it keeps of each tablet
+-- a master: its number; its log, with the items of its side segments; how many first entries are applied; the calls
+-- whose entries are not, by the place of the entry; the applied items, in scan order; and what it has of each tablet
 pub record Master : Type 0 where
   pub number : ℕ
   pub log : Log
   pub sides : List (List Held)
-  pub committed : ℕ
-  pub calls : Table Call
-  pub table : List Held
-  pub tablets : Table Tablet
+  pub applied : ℕ
+  pub calls : NumberMap Call
+  pub records : List Held
+  pub tablets : NumberMap Tablet
 
 -- a master that knows nothing yet, with so many backups
 abbrev pub new_master : ℕ → List Known → Master
@@ -38,21 +34,21 @@ new_master number known = record {
   number = number;
   log = new_log known;
   sides = [];
-  committed = 0;
+  applied = 0;
   calls = [];
-  table = [];
+  records = [];
   tablets = [];
 }
 
--- what it keeps of a tablet; of one that it does not know the role is Absent and the term 0
+-- what it has of a tablet; of one that it does not know the role is Absent and the term 0
 abbrev pub tablet_at : Master → ℕ → Tablet
-tablet_at master tablet = look_up_or no_tablet master.tablets tablet
+tablet_at master tablet = get_or no_tablet master.tablets tablet
 
--- the entries that are not committed
+-- the entries that are not applied
 abbrev pub staged : Master → List Entry
-staged master = drop master.committed master.log.entries
+staged master = drop master.applied master.log.entries
 
--- whether an entry that is not committed is of a range: an item or a refusal whose key is in it, or another entry whose
+-- whether an entry that is not applied is of a range: an item or a refusal whose key is in it, or another entry whose
 -- range meets it
 abbrev pub touches : Range → Entry → Bool
 touches range (entries.Held held) = has_key range held.table held.key
@@ -76,31 +72,9 @@ serves_key table key tablet = is_serving tablet.handover.role && has_key tablet.
 abbrev pub serving : Master → ℕ → List ℕ → Option (ℕ × Tablet)
 serving master table key = find (λ entry. serves_key table key entry.1) master.tablets
 
--- what a master makes of a message or of its turn: the master after it, what it sends, the calls that it served, the
--- reads at once and the mutations once they are committed, and the piece of its log that a rebuild made
-pub record Worked : Type 0 where
-  pub master : Master
-  pub sends : List Message
-  pub served : List Served
-  pub marked : List Mark
-
--- the master is so now, and sends nothing
-abbrev pub changed : Master → Worked
-changed master = record { master = master; sends = []; served = []; marked = [] }
-
--- the master changes and sends a message
-abbrev pub sending : Master → Message → Worked
-sending master message = record { master = master; sends = message ∷ []; served = []; marked = [] }
-
--- a message from this master
-abbrev pub from_master : Master → Node → Body → Message
-from_master master to body = record { from = nodes.Master master.number; to = to; body = body }
-
--- ---- the small changes
-
--- a tablet is kept so
+-- a tablet is so
 abbrev pub with_tablet : Master → ℕ → Tablet → Master
-with_tablet master number tablet = record master { tablets = with_at master.tablets number tablet }
+with_tablet master number tablet = record master { tablets = insert master.tablets number tablet }
 
 -- an entry is put at the end of the log
 abbrev pub with_appended : Master → Entry → Master
@@ -112,7 +86,7 @@ with_all master entries = fold with_appended master entries
 
 -- a call waits for the entry that is appended next
 abbrev pub with_call : Master → Call → Master
-with_call master call = record master { calls = with_at master.calls (length master.log.entries) call }
+with_call master call = record master { calls = insert master.calls (length master.log.entries) call }
 
 -- a side segment with these items becomes known to the log
 abbrev pub with_side_segment : Master → List Held → Master
@@ -125,13 +99,13 @@ with_side_segment master items = record master {
 abbrev pub with_known : Master → ℕ → ℕ → ℕ → Master
 with_known master backup segment length = record master { log = with_told master.log backup segment length }
 
--- an item is put into the table, where it is newer than what is there
+-- an item is put into the records, where it is newer than what is there
 abbrev pub with_item : Master → Held → Master
-with_item master item = record master { table = with_newer item master.table }
+with_item master item = record master { records = with_newer item master.records }
 
--- the items of a range are dropped from the table
+-- the items of a range are dropped from the records
 abbrev pub without_items : Master → Range → Master
-without_items master range = record master { table = without range master.table }
+without_items master range = record master { records = without range master.records }
 
 -- how many bytes the side logs of a tablet have that are not sealed
 abbrev pub unsealed_bytes : Tablet → ℕ

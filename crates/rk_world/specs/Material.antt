@@ -1,8 +1,7 @@
 -- Material: the entries of logs that count for a range of hashes.
-use Rattle.std.specs.Prelude.{ℕ, suc, ◌-◌, Bool, true, false, bytes_eq, ◌==◌, ◌&&◌, nat_lt, nat_le, if◌then◌else◌, List, [], ◌∷◌, ◌++◌, filter, fold, drop, slice_index_or, map}
-use Rattle.std.specs.List.{flat_map, list_any}
-use Rattle.rk_types.specs.Hashing.{hash_of}
-use Rattle.rk_types.specs.Range.{has, meets}
+use Rattle.std.specs.Prelude.{ℕ, ◌-◌, Bool, true, false, bytes_eq, ◌==◌, ◌&&◌, nat_lt, if◌then◌else◌, List, [], ◌∷◌, ◌++◌, filter, fold, drop, slice_index_or, map}
+use Rattle.std.specs.List.{flat_map}
+use Rattle.rk_types.specs.Range.{meets}
 use Rattle.rk_types.specs.declared.held.Held.{Held}
 use Rattle.rk_types.specs.declared.range.Range.{Range}
 use Rattle.rk_entry.specs.Lists.{is_among}
@@ -10,14 +9,8 @@ use Rattle.rk_entry.specs.declared.entry.Entry.{Entry}
 use Rattle.rk_entry.specs.declared.entry.Entry.TheVariants as entries
 use Rattle.rk_entry.specs.declared.lists.TheConstants.{FIRST_SIDE_SEGMENT}
 use Rattle.rk_overlay.specs.Newest.{is_of}
-
--- whether a key of a table is in a range, by its hash
-abbrev pub has_key : Range → ℕ → List ℕ → Bool
-has_key range table key = has range table (hash_of key)
-
--- whether a range has all of another one
-abbrev pub has_all : Range → Range → Bool
-has_all outer inner = outer.table == inner.table && nat_le outer.first inner.first && nat_le inner.last outer.last
+use Rattle.rk_world.specs.Ranges.{has_key, has_all}
+use Rattle.rk_world.specs.Marks.{Mark, unmarked_from}
 
 -- whether an entry counts for a range: an item or a refusal whose key is in it, or a Carried whose range has all of it
 abbrev pub counts : Range → Entry → Bool
@@ -70,27 +63,6 @@ joined_from range from list = filter (is_joined_in range) (drop from list)
 abbrev pub material_of : Range → (ℕ → List Entry) → List Entry → List Entry
 material_of range side entries = counting range entries ++ counting range (flat_map side (named range entries))
 
--- a piece of a log that a rebuild made, from the place `first` on and before the place `past`, until it is told
-pub record Mark : Type 0 where
-  pub first : ℕ
-  pub past : ℕ
-  pub tablet : ℕ
-  pub term : ℕ
-
--- whether the entry at a place is of such a piece
-abbrev pub is_marked : List Mark → ℕ → Bool
-is_marked marks place = list_any (λ mark. nat_le mark.first place && nat_lt place mark.past) marks
-
--- the entries that bear no mark, where the first of them stands at `place`
-abbrev pub unmarked : List Mark → ℕ → List Entry → List Entry
-unmarked marks place [] = []
-unmarked marks place (entry ∷ entries) =
-    if is_marked marks place then unmarked marks (suc place) entries else entry ∷ unmarked marks (suc place) entries
-
--- the entries of a log from a place on that bear no mark
-abbrev pub unmarked_from : List Mark → ℕ → List Entry → List Entry
-unmarked_from marks place entries = unmarked marks place (drop place entries)
-
 -- items as the entries of a log
 abbrev pub as_entries : List Held → List Entry
 as_entries items = map entries.Held items
@@ -104,11 +76,3 @@ side_entries sides number =
 -- segments that they name
 abbrev pub log_material : Range → List Mark → List (List Held) → ℕ → List Entry → List Entry
 log_material range marks sides place entries = material_of range (side_entries sides) (unmarked_from marks place entries)
-
--- the part of a range below a hash
-abbrev pub range_below : Range → ℕ → Range
-range_below range at = record { table = range.table; first = range.first; last = at - 1 }
-
--- the part of a range from a hash on
-abbrev pub range_from : Range → ℕ → Range
-range_from range at = record { table = range.table; first = at; last = range.last }

@@ -5,34 +5,29 @@ use Rattle.rk_types.specs.declared.held.Held.{Held}
 use Rattle.rk_types.specs.declared.held.Token.{Token}
 use Rattle.rk_types.specs.declared.node.Node.{Node}
 use Rattle.rk_entry.specs.declared.lists.TheConstants.{FIRST_SIDE_SEGMENT}
+use Rattle.rk_table.specs.Items.{found, is_newer, live_in, at_hash}
+use Rattle.rk_table.specs.Scans.{batch_at, next_token, end}
+use Rattle.rk_transfer.specs.Handover.{joined}
+use Rattle.rk_transfer.specs.declared.handover.Handover.{Handover}
+use Rattle.rk_priority.specs.Hashes.{no_hashes, got, is_batch}
+use Rattle.rk_pull.specs.declared.batches.TheConstants.{BATCH_BYTES}
 use Rattle.rk_message.specs.declared.message.Body.TheVariants as bodies
 use Rattle.rk_message.specs.declared.pulling.Got.{Got}
 use Rattle.rk_message.specs.declared.pulling.Pull.{Pull}
 use Rattle.rk_message.specs.declared.pulling.Pulled.{Pulled}
 use Rattle.rk_message.specs.declared.pulling.Want.{Want}
-use Rattle.rk_priority.specs.Hashes.{no_hashes, got, is_batch}
-use Rattle.rk_pull.specs.declared.batches.TheConstants.{BATCH_BYTES}
-use Rattle.rk_table.specs.Items.{found, is_newer, live_in, at_hash}
-use Rattle.rk_table.specs.Scans.{batch_at, next_token, end}
-use Rattle.rk_transfer.specs.Handover.{joined}
-use Rattle.rk_transfer.specs.declared.handover.Handover.{Handover}
 use Rattle.rk_world.specs.Ends.{items_of}
 use Rattle.rk_world.specs.Material.{as_entries}
-use Rattle.rk_world.specs.Tablet.{Tablet, Pulling, with_handover, sealed_sides, is_frozen, is_receiving}
-use Rattle.rk_world.specs.Master.{Master, Worked, tablet_at, changed, sending, from_master, with_tablet, with_item, with_side_segment}
-use Rattle.rk_world.specs.Commits.{closing_entry}
-
--- whether a tablet is frozen at a term
-abbrev pub is_frozen_at : Tablet → ℕ → Bool
-is_frozen_at tablet term = is_frozen tablet.handover.role && (tablet.handover.term == term)
-
--- whether a tablet pulls at a term
-abbrev pub is_receiving_at : Tablet → ℕ → Bool
-is_receiving_at tablet term = is_receiving tablet.handover.role && (tablet.handover.term == term)
+use Rattle.rk_world.specs.Tablet.{Tablet, Pulling, with_handover}
+use Rattle.rk_world.specs.RoleTests.{is_frozen_at, is_receiving_at}
+use Rattle.rk_world.specs.SideLogs.{sealed_sides}
+use Rattle.rk_world.specs.Master.{Master, tablet_at, with_tablet, with_item, with_side_segment}
+use Rattle.rk_world.specs.Worked.{Worked, changed, sending, from_master}
+use Rattle.rk_world.specs.Waiting.{closing_entry}
 
 -- the live items of a tablet, in scan order
 abbrev pub scan_of : Master → Tablet → List Held
-scan_of master tablet = live_in tablet.handover.range master.table
+scan_of master tablet = live_in tablet.handover.range master.records
 
 -- a frozen source answers a pull with the batch from its token on
 abbrev pub pull_taken : Master → Node → Pull → Worked
@@ -69,11 +64,11 @@ with_pulled pulling worker item =
 abbrev pub with_pulling : Tablet → Pulling → Tablet
 with_pulling tablet pulling = record tablet { pulling = pulling }
 
--- one item is replayed: where it is newer than what the table has of its key, it goes into the table and to the worker's
+-- one item is replayed: where it is newer than what the records have of its key, it goes into the records and to the worker's
 -- items
 abbrev pub replay_one : ℕ → ℕ → Master → Held → Master
 replay_one number worker master item =
-    if is_newer item (found item.table item.key master.table)
+    if is_newer item (found item.table item.key master.records)
     then with_tablet (with_item master item) number
     (with_pulling (tablet_at master number) (with_pulled (tablet_at master number).pulling worker item))
     else master

@@ -1,22 +1,26 @@
 -- How a master rebuilds a tablet from the logs of its lineage.
-use Rattle.std.specs.Prelude.{ℕ, suc, ◌==◌, ◌&&◌, Bool, true, false, if◌then◌else◌, List, [], ◌∷◌, drop, find, length, Option, Some, None}
+use Rattle.std.specs.Prelude.{ℕ, suc, ◌==◌, ◌&&◌, if◌then◌else◌, List, [], ◌∷◌, drop, length, Option, Some, None}
 use Rattle.rk_types.specs.declared.lineage.Member.{Member}
 use Rattle.rk_types.specs.declared.range.Range.{Range}
 use Rattle.rk_entry.specs.declared.entry.Entry.{Entry}
 use Rattle.rk_entry.specs.declared.entry.Entry.TheVariants as entries
-use Rattle.rk_message.specs.declared.rebuilding.CopySegment.{CopySegment}
-use Rattle.rk_message.specs.declared.rebuilding.Rebuild.{Rebuild}
+use Rattle.rk_done.specs.Completions.{completions_from, ends_of}
 use Rattle.rk_transfer.specs.Handover.{rebuilt, carried}
 use Rattle.rk_transfer.specs.declared.handover.Handover.{Handover}
 use Rattle.rk_transfer.specs.declared.role.Role.{Role}
 use Rattle.rk_transfer.specs.declared.role.Role.TheVariants as roles
+use Rattle.rk_message.specs.declared.rebuilding.CopySegment.{CopySegment}
+use Rattle.rk_message.specs.declared.rebuilding.Rebuild.{Rebuild}
 use Rattle.rk_world.specs.declared.work.Merged.{Merged}
 use Rattle.rk_world.specs.declared.work.Reading.{Reading}
-use Rattle.rk_world.specs.Ends.{completions_from, ends_of}
 use Rattle.rk_world.specs.Material.{material_of, side_entries, as_entries}
-use Rattle.rk_world.specs.Gather.{by_member, gather_begun, gathering, is_awaited, next_reading, merge, no_merge}
+use Rattle.rk_world.specs.Lineage.{own_member}
+use Rattle.rk_world.specs.Gather.{by_member, gather_begun, gathering, is_awaited, next_reading}
+use Rattle.rk_world.specs.Merge.{merge, no_merge}
 use Rattle.rk_world.specs.Tablet.{Tablet, pulling_from}
-use Rattle.rk_world.specs.Master.{Master, Worked, tablet_at, changed, with_tablet, with_appended, with_all, without_items}
+use Rattle.rk_world.specs.RoleTests.{is_gathering}
+use Rattle.rk_world.specs.Master.{Master, tablet_at, with_tablet, with_appended, with_all, without_items}
+use Rattle.rk_world.specs.Worked.{Worked, changed}
 use Rattle.rk_world.specs.Handovers.{is_greater, with_others_given_up}
 
 -- the place from which the own log counts for a tablet that is rebuilt
@@ -83,11 +87,7 @@ rebuilding_on master number None =
 abbrev pub rebuild_goes_on : Master → ℕ → Worked
 rebuild_goes_on master number = rebuilding_on master number (next_reading (tablet_at master number).gather)
 
--- the master's own place in a lineage
-abbrev pub own_member : List Member → ℕ → Option Member
-own_member lineage number = find (λ member. member.master == number) lineage
-
--- a master of the lineage keeps its items, and its log counts from its place there
+-- a master of the lineage leaves its items where they are, and its log counts from its place there
 abbrev pub begun_from : Master → Option Member → ℕ
 begun_from master (Some member) = member.from
 begun_from master None = length master.log.entries
@@ -126,11 +126,6 @@ rebuild_taken master rebuild =
     if is_greater master rebuild.tenure.tablet rebuild.tenure.term rebuild.range
     then beginning master rebuild
     else changed master
-
--- whether a rebuild still gathers
-abbrev pub is_gathering : Role → Bool
-is_gathering (roles.Rebuilding from None) = true
-is_gathering _ = false
 
 -- a tablet gathers a segment
 abbrev pub with_gathered : Tablet → CopySegment → Tablet

@@ -1,20 +1,22 @@
 -- Which events a lane refuses, and why.
 use Rattle.std.specs.Prelude.{ℕ, ◌^◌, ◌==◌, ◌&&◌, Bool, true, false, not, nat_le, if◌then◌else◌, length, Option, Some, None, is_some}
 use Rattle.std.specs.Option.{option_map, option_or}
+use Rattle.rk_types.specs.NumberMap.{get}
 use Rattle.rk_types.specs.declared.call.Call.{Call}
 use Rattle.rk_types.specs.declared.node.Node.{Node}
 use Rattle.rk_types.specs.declared.node.Node.TheVariants as nodes
-use Rattle.rk_message.specs.declared.message.Message.{Message}
 use Rattle.rk_tablet_map.specs.Rows.{add_fault}
+use Rattle.rk_message.specs.declared.message.Message.{Message}
 use Rattle.rk_world.specs.declared.error.StepError.{StepError}
 use Rattle.rk_world.specs.declared.error.StepError.TheVariants as errors
 use Rattle.rk_world.specs.declared.event.Event.{Event}
 use Rattle.rk_world.specs.declared.event.Event.TheVariants as events
-use Rattle.rk_world.specs.Tables.{look_up}
+use Rattle.rk_world.specs.Coordinator.{new_row}
+use Rattle.rk_world.specs.Migrations.{migrate_fault}
 use Rattle.rk_world.specs.Client.{Session}
-use Rattle.rk_world.specs.Coordinator.{new_row, migrate_fault, divided_fault}
-use Rattle.rk_world.specs.Desk.{is_added}
+use Rattle.rk_world.specs.Ledger.{is_added}
 use Rattle.rk_world.specs.World.{World, has_crashed, bytes_of_logs}
+use Rattle.rk_world.specs.Splits.{tablet_split_fault}
 
 -- from here on a number that grows is too great
 abbrev pub WORN_NUMBER : ℕ
@@ -62,7 +64,7 @@ wire_fault number (Some message) = None
 
 -- why a node cannot take its turn: a crashed master, or a client that was not added
 abbrev pub turn_fault : World → Node → Option StepError
-turn_fault w (nodes.Client client) = where_true (not (is_added w.desk client)) (errors.Stranger client)
+turn_fault w (nodes.Client client) = where_true (not (is_added w.ledger client)) (errors.Stranger client)
 turn_fault w nodes.Coordinator = None
 turn_fault w (nodes.Master master) = where_true (has_crashed w master) (errors.Dead master)
 turn_fault w (nodes.Backup backup) = None
@@ -73,17 +75,17 @@ fault_of w (events.AddTablet tablet range master) =
     option_or (where_true (has_crashed w master) (errors.Dead master))
     (option_map errors.Map (add_fault w.coordinator.rows (new_row tablet range master)))
 fault_of w (events.AddClient client) =
-    where_true (not (is_added w.desk client) && nat_le MOST_CLIENTS (length w.desk.clients)) errors.TooMany
-fault_of w (events.Deliver number) = delivery_fault number (look_up w.desk.wire number)
-fault_of w (events.Forget number) = wire_fault number (look_up w.desk.wire number)
+    where_true (not (is_added w.ledger client) && nat_le MOST_CLIENTS (length w.ledger.clients)) errors.TooMany
+fault_of w (events.Deliver number) = delivery_fault number (get w.wire.messages number)
+fault_of w (events.Forget number) = wire_fault number (get w.wire.messages number)
 fault_of w (events.Turn node) = turn_fault w node
 fault_of w (events.Again client) =
-    option_or (where_true (not (is_added w.desk client)) (errors.Stranger client))
-    (where_true (not (is_some (look_up w.desk.requests client))) (errors.NoMessage 0))
+    option_or (where_true (not (is_added w.ledger client)) (errors.Stranger client))
+    (where_true (not (is_some (get w.ledger.requests client))) (errors.NoMessage 0))
 fault_of w (events.Migrate tablet to) =
     option_or (where_true (has_crashed w to) (errors.Dead to))
     (option_map errors.Move (migrate_fault w.coordinator tablet to))
-fault_of w (events.Split tablet at new) = option_map errors.Move (divided_fault w.coordinator tablet at new)
+fault_of w (events.Split tablet at new) = option_map errors.Move (tablet_split_fault w.coordinator tablet at new)
 fault_of w (events.Crash master) = where_true (has_crashed w master) (errors.Dead master)
 fault_of w (events.Notice master) = where_true (not (has_crashed w master)) (errors.Alive master)
 
@@ -103,7 +105,7 @@ refusal w event =
 abbrev pub ask_refusal : World → Session → Option StepError
 ask_refusal w session =
     option_or (option_map errors.Worn (option_or (worn w) (worn_session session session.outstanding)))
-    (where_true (not (is_added w.desk session.client)) (errors.Stranger session.client))
+    (where_true (not (is_added w.ledger session.client)) (errors.Stranger session.client))
 
 -- whether a node is this client
 abbrev pub is_for : ℕ → Node → Bool
@@ -115,4 +117,4 @@ abbrev pub accept_refusal : World → ℕ → ℕ → Option Message → Option 
 accept_refusal w number client None = Some (errors.NoMessage number)
 accept_refusal w number client (Some message) =
     option_or (where_true (not (is_for client message.to)) (errors.Address number))
-    (where_true (not (is_added w.desk client)) (errors.Stranger client))
+    (where_true (not (is_added w.ledger client)) (errors.Stranger client))

@@ -12,21 +12,24 @@ use Rattle.rk_types.specs.declared.call.Outcome.{Outcome}
 use Rattle.rk_types.specs.declared.call.Outcome.TheVariants as outcomes
 use Rattle.rk_types.specs.declared.held.Held.{Held}
 use Rattle.rk_types.specs.declared.node.Node.TheVariants as nodes
+use Rattle.rk_model.specs.Merged.{is_mutation}
 use Rattle.rk_entry.specs.declared.entry.Entry.{Entry}
 use Rattle.rk_entry.specs.declared.entry.Entry.TheVariants as entries
+use Rattle.rk_table.specs.Items.{found}
+use Rattle.rk_done.specs.Completions.{look}
+use Rattle.rk_done.specs.declared.completion.Look.{Look}
+use Rattle.rk_done.specs.declared.completion.Look.TheVariants as looks
+use Rattle.rk_priority.specs.Hashes.{wanting, contains}
+use Rattle.rk_overlay.specs.Live.{record_of}
+use Rattle.rk_overlay.specs.Newest.{newest}
 use Rattle.rk_message.specs.declared.calls.Request.{Request}
 use Rattle.rk_message.specs.declared.message.Body.TheVariants as bodies
 use Rattle.rk_message.specs.declared.message.Message.{Message}
-use Rattle.rk_model.specs.Merged.{is_mutation}
-use Rattle.rk_done.specs.declared.kept.Look.{Look}
-use Rattle.rk_done.specs.declared.kept.Look.TheVariants as looks
-use Rattle.rk_overlay.specs.Newest.{newest}
-use Rattle.rk_overlay.specs.Live.{record_of}
-use Rattle.rk_priority.specs.Hashes.{wanting, contains}
-use Rattle.rk_table.specs.Items.{found}
-use Rattle.rk_world.specs.Ends.{look, outcome_of, items_of}
-use Rattle.rk_world.specs.Tablet.{Tablet, is_receiving}
-use Rattle.rk_world.specs.Master.{Master, Worked, tablet_at, staged, is_staged, serving, changed, sending, from_master, with_tablet, with_appended, with_call}
+use Rattle.rk_world.specs.Ends.{outcome_of, items_of}
+use Rattle.rk_world.specs.Tablet.{Tablet}
+use Rattle.rk_world.specs.RoleTests.{is_receiving}
+use Rattle.rk_world.specs.Master.{Master, tablet_at, staged, is_staged, serving, with_tablet, with_appended, with_call}
+use Rattle.rk_world.specs.Worked.{Worked, changed, sending, from_master}
 
 -- what is to be done with a call, at the tablet of this number
 pub data Choice : Type 0 where
@@ -45,13 +48,13 @@ pub data Choice : Type 0 where
   -- the mutation is refused: it found this version, or was a removal
   Refuses : (found : ℕ) (absent : Bool) → Choice
 
--- the item of a key that a call finds: for a mutation the newest staged one, else that of the table; for a read that of
--- the table
+-- the item of a key that a call finds: for a mutation the newest staged one, else that of the records; for a read that of
+-- the records
 abbrev pub state_of : Master → Call → Option Held
 state_of master call =
     option_or
     (if is_mutation call.op then newest (items_of (staged master)) call.table call.key else None)
-    (found call.table call.key master.table)
+    (found call.table call.key master.records)
 
 -- whether what a call finds of a key is all that there is: the item is there, or the tablet has all items, or that of this
 -- hash came, or all of its bucket came

@@ -4,10 +4,10 @@ use Rattle.std.specs.List.{list_any}
 use Rattle.rk_world.specs.declared.error.StepError.{StepError}
 use Rattle.rk_world.specs.declared.event.Event.{Event}
 use Rattle.rk_world.specs.declared.event.Event.TheVariants as events
-use Rattle.rk_world.specs.Calls.{Visited, ask, accept}
 use Rattle.rk_world.specs.Client.{Session, IsSession}
-use Rattle.rk_world.specs.Step.{Stepped, step}
 use Rattle.rk_world.specs.World.{World, live_masters}
+use Rattle.rk_world.specs.Step.{Stepped, step}
+use Rattle.rk_world.specs.Calls.{Visited, ask, accept}
 
 -- something that happens in a lane: an event with what the replica answered, or a client's turn or answer, for the session
 -- that the client has then

@@ -1,21 +1,18 @@
--- What a master keeps of a tablet.
-use Rattle.std.specs.Prelude.{ℕ, ◌+◌, Bool, true, false, nat_le, if◌then◌else◌, List, [], ◌∷◌, ◌++◌, fold, map, sum}
-use Rattle.std.specs.List.{flat_map}
-use Rattle.rk_types.specs.Held.{spelled_of}
+-- What a master has of a tablet.
+use Rattle.std.specs.Prelude.{ℕ, List, [], ◌∷◌}
 use Rattle.rk_types.specs.declared.held.Held.{Held}
-use Rattle.rk_types.specs.declared.held.TheConstants.{SEGMENT_BYTES}
 use Rattle.rk_types.specs.declared.held.Token.{Token}
+use Rattle.rk_entry.specs.declared.entry.Entry.{Entry}
+use Rattle.rk_table.specs.Scans.{first}
+use Rattle.rk_done.specs.Completions.{Completions}
 use Rattle.rk_transfer.specs.declared.handover.Handover.{Handover}
-use Rattle.rk_transfer.specs.declared.role.Role.{Role}
 use Rattle.rk_transfer.specs.declared.role.Role.TheVariants as roles
 use Rattle.rk_priority.specs.Hashes.{Hashes, no_hashes}
-use Rattle.rk_table.specs.Scans.{first}
-use Rattle.rk_entry.specs.declared.entry.Entry.{Entry}
 use Rattle.rk_world.specs.declared.work.Merged.{Merged}
-use Rattle.rk_world.specs.Ends.{Completions}
-use Rattle.rk_world.specs.Gather.{Gather, no_gather, no_merge}
+use Rattle.rk_world.specs.Gather.{Gather, no_gather}
+use Rattle.rk_world.specs.Merge.{no_merge}
 
--- what a target keeps while it pulls: whom it pulls from, the token that it has come to, how many batches it took, the
+-- what a target has while it pulls: whom it pulls from, the token that it has come to, how many batches it took, the
 -- hashes that it wants first, and what was pulled: for each of four workers the items that are not sealed, and then the
 -- numbers of the side segments that were sealed
 pub record Pulling : Type 0 where
@@ -37,7 +34,7 @@ pulling_from source = record {
   sealed = [];
 }
 
--- what a master keeps of a tablet: its role, term, range and counter; the last end of each client; what it pulls; what
+-- what a master has of a tablet: its role, term, range and counter; the last end of each client; what it pulls; what
 -- it gathers for a rebuild, what it merged, and of which entries, member by member
 pub record Tablet : Type 0 where
   pub handover : Handover
@@ -69,35 +66,3 @@ without_merged tablet = record tablet { gather = no_gather; merged = no_merge; m
 -- the tablet with nothing pulled
 abbrev pub without_pulled : Tablet → Tablet
 without_pulled tablet = record tablet { pulling = pulling_from tablet.pulling.source }
-
--- whether a role is that of a target that pulls
-abbrev pub is_receiving : Role → Bool
-is_receiving roles.Receiving = true
-is_receiving _ = false
-
--- whether a role is that of a tablet that is frozen
-abbrev pub is_frozen : Role → Bool
-is_frozen roles.Frozen = true
-is_frozen _ = false
-
--- whether a role is that of a master that does nothing for the tablet
-abbrev pub is_absent : Role → Bool
-is_absent roles.Absent = true
-is_absent _ = false
-
--- the item lists of side segments with one more item: in the last one where its entry fits, and else in one more
-abbrev pub with_side_item : List (List Held) → Held → List (List Held)
-with_side_item [] item = (item ∷ []) ∷ []
-with_side_item (items ∷ []) item =
-    if nat_le (sum (map spelled_of items) + spelled_of item) SEGMENT_BYTES
-    then (items ++ item ∷ []) ∷ []
-    else items ∷ (item ∷ []) ∷ []
-with_side_item (items ∷ next ∷ more) item = items ∷ with_side_item (next ∷ more) item
-
--- the items of a worker, by the side segments that they fill
-abbrev pub cut_items : List Held → List (List Held)
-cut_items items = fold with_side_item [] items
-
--- the items of all workers, by the side segments that they fill, worker by worker
-abbrev pub sealed_sides : List (List Held) → List (List Held)
-sealed_sides sides = flat_map cut_items sides

@@ -1,41 +1,45 @@
 -- The world of a lane: what all its nodes know, and what lies between them.
 use Rattle.std.specs.Prelude.{ℕ, ◌==◌, Bool, not, max, List, [], ◌∷◌, ◌++◌, filter, fold, map, replicate, sum}
 use Rattle.std.specs.List.{flat_map, list_any, range_with_len}
+use Rattle.rk_types.specs.NumberMap.{NumberMap, get_or, insert}
 use Rattle.rk_types.specs.declared.call.Call.{Call}
 use Rattle.rk_types.specs.declared.held.Held.{Held}
-use Rattle.rk_entry.specs.declared.entry.Entry.{Entry}
 use Rattle.rk_outside.specs.Segments.{Segments}
-use Rattle.rk_tablet_map.specs.declared.row.Row.{Row}
+use Rattle.rk_entry.specs.declared.entry.Entry.{Entry}
 use Rattle.rk_log.specs.Known.{nothing}
 use Rattle.rk_log.specs.Log.{Log}
-use Rattle.rk_world.specs.Tables.{Table, look_up_or, with_at}
+use Rattle.rk_tablet_map.specs.declared.row.Row.{Row}
+use Rattle.rk_message.specs.Wire.{with_message, silent, Traffic}
+use Rattle.rk_message.specs.declared.message.Message.{Message}
 use Rattle.rk_world.specs.Base.{Base}
 use Rattle.rk_world.specs.Tablet.{Tablet}
 use Rattle.rk_world.specs.Master.{Master, new_master, tablet_at, log_bytes}
 use Rattle.rk_world.specs.Coordinator.{Coordinator, new_coordinator}
 use Rattle.rk_world.specs.Backup.{no_segments}
-use Rattle.rk_world.specs.Desk.{Desk, new_desk, marks_of, last_stamp, seen_of}
+use Rattle.rk_world.specs.Journal.{last_stamp}
+use Rattle.rk_world.specs.Ledger.{Ledger, new_ledger, marks_of, seen_of}
 use Rattle.rk_world.specs.Written.{Written, written_by, truth_of}
 
--- the world of a lane: its number; its masters, crashed ones too; what its backups keep; the coordinator; the desk; the masters that
--- have crashed; the greatest number that has stood in it; and what its history starts from
+-- the world of a lane: its number; its masters, crashed ones too; what its backups store; the coordinator; the wire; the ledger;
+-- the masters that have crashed; the greatest number that has stood in it; and what its history starts from
 pub record World : Type 0 where
   pub lane : ℕ
-  pub masters : Table Master
-  pub backups : Table Segments
+  pub masters : NumberMap Master
+  pub backups : NumberMap Segments
   pub coordinator : Coordinator
-  pub desk : Desk
+  pub wire : Traffic
+  pub ledger : Ledger
   pub crashed : List ℕ
   pub top : ℕ
   pub base : Base
 
 -- masters that know nothing yet, each with so many backups
-abbrev pub new_masters : ℕ → ℕ → Table Master
+abbrev pub new_masters : ℕ → ℕ → NumberMap Master
 new_masters masters backups =
     map (λ number. (number, new_master number (replicate backups nothing))) (range_with_len 1 masters)
 
--- backups that keep nothing yet
-abbrev pub new_backups : ℕ → Table Segments
+-- backups that store nothing yet
+abbrev pub new_backups : ℕ → NumberMap Segments
 new_backups backups = map (λ number. (number, no_segments)) (range_with_len 1 backups)
 
 -- the lane of a number where nothing has happened, with so many masters and backups
@@ -45,7 +49,8 @@ new_world base lane masters backups = record {
   masters = new_masters masters backups;
   backups = new_backups backups;
   coordinator = new_coordinator masters;
-  desk = new_desk;
+  wire = silent;
+  ledger = new_ledger;
   crashed = [];
   top = 0;
   base = base;
@@ -53,11 +58,11 @@ new_world base lane masters backups = record {
 
 -- a master
 abbrev pub master_at : World → ℕ → Master
-master_at w number = look_up_or (new_master number []) w.masters number
+master_at w number = get_or (new_master number []) w.masters number
 
--- what a backup keeps
+-- what a backup stores
 abbrev pub backup_at : World → ℕ → Segments
-backup_at w number = look_up_or no_segments w.backups number
+backup_at w number = get_or no_segments w.backups number
 
 -- whether a master has crashed
 abbrev pub has_crashed : World → ℕ → Bool
@@ -68,26 +73,32 @@ abbrev pub crashed_masters : World → List ℕ
 crashed_masters w = filter (has_crashed w) (map (λ entry. entry.0) w.masters)
 
 -- the masters that live, by rising number
-abbrev pub live_masters : World → Table Master
+abbrev pub live_masters : World → NumberMap Master
 live_masters w = filter (λ entry. not (has_crashed w entry.0)) w.masters
-
--- the small changes
 
 -- a master is so
 abbrev pub with_master : World → ℕ → Master → World
-with_master w number master = record w { masters = with_at w.masters number master }
+with_master w number master = record w { masters = insert w.masters number master }
 
--- a backup keeps this
+-- a backup stores this
 abbrev pub with_backup : World → ℕ → Segments → World
-with_backup w number segments = record w { backups = with_at w.backups number segments }
+with_backup w number segments = record w { backups = insert w.backups number segments }
 
 -- the coordinator is so
 abbrev pub with_coordinator : World → Coordinator → World
 with_coordinator w coordinator = record w { coordinator = coordinator }
 
--- the desk is so
-abbrev pub with_desk : World → Desk → World
-with_desk w desk = record w { desk = desk }
+-- the wire is so
+abbrev pub with_wire : World → Traffic → World
+with_wire w wire = record w { wire = wire }
+
+-- messages are sent, one after the other
+abbrev pub with_all_sent : World → List Message → World
+with_all_sent w messages = with_wire w (fold (λ wire message. with_message message wire) w.wire messages)
+
+-- the ledger is so
+abbrev pub with_ledger : World → Ledger → World
+with_ledger w ledger = record w { ledger = ledger }
 
 -- a master stops for ever; its log stays as it is
 abbrev pub with_crash : World → ℕ → World
@@ -97,7 +108,7 @@ with_crash w master = record w { crashed = w.crashed ++ master ∷ [] }
 abbrev pub greatest : List ℕ → ℕ
 greatest numbers = fold max 0 numbers
 
--- the counters of a master's tablets
+-- the counters of a master's recordsts
 abbrev pub counters_of : Master → List ℕ
 counters_of master = map (λ entry. entry.1.handover.counter) master.tablets
 
@@ -105,11 +116,11 @@ counters_of master = map (λ entry. entry.1.handover.counter) master.tablets
 -- terms of rows and the counters of tablets; each version, floor and term elsewhere is at most one of these
 abbrev pub standing : World → List ℕ
 standing w =
-    w.desk.sent ∷ last_stamp w.desk.journal ∷ map (λ entry. seen_of entry.1) w.desk.clients
+    w.wire.sent ∷ last_stamp w.ledger.journal ∷ map (λ entry. seen_of entry.1) w.ledger.clients
     ++ map (λ row. row.term) w.coordinator.rows
     ++ flat_map (λ entry. counters_of entry.1) w.masters
 
--- the greatest number that has stood in the world is kept
+-- the greatest number that has stood in the world, with those that stand in it now
 abbrev pub with_top : World → World
 with_top w = record w { top = max w.top (greatest (standing w)) }
 
@@ -125,21 +136,21 @@ lives w master = not (has_crashed w master)
 abbrev pub log_in : World → ℕ → Log
 log_in w master = (master_at w master).log
 
--- a master's table
-abbrev pub table_in : World → ℕ → List Held
-table_in w master = (master_at w master).table
+-- a master's records
+abbrev pub records_in : World → ℕ → List Held
+records_in w master = (master_at w master).records
 
--- the calls whose entries a master has not committed
-abbrev pub calls_in : World → ℕ → Table Call
+-- the calls whose entries a master has not applied
+abbrev pub calls_in : World → ℕ → NumberMap Call
 calls_in w master = (master_at w master).calls
 
--- what a master keeps of a tablet
-abbrev pub kept_in : World → ℕ → ℕ → Tablet
-kept_in w master tablet = tablet_at (master_at w master) tablet
+-- what a master has of a tablet
+abbrev pub tablet_in : World → ℕ → ℕ → Tablet
+tablet_in w master tablet = tablet_at (master_at w master) tablet
 
 -- what a master has written
 abbrev pub written_in : World → ℕ → Written
-written_in w master = written_by (master_at w master) (marks_of w.desk master)
+written_in w master = written_by (master_at w master) (marks_of w.ledger master)
 
 -- the truth of a row
 abbrev pub truth_in : World → Row → List Entry

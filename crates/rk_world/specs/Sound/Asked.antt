@@ -1,19 +1,19 @@
 -- Asked: every call that stands anywhere was asked here, and a client asks its next one only once the last is accepted. So an
 -- old request is harmless, since a record of that very call is there; the steps that take a Request, and that accept, need it.
 use Rattle.std.specs.Prelude.{◌≡◌, ◌<◌, ℕ, true, List, Option, Some, None, All, Contains, IfSome, slice_get, ⊤, ◌⊎◌}
+use Rattle.rk_types.specs.NumberMap.{NumberMap, EachIn}
 use Rattle.rk_types.specs.declared.call.Call.{Call}
 use Rattle.rk_types.specs.declared.history.Placed.{Placed}
 use Rattle.rk_types.specs.declared.node.Node.{Node}
 use Rattle.rk_types.specs.declared.node.Node.TheVariants as nodes
+use Rattle.rk_model.specs.Merged.{HasOwnKeys}
 use Rattle.rk_message.specs.declared.calls.Request.{Request}
 use Rattle.rk_message.specs.declared.message.Body.{Body}
 use Rattle.rk_message.specs.declared.message.Body.TheVariants as bodies
 use Rattle.rk_message.specs.declared.message.Message.{Message}
-use Rattle.rk_model.specs.Merged.{HasOwnKeys}
-use Rattle.rk_world.specs.Client.{call_lane}
-use Rattle.rk_world.specs.Desk.{LastCall}
 use Rattle.rk_world.specs.Requests.{call_of}
-use Rattle.rk_world.specs.Tables.{Table, EachIn}
+use Rattle.rk_world.specs.Client.{call_lane}
+use Rattle.rk_world.specs.Ledger.{LastCall}
 
 -- a client's last call, in a lane: it is the client's own, and its key lies there
 pub record IsLastCall (lane client : ℕ) (last : LastCall) : Type 0 where
@@ -60,7 +60,7 @@ pub record AreOneAccepted (a b : Placed) : Type 0 where
   pub client : a.call.client ≡ b.call.client
   pub seq : a.call.seq ≡ b.call.seq
 
-pub record Asked (lane : ℕ) (asked : ℕ → Option LastCall) (requests : Table Message) (journal : List Placed) (wire : Table Message) : Type 0 where
+pub record Asked (lane : ℕ) (asked : ℕ → Option LastCall) (requests : NumberMap Message) (journal : List Placed) (wire : NumberMap Message) : Type 0 where
   pub last : (client : ℕ) → IfSome (asked client) (IsLastCall lane client)
   pub own_keys : HasOwnKeys lane journal
   -- each record is of a call that was asked

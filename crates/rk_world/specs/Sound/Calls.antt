@@ -2,24 +2,26 @@
 -- answered as before and not carried out twice; the steps that choose what a call does, and those that make records, need it.
 use Rattle.std.specs.Prelude.{◌≡◌, ◌<◌, ℕ, Bool, true, List, Some, IfSome, All, slice_get, ◌⊎◌}
 use Rattle.std.specs.List.{Contains}
+use Rattle.rk_types.specs.NumberMap.{NumberMap, EachIn}
 use Rattle.rk_types.specs.declared.call.Ended.{Ended}
 use Rattle.rk_types.specs.declared.history.Placed.{Placed}
 use Rattle.rk_types.specs.declared.range.Range.{Range}
-use Rattle.rk_entry.specs.declared.entry.Entry.{Entry}
-use Rattle.rk_message.specs.declared.message.Message.{Message}
 use Rattle.rk_model.specs.Merged.{is_mutation}
 use Rattle.rk_model.specs.Ordered.{AreOneMutation}
-use Rattle.rk_tablet_map.specs.declared.row.Row.{Row}
-use Rattle.rk_world.specs.Base.{Base}
-use Rattle.rk_world.specs.Coordinator.{Handed}
-use Rattle.rk_world.specs.Ends.{told, ends_of, outcome_of}
-use Rattle.rk_world.specs.Material.{has_key, of_key}
-use Rattle.rk_world.specs.Sound.Handing.{handed_by, kept_handed}
-use Rattle.rk_world.specs.Sound.Posts.{post_of, speaks, StillCounts}
-use Rattle.rk_world.specs.Tables.{Table, EachIn}
-use Rattle.rk_world.specs.Tablet.{Tablet}
+use Rattle.rk_entry.specs.declared.entry.Entry.{Entry}
+use Rattle.rk_done.specs.Completions.{ends_of}
 use Rattle.rk_tablet_map.specs.Phase.{lineage_of}
 use Rattle.rk_tablet_map.specs.declared.phase.Phase.TheVariants.{Rebuilding}
+use Rattle.rk_tablet_map.specs.declared.row.Row.{Row}
+use Rattle.rk_message.specs.declared.message.Message.{Message}
+use Rattle.rk_world.specs.Ranges.{has_key}
+use Rattle.rk_world.specs.Ends.{told, outcome_of}
+use Rattle.rk_world.specs.Material.{of_key}
+use Rattle.rk_world.specs.Base.{Base}
+use Rattle.rk_world.specs.Tablet.{Tablet}
+use Rattle.rk_world.specs.Coordinator.{Handed}
+use Rattle.rk_world.specs.Sound.Posts.{post_of, speaks, StillCounts}
+use Rattle.rk_world.specs.Sound.Handing.{handed_by, handed_for_grant}
 
 -- whether a record is of a key in a range
 abbrev pub is_record_in : Range → Placed → Bool
@@ -73,7 +75,7 @@ pub record IsStagedEnd (rows : List Row) (rests : Row → List Entry) (master ta
   pub rebuilt : row.phase ≡ Rebuilding (lineage_of row.phase) master
   pub at_term : term ≡ row.term
 
-pub record Calls (base : Base) (rows : List Row) (truths rests : Row → List Entry) (keeps : ℕ → ℕ → Tablet) (live : ℕ → Bool) (handed : Table Handed) (journal : List Placed) (wire : Table Message) : Type 0 where
+pub record Calls (base : Base) (rows : List Row) (truths rests : Row → List Entry) (tablets : ℕ → ℕ → Tablet) (live : ℕ → Bool) (handed : NumberMap Handed) (journal : List Placed) (wire : NumberMap Message) : Type 0 where
   -- no mutation has two records
   pub once :
       (i j : ℕ) (a b : Placed) → slice_get journal i ≡ Some a → slice_get journal j ≡ Some b
@@ -83,19 +85,19 @@ pub record Calls (base : Base) (rows : List Row) (truths rests : Row → List En
   pub reached : All (λ row. TellAll row.range journal (truths row)) rows
   pub recorded : All (λ row. All (IsKnown base journal) (told (truths row))) rows
   -- so do the ends that a master keeps which answers calls, or will
-  pub kept :
+  pub answering :
       (master : ℕ)
-      → All (λ row. StillCounts (live master) (keeps master row.tablet).handover.term row.term
-      → speaks (post_of row.phase master) (keeps master row.tablet).handover row.term ≡ true
-      → ReachAll row.range journal (ends_of (keeps master row.tablet).completions)) rows
+      → All (λ row. StillCounts (live master) (tablets master row.tablet).handover.term row.term
+      → speaks (post_of row.phase master) (tablets master row.tablet).handover row.term ≡ true
+      → ReachAll row.range journal (ends_of (tablets master row.tablet).completions)) rows
   -- and those that are handed over with a floor
-  pub handed_on : All (λ row. IfSome (kept_handed row keeps handed) (λ h. ReachAll row.range journal h.ends)) rows
+  pub handed_on : All (λ row. IfSome (handed_for_grant row tablets handed) (λ h. ReachAll row.range journal h.ends)) rows
   pub sent :
       EachIn (λ number message.
-      All (λ row. IfSome (handed_by row keeps message.body) (λ h. ReachAll row.range journal h.ends)) rows) wire
+      All (λ row. IfSome (handed_by row tablets message.body) (λ h. ReachAll row.range journal h.ends)) rows) wire
   -- each end that a living master keeps is a record's, or one of the start, or one that its rebuild is to make a record of
   pub known :
       (master tablet : ℕ) → live master ≡ true
       → All (λ end. IsKnown base journal end
-      ⊎ IsStagedEnd rows rests master tablet (keeps master tablet).handover.term end)
-      (ends_of (keeps master tablet).completions)
+      ⊎ IsStagedEnd rows rests master tablet (tablets master tablet).handover.term end)
+      (ends_of (tablets master tablet).completions)

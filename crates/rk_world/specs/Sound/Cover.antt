@@ -3,19 +3,19 @@
 use Rattle.std.specs.Prelude.{◌≡◌, ◌≤◌, ℕ, true, List, None, IfSome, All, is_some, ⊤}
 use Rattle.std.specs.List.{flat_map}
 use Rattle.rk_types.specs.Hashing.{hash_of}
+use Rattle.rk_types.specs.NumberMap.{NumberMap, EachIn}
 use Rattle.rk_types.specs.Range.{has, meets}
 use Rattle.rk_types.specs.declared.held.Held.{Held}
 use Rattle.rk_types.specs.declared.range.Range.{Range}
 use Rattle.rk_entry.specs.declared.entry.Entry.{Entry}
 use Rattle.rk_entry.specs.declared.entry.Entry.TheVariants as entries
-use Rattle.rk_message.specs.declared.message.Message.{Message}
 use Rattle.rk_tablet_map.specs.Rows.{row_of, is_covered}
 use Rattle.rk_tablet_map.specs.declared.row.Row.{Row}
-use Rattle.rk_world.specs.Material.{has_all}
-use Rattle.rk_world.specs.Sound.Terms.{tenure_in, range_in}
-use Rattle.rk_world.specs.Tables.{Table, EachIn}
+use Rattle.rk_message.specs.declared.message.Message.{Message}
+use Rattle.rk_world.specs.Ranges.{has_all}
 use Rattle.rk_world.specs.Tablet.{Tablet}
 use Rattle.rk_world.specs.Written.{Written}
+use Rattle.rk_world.specs.Sound.Terms.{tenure_in, range_in}
 
 -- each hash of a range lies in a row
 abbrev pub IsWithinRows : List Row → Range → Type 0
@@ -42,18 +42,18 @@ IsOfWholeRows rows (entries.Carried carried) = HasWholeRows rows carried.range
 IsOfWholeRows rows (entries.Joined joined) = HasWholeRows rows joined.range
 IsOfWholeRows rows entry = ⊤
 
-pub record Cover (rows : List Row) (written : ℕ → Written) (keeps : ℕ → ℕ → Tablet) (tables : ℕ → List Held) (wire : Table Message) : Type 0 where
+pub record Cover (rows : List Row) (written : ℕ → Written) (tablets : ℕ → ℕ → Tablet) (records : ℕ → List Held) (wire : NumberMap Message) : Type 0 where
   -- a tablet without a row is known to no master, no mark and no message
-  pub unknown : (master tablet : ℕ) → row_of rows tablet ≡ None → (keeps master tablet).handover.term ≡ 0
+  pub unknown : (master tablet : ℕ) → row_of rows tablet ≡ None → (tablets master tablet).handover.term ≡ 0
   pub marks : (master : ℕ) → All (λ mark. is_some (row_of rows mark.tablet) ≡ true) (written master).marks
   pub sent :
       EachIn (λ number message. IfSome (tenure_in message.body) (λ tenure. is_some (row_of rows tenure.tablet) ≡ true)) wire
   -- ranges that are kept, or that orders bear, entries, side items and items of tables lie in rows
   pub ranges :
-      (master tablet : ℕ) → 1 ≤ (keeps master tablet).handover.term → IsWithinRows rows (keeps master tablet).handover.range
+      (master tablet : ℕ) → 1 ≤ (tablets master tablet).handover.term → IsWithinRows rows (tablets master tablet).handover.range
   pub ordered : EachIn (λ number message. IfSome (range_in message.body) (IsWithinRows rows)) wire
   pub entries : (master : ℕ) → All (IsEntryWithin rows) (written master).entries
   pub sides : (master : ℕ) → All (IsItemWithin rows) (flat_map (λ items. items) (written master).sides)
-  pub items : (master : ℕ) → All (IsItemWithin rows) (tables master)
+  pub items : (master : ℕ) → All (IsItemWithin rows) (records master)
   -- a Carried or a Joined has all of each row that its range meets
   pub wholes : (master : ℕ) → All (IsOfWholeRows rows) (written master).entries

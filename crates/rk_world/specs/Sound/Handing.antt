@@ -1,19 +1,19 @@
 -- Handing: what was told to hand a tablet over, as long as it may still be taken.
 use Rattle.std.specs.Prelude.{ℕ, ◌==◌, ◌&&◌, Bool, true, false, if◌then◌else◌, Option, Some, None}
+use Rattle.rk_types.specs.NumberMap.{NumberMap, get}
 use Rattle.rk_types.specs.declared.lineage.Member.{Member}
-use Rattle.rk_message.specs.declared.message.Body.{Body}
-use Rattle.rk_message.specs.declared.message.Body.TheVariants as bodies
+use Rattle.rk_transfer.specs.declared.handover.Handover.{Handover}
+use Rattle.rk_transfer.specs.declared.role.Role.{Role}
+use Rattle.rk_transfer.specs.declared.role.Role.TheVariants as roles
 use Rattle.rk_tablet_map.specs.Phase.{lineage_of}
 use Rattle.rk_tablet_map.specs.declared.phase.Phase.{Phase}
 use Rattle.rk_tablet_map.specs.declared.phase.Phase.TheVariants.{Opening}
 use Rattle.rk_tablet_map.specs.declared.row.Row.{Row}
-use Rattle.rk_transfer.specs.declared.handover.Handover.{Handover}
-use Rattle.rk_transfer.specs.declared.role.Role.{Role}
-use Rattle.rk_transfer.specs.declared.role.Role.TheVariants as roles
-use Rattle.rk_world.specs.Coordinator.{Handed}
-use Rattle.rk_world.specs.Tables.{Table, look_up}
+use Rattle.rk_message.specs.declared.message.Body.{Body}
+use Rattle.rk_message.specs.declared.message.Body.TheVariants as bodies
+use Rattle.rk_world.specs.Lineage.{second_of}
 use Rattle.rk_world.specs.Tablet.{Tablet}
-use Rattle.rk_world.specs.Written.{second_of}
+use Rattle.rk_world.specs.Coordinator.{Handed}
 
 -- whether a row opens
 abbrev pub is_opening : Phase → Bool
@@ -26,9 +26,9 @@ is_wanting (roles.Wanting from) = true
 is_wanting _ = false
 
 -- what the second member of a row's lineage, if it has one, keeps of the tablet
-abbrev pub second_keeps : (ℕ → ℕ → Tablet) → Row → Option Member → Option Handover
-second_keeps keeps row None = None
-second_keeps keeps row (Some member) = Some (keeps member.master row.tablet).handover
+abbrev pub second_has : (ℕ → ℕ → Tablet) → Row → Option Member → Option Handover
+second_has tablets row None = None
+second_has tablets row (Some member) = Some (tablets member.master row.tablet).handover
 
 -- whether the second member waits for its grant
 abbrev pub is_waiting : Option Handover → Bool
@@ -41,20 +41,20 @@ is_waiting_at None term = false
 is_waiting_at (Some handover) term = is_wanting handover.role && (handover.term == term)
 
 -- what the coordinator keeps for the grant, while the target waits for it
-abbrev pub kept_handed : Row → (ℕ → ℕ → Tablet) → Table Handed → Option Handed
-kept_handed row keeps handed =
-    if is_waiting (second_keeps keeps row (second_of (lineage_of row.phase))) then look_up handed row.tablet else None
+abbrev pub handed_for_grant : Row → (ℕ → ℕ → Tablet) → NumberMap Handed → Option Handed
+handed_for_grant row tablets handed =
+    if is_waiting (second_has tablets row (second_of (lineage_of row.phase))) then get handed row.tablet else None
 
 -- what a message hands over for a row: a Transfer of its term while it opens, and a Grant of the target's term while the
 -- target waits for it
 abbrev pub handed_by : Row → (ℕ → ℕ → Tablet) → Body → Option Handed
-handed_by row keeps (bodies.Transfer transfer) =
+handed_by row tablets (bodies.Transfer transfer) =
     if is_opening row.phase && (transfer.tenure.tablet == row.tablet) && (transfer.tenure.term == row.term)
     then Some (record { floor = transfer.floor; ends = transfer.ends })
     else None
-handed_by row keeps (bodies.Grant grant) =
+handed_by row tablets (bodies.Grant grant) =
     if (grant.tenure.tablet == row.tablet)
-    && is_waiting_at (second_keeps keeps row (second_of (lineage_of row.phase))) grant.tenure.term
+    && is_waiting_at (second_has tablets row (second_of (lineage_of row.phase))) grant.tenure.term
     then Some (record { floor = grant.floor; ends = grant.ends })
     else None
-handed_by row keeps _ = None
+handed_by row tablets _ = None

@@ -1,8 +1,10 @@
 -- Logs: each backup keeps first parts of each master's segments, one segment after the other, and no master believes it to
--- keep more. So every backup holds what is committed; the steps that commit, and those that read a dead master's log, need it.
+-- keep more. So every backup holds what is applied; the steps that apply entries, and those that read a dead master's log, need it.
 use Rattle.std.specs.Prelude.{◌≡◌, ◌≢◌, ◌≤◌, ◌<◌, ℕ, Bool, true, nat_lt, List, [], ◌++◌, length, map, All, ⊤}
+use Rattle.rk_types.specs.NumberMap.{NumberMap, EachIn}
 use Rattle.rk_types.specs.declared.node.Node.{Node}
 use Rattle.rk_types.specs.declared.node.Node.TheVariants as nodes
+use Rattle.rk_outside.specs.Segments.{Segments, bytes_of as stored_bytes}
 use Rattle.rk_entry.specs.Entries.{spelled_all}
 use Rattle.rk_entry.specs.declared.entry.Entry.{Entry}
 use Rattle.rk_entry.specs.declared.entry.Entry.TheVariants as entries
@@ -13,9 +15,7 @@ use Rattle.rk_message.specs.declared.message.Body.{Body}
 use Rattle.rk_message.specs.declared.message.Body.TheVariants as bodies
 use Rattle.rk_message.specs.declared.message.Message.{Message}
 use Rattle.rk_message.specs.declared.replication.Append.{Append}
-use Rattle.rk_outside.specs.Segments.{Segments, bytes_of as stored_bytes}
 use Rattle.rk_world.specs.Material.{as_entries}
-use Rattle.rk_world.specs.Tables.{Table, EachIn}
 use Rattle.rk_world.specs.Written.{Written}
 
 -- bytes with which others begin
@@ -48,8 +48,8 @@ segments_in _ = []
 -- a master's log, with what it has written and what each backup stores of it
 pub record IsLog (log : Log) (written : Written) (stored : ℕ → ℕ → List ℕ) : Type 0 where
   pub entries_are : log.entries ≡ written.entries
-  -- what is committed is known to be held by every backup
-  pub held : written.committed ≤ committed log
+  -- what is applied is known to be held by every backup
+  pub held : written.applied ≤ committed log
   pub copies : (backup : ℕ) → IsBackup log backup → IsCopy log (stored backup) (known_of log backup)
   -- side segments spell the items that they have
   pub spelled : log.sides ≡ map (λ items. spelled_all (as_entries items)) written.sides
@@ -79,6 +79,6 @@ LogSays logs stored (nodes.Backup backup) (nodes.Master master) (bodies.Stored t
     told.length ≤ length (stored_of stored master backup told.segment)
 LogSays logs stored from to body = ⊤
 
-pub record Logs (logs : ℕ → Log) (written : ℕ → Written) (stored : ℕ → Segments) (wire : Table Message) : Type 0 where
-  pub kept : (master : ℕ) → IsLog (logs master) (written master) (stored_of stored master)
+pub record Logs (logs : ℕ → Log) (written : ℕ → Written) (stored : ℕ → Segments) (wire : NumberMap Message) : Type 0 where
+  pub each : (master : ℕ) → IsLog (logs master) (written master) (stored_of stored master)
   pub sent : EachIn (λ number message. LogSays logs stored message.from message.to message.body) wire

@@ -3,6 +3,8 @@
 -- each step that takes one needs it.
 use Rattle.std.specs.Prelude.{◌≡◌, ◌≢◌, ◌<◌, ℕ, Bool, true, false, List, [], ◌∷◌, Some, None, All, slice_get, ⊤, ◌⊎◌, ◌≤◌, Option}
 use Rattle.std.specs.List.{flat_map}
+use Rattle.rk_types.specs.NumberMap.{NumberMap, EachIn, get}
+use Rattle.rk_types.specs.Range.{meets}
 use Rattle.rk_types.specs.declared.call.Answer.{Answer}
 use Rattle.rk_types.specs.declared.call.Answer.TheVariants as answers
 use Rattle.rk_types.specs.declared.call.Outcome.{Outcome}
@@ -10,8 +12,20 @@ use Rattle.rk_types.specs.declared.history.Placed.{Placed}
 use Rattle.rk_types.specs.declared.lineage.Member.{Member}
 use Rattle.rk_types.specs.declared.node.Node.{Node}
 use Rattle.rk_types.specs.declared.node.Node.TheVariants as nodes
+use Rattle.rk_outside.specs.Segments.{Segments, bytes_of as copied_bytes}
 use Rattle.rk_entry.specs.declared.entry.Entry.{Entry}
 use Rattle.rk_log.specs.Log.{Log, known_of}
+use Rattle.rk_table.specs.Items.{at_hash}
+use Rattle.rk_table.specs.Scans.{batch_at, next_token}
+use Rattle.rk_done.specs.Completions.{ends_of}
+use Rattle.rk_transfer.specs.declared.handover.Handover.{Handover}
+use Rattle.rk_transfer.specs.declared.role.Role.{Role}
+use Rattle.rk_transfer.specs.declared.role.Role.TheVariants as roles
+use Rattle.rk_tablet_map.specs.Phase.{lineage_of}
+use Rattle.rk_tablet_map.specs.declared.phase.Phase.{Phase}
+use Rattle.rk_tablet_map.specs.declared.phase.Phase.TheVariants.{Owned, Opening, Moving, Rebuilding}
+use Rattle.rk_tablet_map.specs.declared.row.Row.{Row}
+use Rattle.rk_pull.specs.declared.batches.TheConstants.{BATCH_BYTES}
 use Rattle.rk_message.specs.declared.calls.Reply.{Reply}
 use Rattle.rk_message.specs.declared.handover.Grant.{Grant}
 use Rattle.rk_message.specs.declared.handover.Prepare.{Prepare}
@@ -26,29 +40,16 @@ use Rattle.rk_message.specs.declared.rebuilding.CopySegment.{CopySegment}
 use Rattle.rk_message.specs.declared.rebuilding.ReadSegment.{ReadSegment}
 use Rattle.rk_message.specs.declared.rebuilding.Rebuild.{Rebuild}
 use Rattle.rk_message.specs.declared.rebuilding.Rebuilt.{Rebuilt}
-use Rattle.rk_outside.specs.Segments.{Segments, bytes_of as copied_bytes}
-use Rattle.rk_pull.specs.declared.batches.TheConstants.{BATCH_BYTES}
-use Rattle.rk_table.specs.Items.{at_hash}
-use Rattle.rk_table.specs.Scans.{batch_at, next_token}
-use Rattle.rk_tablet_map.specs.Phase.{lineage_of}
-use Rattle.rk_tablet_map.specs.declared.phase.Phase.{Phase}
-use Rattle.rk_tablet_map.specs.declared.phase.Phase.TheVariants.{Owned, Opening, Moving, Rebuilding}
-use Rattle.rk_tablet_map.specs.declared.row.Row.{Row}
-use Rattle.rk_transfer.specs.declared.handover.Handover.{Handover}
-use Rattle.rk_transfer.specs.declared.role.Role.{Role}
-use Rattle.rk_transfer.specs.declared.role.Role.TheVariants as roles
-use Rattle.rk_world.specs.Coordinator.{Handed, is_member}
-use Rattle.rk_world.specs.Ends.{ends_of}
 use Rattle.rk_world.specs.Material.{as_entries}
-use Rattle.rk_world.specs.Sound.Handing.{is_wanting}
-use Rattle.rk_world.specs.Sound.Logs.{stored_of}
-use Rattle.rk_world.specs.Sound.Posts.{Invited, post_of, Post, Owner, Giver, Heir}
-use Rattle.rk_world.specs.Sound.Rebuilds.{READ_BACKUP, IsReadPart}
-use Rattle.rk_world.specs.Sound.Receives.{scan_items}
-use Rattle.rk_world.specs.Tables.{Table, EachIn, look_up}
+use Rattle.rk_world.specs.Lineage.{is_member}
 use Rattle.rk_world.specs.Tablet.{Tablet}
+use Rattle.rk_world.specs.Coordinator.{Handed}
 use Rattle.rk_world.specs.Written.{Written, member_truth}
-use Rattle.rk_types.specs.Range.{meets}
+use Rattle.rk_world.specs.Sound.Posts.{InvitedTarget, post_of, Post, Owner, OpeningSource, OnlyRebuilder}
+use Rattle.rk_world.specs.Sound.Logs.{stored_of}
+use Rattle.rk_world.specs.Sound.Handing.{is_wanting}
+use Rattle.rk_world.specs.Sound.Receives.{scan_items}
+use Rattle.rk_world.specs.Sound.Rebuilds.{READ_BACKUP, IsReadPart}
 
 -- the row is the one that a message speaks of, at its term
 pub record IsOf (row : Row) (tenure : Tenure) : Type 0 where
@@ -69,12 +70,12 @@ ByMaster node Fits = ⊥
 -- term it would follow only what does no harm
 
 -- a Prepare, beside each row: its members keep as great a term, where their range is asked for
-pub record PrepareFits (row : Row) (kept : Handover) (live : Bool) (master : ℕ) (prepare : Prepare) : Type 0 where
+pub record PrepareFits (row : Row) (handover : Handover) (live : Bool) (master : ℕ) (prepare : Prepare) : Type 0 where
   pub range : IsOf row prepare.tenure → prepare.range ≡ row.range
-  pub invited : IsOf row prepare.tenure → live ≡ true → kept.term < row.term → post_of row.phase master ≡ Invited
+  pub invited : IsOf row prepare.tenure → live ≡ true → handover.term < row.term → post_of row.phase master ≡ InvitedTarget
   pub members :
       meets row.range prepare.range ≡ true → live ≡ true → is_member (lineage_of row.phase) master ≡ true
-      → prepare.tenure.term ≤ kept.term
+      → prepare.tenure.term ≤ handover.term
 
 -- a source is asked to close
 abbrev pub IsClosing : Phase → ℕ → Type 0
@@ -83,7 +84,7 @@ IsClosing phase master = ⊥
 
 -- a master is to rebuild a tablet that was its own alone
 abbrev pub IsHeir : Post → Type 0
-IsHeir (Heir place) = ⊤
+IsHeir (OnlyRebuilder place) = ⊤
 IsHeir _ = ⊥
 
 -- a Close may be followed now: the row asks for it, or its source is to rebuild the tablet at a greater term
@@ -98,10 +99,10 @@ HasSource (Moving source sfrom target dfrom) master = source ≡ master
 HasSource phase master = ⊤
 
 -- a Close; one that its living receiver would follow may be followed now
-pub record CloseFits (row : Row) (kept : Handover) (live : Bool) (master : ℕ) (tenure : Tenure) : Type 0 where
+pub record CloseFits (row : Row) (handover : Handover) (live : Bool) (master : ℕ) (tenure : Tenure) : Type 0 where
   pub source : IsOf row tenure → HasSource row.phase master
   pub may_follow :
-      tenure.tablet ≡ row.tablet → live ≡ true → kept.term < tenure.term → MayFollowClose row master tenure.term
+      tenure.tablet ≡ row.tablet → live ≡ true → handover.term < tenure.term → MayFollowClose row master tenure.term
 
 -- a tablet is rebuilt by a master
 abbrev pub IsRebuiltBy : Phase → ℕ → Type 0
@@ -114,11 +115,11 @@ HasLineage (Rebuilding lineage to) other = lineage ≡ other
 HasLineage phase other = ⊤
 
 -- a Rebuild; one of a smaller term is followed by no living master
-pub record RebuildFits (row : Row) (kept : Handover) (live : Bool) (master : ℕ) (rebuild : Rebuild) : Type 0 where
+pub record RebuildFits (row : Row) (handover : Handover) (live : Bool) (master : ℕ) (rebuild : Rebuild) : Type 0 where
   pub range : IsOf row rebuild.tenure → rebuild.range ≡ row.range
   pub lineage : IsOf row rebuild.tenure → HasLineage row.phase rebuild.lineage
   pub ordered :
-      rebuild.tenure.tablet ≡ row.tablet → live ≡ true → kept.term < rebuild.tenure.term
+      rebuild.tenure.tablet ≡ row.tablet → live ≡ true → handover.term < rebuild.tenure.term
       → (rebuild.tenure.term ≡ row.term) × IsRebuiltBy row.phase master
 
 -- a tablet is owned by a master
@@ -131,34 +132,34 @@ abbrev pub IsOwnedByOther : Phase → ℕ → Type 0
 IsOwnedByOther (Owned owner from) master = owner ≢ master
 IsOwnedByOther phase master = ⊥
 
--- a master owns a tablet, or owned it at its kept term
+-- a master owns a tablet, or owned it at its own term
 abbrev pub IsOwner : Post → ℕ → ℕ → Type 0
-IsOwner (Owner place) kept term = ⊤
-IsOwner Giver kept term = ⊤
-IsOwner (Heir place) kept term = kept < term
-IsOwner _ kept term = ⊥
+IsOwner (Owner place) own term = ⊤
+IsOwner OpeningSource own term = ⊤
+IsOwner (OnlyRebuilder place) own term = own < term
+IsOwner _ own term = ⊥
 
 -- an Own; the master that keeps its term owns the tablet, or did
-pub record OwnFits (row : Row) (kept : Handover) (live : Bool) (master : ℕ) (tenure : Tenure) : Type 0 where
+pub record OwnFits (row : Row) (handover : Handover) (live : Bool) (master : ℕ) (tenure : Tenure) : Type 0 where
   pub owned : IsOf row tenure → IsOwnedBy row.phase master
   pub owner :
-      tenure.tablet ≡ row.tablet → live ≡ true → kept.term ≡ tenure.term
-      → IsOwner (post_of row.phase master) kept.term row.term
+      tenure.tablet ≡ row.tablet → live ≡ true → handover.term ≡ tenure.term
+      → IsOwner (post_of row.phase master) handover.term row.term
 
 -- a Release; a master that keeps no greater term is not of the lineage
-pub record ReleaseFits (row : Row) (kept : Handover) (live : Bool) (master : ℕ) (tenure : Tenure) : Type 0 where
+pub record ReleaseFits (row : Row) (handover : Handover) (live : Bool) (master : ℕ) (tenure : Tenure) : Type 0 where
   pub owned : IsOf row tenure → IsOwnedByOther row.phase master
   pub outside :
-      tenure.tablet ≡ row.tablet → live ≡ true → kept.term ≤ tenure.term
+      tenure.tablet ≡ row.tablet → live ≡ true → handover.term ≤ tenure.term
       → is_member (lineage_of row.phase) master ≡ false
 
 -- ---- reports to the coordinator: one of the row's term that it would take agrees with what its sender keeps
 
 -- a Ready tells the place of a target that waits
 abbrev pub ReadyIn : Phase → Handover → ℕ → ℕ → ℕ → Type 0
-ReadyIn (Opening source sfrom target None) kept term master place =
-    (target ≡ master) × (kept.role ≡ roles.Wanting place) × (kept.term ≡ term)
-ReadyIn phase kept term master place = ⊤
+ReadyIn (Opening source sfrom target None) handover term master place =
+    (target ≡ master) × (handover.role ≡ roles.Wanting place) × (handover.term ≡ term)
+ReadyIn phase handover term master place = ⊤
 
 -- a frozen source tells its counter and its ends
 pub record IsFrozenSource (tablet : Tablet) (term : ℕ) (transfer : Transfer) : Type 0 where
@@ -173,30 +174,30 @@ TransferIn (Opening source sfrom target dfrom) tablet term master transfer =
     (source ≡ master) × IsFrozenSource tablet term transfer
 TransferIn phase tablet term master transfer = ⊤
 
--- a target that joins has its closing entry committed
+-- a target that joins has its closing entry applied
 abbrev pub HasJoined : Role → ℕ → Type 0
-HasJoined (roles.Joining (Some entry)) committed = entry < committed
-HasJoined role committed = ⊥
+HasJoined (roles.Joining (Some entry)) applied = entry < applied
+HasJoined role applied = ⊥
 
 -- a Joined is of the target, which has joined, where the row moves, and of the owner, where it is owned
 abbrev pub JoinedIn : Phase → Handover → ℕ → ℕ → ℕ → Type 0
-JoinedIn (Moving source sfrom target dfrom) kept committed term master =
-    (target ≡ master) × (kept.term ≡ term) × HasJoined kept.role committed
-JoinedIn (Owned owner from) kept committed term master = owner ≡ master
-JoinedIn phase kept committed term master = ⊥
+JoinedIn (Moving source sfrom target dfrom) handover applied term master =
+    (target ≡ master) × (handover.term ≡ term) × HasJoined handover.role applied
+JoinedIn (Owned owner from) handover applied term master = owner ≡ master
+JoinedIn phase handover applied term master = ⊥
 
--- a master that rebuilds has its closing entry committed, and its own entries begin at this place
+-- a master that rebuilds has its closing entry applied, and its own entries begin at this place
 abbrev pub HasRebuilt : Role → ℕ → ℕ → Type 0
-HasRebuilt (roles.Rebuilding from (Some entry)) committed place = (entry < committed) × (from ≡ place)
-HasRebuilt role committed place = ⊥
+HasRebuilt (roles.Rebuilding from (Some entry)) applied place = (entry < applied) × (from ≡ place)
+HasRebuilt role applied place = ⊥
 
 -- a Rebuilt tells the place, and the ends of what its sender merged in their order
 abbrev pub RebuiltIn : Phase → Tablet → ℕ → ℕ → ℕ → Rebuilt → Type 0
-RebuiltIn (Rebuilding lineage to) tablet committed term master rebuilt =
-    (to ≡ master) × (tablet.handover.term ≡ term) × HasRebuilt tablet.handover.role committed rebuilt.place
+RebuiltIn (Rebuilding lineage to) tablet applied term master rebuilt =
+    (to ≡ master) × (tablet.handover.term ≡ term) × HasRebuilt tablet.handover.role applied rebuilt.place
     × (rebuilt.ends ≡ tablet.merged.ends)
-RebuiltIn (Owned owner from) tablet committed term master rebuilt = (owner ≡ master) × (from ≡ rebuilt.place)
-RebuiltIn phase tablet committed term master rebuilt = ⊥
+RebuiltIn (Owned owner from) tablet applied term master rebuilt = (owner ≡ master) × (from ≡ rebuilt.place)
+RebuiltIn phase tablet applied term master rebuilt = ⊥
 
 -- ---- between source and target: none of the row's term stands before the row has moved; what a target would take is what
 -- its source has
@@ -212,9 +213,9 @@ abbrev pub AfterMove : Row → Tenure → Type 0
 AfterMove row tenure = IsOf row tenure → IsMovingOrOwned row.phase
 
 -- a message is of the tablet at the term that a target keeps
-pub record IsOfTarget (row : Row) (kept : Handover) (tenure : Tenure) : Type 0 where
+pub record IsOfTarget (row : Row) (handover : Handover) (tenure : Tenure) : Type 0 where
   pub tablet : tenure.tablet ≡ row.tablet
-  pub term : tenure.term ≡ kept.term
+  pub term : tenure.term ≡ handover.term
 
 -- a Grant is for the second of two members, from the first, with what that told
 abbrev pub GrantIn : List Member → Option Handed → ℕ → Grant → Type 0
@@ -224,17 +225,17 @@ GrantIn (source ∷ target ∷ []) handed master grant =
 GrantIn lineage handed master grant = ⊥
 
 -- a Grant; a living receiver keeps as great a term, and one that waits at its term is the target
-pub record GrantAgrees (row : Row) (kept : Handover) (live : Bool) (handed : Option Handed) (master : ℕ) (grant : Grant) : Type 0 where
-  pub reached : grant.tenure.tablet ≡ row.tablet → live ≡ true → grant.tenure.term ≤ kept.term
+pub record GrantAgrees (row : Row) (handover : Handover) (live : Bool) (handed : Option Handed) (master : ℕ) (grant : Grant) : Type 0 where
+  pub reached : grant.tenure.tablet ≡ row.tablet → live ≡ true → grant.tenure.term ≤ handover.term
   pub told :
-      grant.tenure.tablet ≡ row.tablet → live ≡ true → grant.tenure.term ≡ kept.term → is_wanting kept.role ≡ true
+      grant.tenure.tablet ≡ row.tablet → live ≡ true → grant.tenure.term ≡ handover.term → is_wanting handover.role ≡ true
       → GrantIn (lineage_of row.phase) handed master grant
 
 -- a Pull or a Want of a target goes to its source
 abbrev pub AskAgrees : Row → (ℕ → ℕ → Tablet) → List Member → ℕ → Node → Tenure → Type 0
-AskAgrees row keeps (source ∷ target ∷ []) master to tenure =
-    target.master ≡ master → IsOfTarget row (keeps master row.tablet).handover tenure → to ≡ nodes.Master source.master
-AskAgrees row keeps lineage master to tenure = ⊤
+AskAgrees row tablets (source ∷ target ∷ []) master to tenure =
+    target.master ≡ master → IsOfTarget row (tablets master row.tablet).handover tenure → to ≡ nodes.Master source.master
+AskAgrees row tablets lineage master to tenure = ⊤
 
 -- what a target that pulls would replay
 pub record IsFromSource (source : Member) (from : Node) (items : List Entry) (entries : List Entry) : Type 0 where
@@ -243,20 +244,20 @@ pub record IsFromSource (source : Member) (from : Node) (items : List Entry) (en
 
 -- a Pulled of the term that a target keeps has the next items of its source
 abbrev pub PulledAgrees : Row → (ℕ → Written) → (ℕ → ℕ → Tablet) → (ℕ → Bool) → List Member → Node → ℕ → Pulled → Type 0
-PulledAgrees row written keeps live (source ∷ target ∷ []) from master pulled =
-    target.master ≡ master → live master ≡ true → IsOfTarget row (keeps master row.tablet).handover pulled.tenure
+PulledAgrees row written tablets live (source ∷ target ∷ []) from master pulled =
+    target.master ≡ master → live master ≡ true → IsOfTarget row (tablets master row.tablet).handover pulled.tenure
     → IsFromSource source from
     (as_entries (batch_at pulled.token BATCH_BYTES (scan_items (member_truth written row.range source)))) pulled.entries
     × (pulled.next ≡ next_token pulled.token BATCH_BYTES (scan_items (member_truth written row.range source)))
-PulledAgrees row written keeps live lineage from master pulled = ⊤
+PulledAgrees row written tablets live lineage from master pulled = ⊤
 
 -- a Got of the term that a target keeps has the items of its source with these hashes
 abbrev pub GotAgrees : Row → (ℕ → Written) → (ℕ → ℕ → Tablet) → (ℕ → Bool) → List Member → Node → ℕ → Got → Type 0
-GotAgrees row written keeps live (source ∷ target ∷ []) from master got =
-    target.master ≡ master → live master ≡ true → IsOfTarget row (keeps master row.tablet).handover got.tenure
+GotAgrees row written tablets live (source ∷ target ∷ []) from master got =
+    target.master ≡ master → live master ≡ true → IsOfTarget row (tablets master row.tablet).handover got.tenure
     → IsFromSource source from
     (as_entries (flat_map (λ hash. at_hash hash (scan_items (member_truth written row.range source))) got.hashes)) got.entries
-GotAgrees row written keeps live lineage from master got = ⊤
+GotAgrees row written tablets live lineage from master got = ⊤
 
 -- ---- between a rebuilding master and backup 1, by the row's term and phase
 
@@ -298,55 +299,55 @@ ReplyFits journal node reply = ⊤
 -- ---- all kinds
 
 -- what a message says of a row
-abbrev pub SaysOf : Row → (ℕ → Log) → (ℕ → Written) → (ℕ → Segments) → (ℕ → ℕ → Tablet) → (ℕ → Bool) → Table Handed → Node → Node → Body → Type 0
-SaysOf row logs written stored keeps live handed from to (bodies.Prepare prepare) =
-    IfMaster to (λ master. PrepareFits row (keeps master row.tablet).handover (live master) master prepare)
-SaysOf row logs written stored keeps live handed from to (bodies.Ready ready) =
+abbrev pub SaysOf : Row → (ℕ → Log) → (ℕ → Written) → (ℕ → Segments) → (ℕ → ℕ → Tablet) → (ℕ → Bool) → NumberMap Handed → Node → Node → Body → Type 0
+SaysOf row logs written stored tablets live handed from to (bodies.Prepare prepare) =
+    IfMaster to (λ master. PrepareFits row (tablets master row.tablet).handover (live master) master prepare)
+SaysOf row logs written stored tablets live handed from to (bodies.Ready ready) =
     ByMaster from (λ master. IsOf row ready.tenure
-    → ReadyIn row.phase (keeps master row.tablet).handover row.term master ready.place)
-SaysOf row logs written stored keeps live handed from to (bodies.Close tenure) =
-    IfMaster to (λ master. CloseFits row (keeps master row.tablet).handover (live master) master tenure)
-SaysOf row logs written stored keeps live handed from to (bodies.Transfer transfer) =
+    → ReadyIn row.phase (tablets master row.tablet).handover row.term master ready.place)
+SaysOf row logs written stored tablets live handed from to (bodies.Close tenure) =
+    IfMaster to (λ master. CloseFits row (tablets master row.tablet).handover (live master) master tenure)
+SaysOf row logs written stored tablets live handed from to (bodies.Transfer transfer) =
     ByMaster from (λ master. IsOf row transfer.tenure
-    → TransferIn row.phase (keeps master row.tablet) row.term master transfer)
-SaysOf row logs written stored keeps live handed from to (bodies.Grant grant) =
+    → TransferIn row.phase (tablets master row.tablet) row.term master transfer)
+SaysOf row logs written stored tablets live handed from to (bodies.Grant grant) =
     AfterMove row grant.tenure
-    × IfMaster to (λ master. GrantAgrees row (keeps master row.tablet).handover (live master) (look_up handed row.tablet) master grant)
-SaysOf row logs written stored keeps live handed from to (bodies.Pull pull) =
-    AfterMove row pull.tenure × ByMaster from (λ master. AskAgrees row keeps (lineage_of row.phase) master to pull.tenure)
-SaysOf row logs written stored keeps live handed from to (bodies.Pulled pulled) =
+    × IfMaster to (λ master. GrantAgrees row (tablets master row.tablet).handover (live master) (get handed row.tablet) master grant)
+SaysOf row logs written stored tablets live handed from to (bodies.Pull pull) =
+    AfterMove row pull.tenure × ByMaster from (λ master. AskAgrees row tablets (lineage_of row.phase) master to pull.tenure)
+SaysOf row logs written stored tablets live handed from to (bodies.Pulled pulled) =
     AfterMove row pulled.tenure
-    × IfMaster to (λ master. PulledAgrees row written keeps live (lineage_of row.phase) from master pulled)
-SaysOf row logs written stored keeps live handed from to (bodies.Want want) =
-    AfterMove row want.tenure × ByMaster from (λ master. AskAgrees row keeps (lineage_of row.phase) master to want.tenure)
-SaysOf row logs written stored keeps live handed from to (bodies.Got got) =
+    × IfMaster to (λ master. PulledAgrees row written tablets live (lineage_of row.phase) from master pulled)
+SaysOf row logs written stored tablets live handed from to (bodies.Want want) =
+    AfterMove row want.tenure × ByMaster from (λ master. AskAgrees row tablets (lineage_of row.phase) master to want.tenure)
+SaysOf row logs written stored tablets live handed from to (bodies.Got got) =
     AfterMove row got.tenure
-    × IfMaster to (λ master. GotAgrees row written keeps live (lineage_of row.phase) from master got)
-SaysOf row logs written stored keeps live handed from to (bodies.Joined tenure) =
+    × IfMaster to (λ master. GotAgrees row written tablets live (lineage_of row.phase) from master got)
+SaysOf row logs written stored tablets live handed from to (bodies.Joined tenure) =
     ByMaster from (λ master. IsOf row tenure
-    → JoinedIn row.phase (keeps master row.tablet).handover (written master).committed row.term master)
-SaysOf row logs written stored keeps live handed from to (bodies.Own tenure) =
-    IfMaster to (λ master. OwnFits row (keeps master row.tablet).handover (live master) master tenure)
-SaysOf row logs written stored keeps live handed from to (bodies.Release tenure) =
-    IfMaster to (λ master. ReleaseFits row (keeps master row.tablet).handover (live master) master tenure)
-SaysOf row logs written stored keeps live handed from to (bodies.Rebuild rebuild) =
-    IfMaster to (λ master. RebuildFits row (keeps master row.tablet).handover (live master) master rebuild)
-SaysOf row logs written stored keeps live handed from to (bodies.Read read) =
+    → JoinedIn row.phase (tablets master row.tablet).handover (written master).applied row.term master)
+SaysOf row logs written stored tablets live handed from to (bodies.Own tenure) =
+    IfMaster to (λ master. OwnFits row (tablets master row.tablet).handover (live master) master tenure)
+SaysOf row logs written stored tablets live handed from to (bodies.Release tenure) =
+    IfMaster to (λ master. ReleaseFits row (tablets master row.tablet).handover (live master) master tenure)
+SaysOf row logs written stored tablets live handed from to (bodies.Rebuild rebuild) =
+    IfMaster to (λ master. RebuildFits row (tablets master row.tablet).handover (live master) master rebuild)
+SaysOf row logs written stored tablets live handed from to (bodies.Read read) =
     IsOf row read.tenure → ReadIn row.phase live to read
-SaysOf row logs written stored keeps live handed from to (bodies.Copy copy) =
+SaysOf row logs written stored tablets live handed from to (bodies.Copy copy) =
     IsOf row copy.tenure → CopyIn row.phase logs stored live copy
-SaysOf row logs written stored keeps live handed from to (bodies.Rebuilt rebuilt) =
+SaysOf row logs written stored tablets live handed from to (bodies.Rebuilt rebuilt) =
     ByMaster from (λ master. IsOf row rebuilt.tenure
-    → RebuiltIn row.phase (keeps master row.tablet) (written master).committed row.term master rebuilt)
-SaysOf row logs written stored keeps live handed from to body = ⊤
+    → RebuiltIn row.phase (tablets master row.tablet) (written master).applied row.term master rebuilt)
+SaysOf row logs written stored tablets live handed from to body = ⊤
 
 -- what a message says that no row is needed for: a Reply
 abbrev pub Says : List Placed → Node → Body → Type 0
 Says journal to (bodies.Reply reply) = ReplyFits journal to reply
 Says journal to body = ⊤
 
-pub record Messages (rows : List Row) (logs : ℕ → Log) (written : ℕ → Written) (stored : ℕ → Segments) (keeps : ℕ → ℕ → Tablet) (live : ℕ → Bool) (handed : Table Handed) (journal : List Placed) (wire : Table Message) : Type 0 where
+pub record Messages (rows : List Row) (logs : ℕ → Log) (written : ℕ → Written) (stored : ℕ → Segments) (tablets : ℕ → ℕ → Tablet) (live : ℕ → Bool) (handed : NumberMap Handed) (journal : List Placed) (wire : NumberMap Message) : Type 0 where
   pub of_rows :
       EachIn (λ number message.
-      All (λ row. SaysOf row logs written stored keeps live handed message.from message.to message.body) rows) wire
+      All (λ row. SaysOf row logs written stored tablets live handed message.from message.to message.body) rows) wire
   pub others : EachIn (λ number message. Says journal message.to message.body) wire

@@ -1,77 +1,80 @@
 -- Moves: the conditions of the small changes of roles, rebuilds and rows.
 use Rattle.std.specs.Prelude.{◌≡◌, ◌≢◌, ◌≤◌, ◌<◌, ℕ, ◌+◌, Bool, true, false, List, [], ◌∷◌, ◌++◌, Option, Some, None, Contains, All, length, drop, ◌⊎◌, ◌^◌}
 use Rattle.std.specs.List.{flat_map, list_all, list_any}
+use Rattle.rk_types.specs.NumberMap.{NumberMap}
+use Rattle.rk_types.specs.Range.{meets}
+use Rattle.rk_types.specs.declared.call.Ended.{Ended}
 use Rattle.rk_types.specs.declared.held.Held.{Held}
 use Rattle.rk_types.specs.declared.held.Token.{Token}
 use Rattle.rk_types.specs.declared.lineage.Member.{Member}
 use Rattle.rk_types.specs.declared.range.Range.{Range}
+use Rattle.rk_outside.specs.Segments.{bytes_of as read_bytes}
 use Rattle.rk_entry.specs.declared.entry.Entry.{Entry}
 use Rattle.rk_entry.specs.declared.lists.TheConstants.{FIRST_SIDE_SEGMENT}
 use Rattle.rk_log.specs.Cut.{cut}
 use Rattle.rk_log.specs.Known.{Known}
 use Rattle.rk_log.specs.Log.{Log, is_side_stored}
-use Rattle.rk_message.specs.declared.handover.Grant.{Grant}
-use Rattle.rk_message.specs.declared.handover.Prepare.{Prepare}
-use Rattle.rk_message.specs.declared.rebuilding.Rebuild.{Rebuild}
 use Rattle.rk_table.specs.Items.{at_hash}
 use Rattle.rk_table.specs.Scans.{passed, end}
+use Rattle.rk_done.specs.Completions.{ends_of}
+use Rattle.rk_transfer.specs.declared.handover.Handover.{Handover}
+use Rattle.rk_transfer.specs.declared.role.Role.{Role}
+use Rattle.rk_transfer.specs.declared.role.Role.TheVariants as roles
 use Rattle.rk_tablet_map.specs.Phase.{lineage_of}
 use Rattle.rk_tablet_map.specs.Rows.{add_fault, split_fault}
 use Rattle.rk_tablet_map.specs.declared.phase.Phase.TheVariants.{Owned, Opening, Moving, Rebuilding}
 use Rattle.rk_tablet_map.specs.declared.row.Row.{Row}
-use Rattle.rk_transfer.specs.declared.handover.Handover.{Handover}
-use Rattle.rk_transfer.specs.declared.role.Role.{Role}
-use Rattle.rk_transfer.specs.declared.role.Role.TheVariants as roles
-use Rattle.rk_world.specs.Coordinator.{Handed, is_member}
-use Rattle.rk_world.specs.Ends.{items_of, ends_of}
-use Rattle.rk_world.specs.Gather.{next_reading, is_awaited}
-use Rattle.rk_world.specs.Handovers.{is_above}
-use Rattle.rk_world.specs.Master.{touches}
+use Rattle.rk_message.specs.declared.handover.Grant.{Grant}
+use Rattle.rk_message.specs.declared.handover.Prepare.{Prepare}
+use Rattle.rk_message.specs.declared.rebuilding.Rebuild.{Rebuild}
+use Rattle.rk_world.specs.Ends.{items_of}
 use Rattle.rk_world.specs.Material.{as_entries}
-use Rattle.rk_world.specs.Rebuilds.{is_gathering}
-use Rattle.rk_world.specs.Tables.{Table}
-use Rattle.rk_world.specs.Tablet.{Tablet, sealed_sides}
-use Rattle.rk_world.specs.Written.{Written, committed_entries, member_truth}
-use Rattle.rk_world.specs.Sound.Changes.{HasSegmentLeft}
-use Rattle.rk_world.specs.Sound.Messages.{HasJoined, HasRebuilt, MayFollowClose, IsOwner}
+use Rattle.rk_world.specs.Lineage.{is_member}
+use Rattle.rk_world.specs.Gather.{next_reading, is_awaited}
+use Rattle.rk_world.specs.Tablet.{Tablet}
+use Rattle.rk_world.specs.RoleTests.{is_gathering}
+use Rattle.rk_world.specs.SideLogs.{sealed_sides}
+use Rattle.rk_world.specs.Master.{touches}
+use Rattle.rk_world.specs.Handovers.{is_above}
+use Rattle.rk_world.specs.Coordinator.{Handed}
+use Rattle.rk_world.specs.Written.{Written, applied_entries, member_truth}
 use Rattle.rk_world.specs.Sound.Nodes.{IsMaster}
-use Rattle.rk_world.specs.Sound.Posts.{Invited, post_of}
-use Rattle.rk_world.specs.Sound.Rebuilds.{IsReadPart}
-use Rattle.rk_world.specs.Sound.Receives.{scan_items, IsOutdone, IsFound, entries_from, copied_items}
 use Rattle.rk_world.specs.Sound.Cover.{IsWithinRows}
-use Rattle.rk_types.specs.Range.{meets}
-use Rattle.rk_types.specs.declared.call.Ended.{Ended}
-use Rattle.rk_outside.specs.Segments.{bytes_of as read_bytes}
+use Rattle.rk_world.specs.Sound.Posts.{InvitedTarget, post_of}
+use Rattle.rk_world.specs.Sound.Receives.{scan_items, IsOutdone, IsFound, entries_from, copied_items}
+use Rattle.rk_world.specs.Sound.Rebuilds.{IsReadPart}
+use Rattle.rk_world.specs.Sound.Messages.{HasJoined, HasRebuilt, MayFollowClose, IsOwner}
+use Rattle.rk_world.specs.Sound.Changes.{HasSegmentLeft}
 
--- nothing of a range that is not committed stands in a log
+-- nothing of a range that is not applied stands in a log
 abbrev pub IsSettledIn : Range → Written → Type 0
-IsSettledIn range written = list_any (touches range) (drop written.committed written.entries) ≡ false
+IsSettledIn range written = list_any (touches range) (drop written.applied written.entries) ≡ false
 
 -- ---- a tablet is handed over
 
 -- a living master may make ready for a tablet at a term above each that it keeps of it, or of a range that meets it, and at most the
 -- row's; at the row's own term only where the row asks it to. The range lies in rows, and the master is in the lineage of no row that
 -- meets it
-pub record MayBePrepared (rows : List Row) (row : Row) (keeps : ℕ → Tablet) (tablets : Table Tablet) (live : Bool) (master : ℕ) (prepare : Prepare) : Type 0 where
+pub record MayBePrepared (rows : List Row) (row : Row) (tablets : ℕ → Tablet) (map : NumberMap Tablet) (live : Bool) (master : ℕ) (prepare : Prepare) : Type 0 where
   pub lives : live ≡ true
   pub has_row : Contains rows row
   pub tablet_is : prepare.tenure.tablet ≡ row.tablet
-  pub greater : (keeps row.tablet).handover.term < prepare.tenure.term
-  pub above : list_all (is_above prepare.range prepare.tenure.term) tablets ≡ true
+  pub greater : (tablets row.tablet).handover.term < prepare.tenure.term
+  pub above : list_all (is_above prepare.range prepare.tenure.term) map ≡ true
   pub within : prepare.tenure.term ≤ row.term
-  pub invited : prepare.tenure.term ≡ row.term → (post_of row.phase master ≡ Invited) × (prepare.range ≡ row.range)
+  pub invited : prepare.tenure.term ≡ row.term → (post_of row.phase master ≡ InvitedTarget) × (prepare.range ≡ row.range)
   pub covered : IsWithinRows rows prepare.range
   pub outside :
       All (λ other. meets other.range prepare.range ≡ true → is_member (lineage_of other.phase) master ≡ true → ⊥) rows
 
 -- a living source may close at a greater term, where the row asks it to, or where it is now to rebuild the tablet, which was its
 -- alone, at a term that is greater still
-pub record MayBeClosed (row : Row) (kept : Handover) (live : Bool) (master term : ℕ) : Type 0 where
+pub record MayBeClosed (row : Row) (handover : Handover) (live : Bool) (master term : ℕ) : Type 0 where
   pub lives : live ≡ true
-  pub greater : kept.term < term
+  pub greater : handover.term < term
   pub may_follow : MayFollowClose row master term
 
--- a tablet that closes may freeze, where nothing of it is left to be committed
+-- a tablet that closes may freeze, where nothing of it is left to be applied
 pub record MayBeFrozen (handover : Handover) (written : Written) (live : Bool) : Type 0 where
   pub lives : live ≡ true
   pub closing : handover.role ≡ roles.Closing
@@ -96,7 +99,7 @@ pub record MayBeReplayed (row : Row) (source target : Member) (written : ℕ →
   pub of_source : Contains (scan_items (member_truth written row.range source)) item
 
 -- items of a source are kept at a target, copied or outdone, and found in its table
-pub record AreKept (items own sides table : List Held) : Type 0 where
+pub record HaveArrived (items own sides table : List Held) : Type 0 where
   pub copied : (item : Held) → Contains items item → Contains sides item ⊎ IsOutdone own item
   pub found : (item : Held) → Contains items item → IsFound table item
 
@@ -105,9 +108,9 @@ pub record MayPass (row : Row) (source target : Member) (written : ℕ → Writt
   pub lives : live ≡ true
   pub lineage_is : lineage_of row.phase ≡ source ∷ target ∷ []
   pub receiving : tablet.handover.role ≡ roles.Receiving
-  pub kept :
-      AreKept (passed next (scan_items (member_truth written row.range source)))
-      (items_of (entries_from row.range target.from (committed_entries (written target.master))))
+  pub arrived :
+      HaveArrived (passed next (scan_items (member_truth written row.range source)))
+      (items_of (entries_from row.range target.from (applied_entries (written target.master))))
       (copied_items roles.Receiving tablet.pulling (written target.master).sides) table
 
 -- hashes may be resolved where all items that have them are kept
@@ -115,9 +118,9 @@ pub record MayResolve (row : Row) (source target : Member) (written : ℕ → Wr
   pub lives : live ≡ true
   pub lineage_is : lineage_of row.phase ≡ source ∷ target ∷ []
   pub receiving : tablet.handover.role ≡ roles.Receiving
-  pub kept :
-      AreKept (flat_map (λ hash. at_hash hash (scan_items (member_truth written row.range source))) hashes)
-      (items_of (entries_from row.range target.from (committed_entries (written target.master))))
+  pub arrived :
+      HaveArrived (flat_map (λ hash. at_hash hash (scan_items (member_truth written row.range source))) hashes)
+      (items_of (entries_from row.range target.from (applied_entries (written target.master))))
       (copied_items roles.Receiving tablet.pulling (written target.master).sides) table
 
 -- the side lists of a tablet may be sealed once all is pulled
@@ -134,17 +137,17 @@ pub record MayJoin (log : Log) (tablet : Tablet) (live : Bool) : Type 0 where
   pub room : HasSegmentLeft log
   pub stored : All (λ segment. is_side_stored log segment ≡ true) tablet.pulling.sealed
 
--- the entry that closes the role is committed
+-- the entry that closes the role is applied
 abbrev pub IsClosed : Role → ℕ → Type 0
-IsClosed (roles.Joining (Some entry)) committed = entry < committed
-IsClosed (roles.Rebuilding from (Some entry)) committed = entry < committed
-IsClosed role committed = ⊥
+IsClosed (roles.Joining (Some entry)) applied = entry < applied
+IsClosed (roles.Rebuilding from (Some entry)) applied = entry < applied
+IsClosed role applied = ⊥
 
--- the owner of a row, or one that owned it at the term that it keeps, may serve once its closing entry is committed
+-- the owner of a row, or one that owned it at the term that it keeps, may serve once its closing entry is applied
 pub record MayBeOwned (row : Row) (handover : Handover) (written : Written) (live : Bool) (master : ℕ) : Type 0 where
   pub lives : live ≡ true
   pub owner : IsOwner (post_of row.phase master) handover.term row.term
-  pub closed : IsClosed handover.role written.committed
+  pub closed : IsClosed handover.role written.applied
 
 -- a frozen tablet may be given up by a living master that is not of the lineage
 pub record MayBeReleased (row : Row) (handover : Handover) (live : Bool) (master : ℕ) : Type 0 where
@@ -155,14 +158,14 @@ pub record MayBeReleased (row : Row) (handover : Handover) (live : Bool) (master
 -- ---- a tablet is rebuilt
 
 -- a living master may begin to rebuild a tablet that its row asks it to, at a term above all that it keeps there
-pub record MayBegin (row : Row) (tablets : Table Tablet) (kept : Handover) (live : Bool) (master : ℕ) (rebuild : Rebuild) : Type 0 where
+pub record MayBegin (row : Row) (map : NumberMap Tablet) (handover : Handover) (live : Bool) (master : ℕ) (rebuild : Rebuild) : Type 0 where
   pub lives : live ≡ true
   pub ordered : row.phase ≡ Rebuilding rebuild.lineage master
   pub tablet_is : rebuild.tenure.tablet ≡ row.tablet
   pub term_is : rebuild.tenure.term ≡ row.term
   pub range_is : rebuild.range ≡ row.range
-  pub greater : kept.term < row.term
-  pub above : list_all (is_above row.range row.term) tablets ≡ true
+  pub greater : handover.term < row.term
+  pub above : list_all (is_above row.range row.term) map ≡ true
 
 -- what was read of the awaited segment may be gathered, where it is a first part that holds what its master knew to be stored; where
 -- there are no bytes, the master knew nothing of it to be stored
@@ -205,10 +208,10 @@ pub record MaySplit (rows : List Row) (row : Row) (at new : ℕ) : Type 0 where
   pub fits : split_fault rows row.tablet at new ≡ None
 
 -- the place of a target may be noted, where that waits at it
-pub record MayNote (row : Row) (kept : Handover) (source sfrom target place : ℕ) : Type 0 where
+pub record MayNote (row : Row) (handover : Handover) (source sfrom target place : ℕ) : Type 0 where
   pub phase_is : row.phase ≡ Opening source sfrom target None
-  pub waiting : kept.role ≡ roles.Wanting place
-  pub term_is : kept.term ≡ row.term
+  pub waiting : handover.role ≡ roles.Wanting place
+  pub term_is : handover.term ≡ row.term
 
 -- a row may move, where its source is frozen and told its counter and its ends, and its target waits at the place that it told
 pub record MayMove (row : Row) (source target : Tablet) (from sfrom to dfrom : ℕ) (handed : Handed) : Type 0 where
@@ -221,16 +224,16 @@ pub record MayMove (row : Row) (source target : Tablet) (from sfrom to dfrom : �
   pub target_term : target.handover.term ≡ row.term
 
 -- a row that moved may be owned by its target, once that has joined
-pub record MayBeJoined (row : Row) (kept : Handover) (written : Written) (source sfrom target dfrom : ℕ) : Type 0 where
+pub record MayBeJoined (row : Row) (handover : Handover) (written : Written) (source sfrom target dfrom : ℕ) : Type 0 where
   pub phase_is : row.phase ≡ Moving source sfrom target dfrom
-  pub term_is : kept.term ≡ row.term
-  pub joined : HasJoined kept.role written.committed
+  pub term_is : handover.term ≡ row.term
+  pub joined : HasJoined handover.role written.applied
 
 -- a row that is rebuilt may be owned by the master that rebuilt it, which told its place and the ends that it merged
 pub record MayBeRebuilt (row : Row) (tablet : Tablet) (written : Written) (lineage : List Member) (to place : ℕ) (ends : List Ended) : Type 0 where
   pub phase_is : row.phase ≡ Rebuilding lineage to
   pub term_is : tablet.handover.term ≡ row.term
-  pub rebuilt : HasRebuilt tablet.handover.role written.committed place
+  pub rebuilt : HasRebuilt tablet.handover.role written.applied place
   pub ends_are : ends ≡ tablet.merged.ends
 
 -- a master may be noticed once it has crashed

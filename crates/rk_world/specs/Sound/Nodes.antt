@@ -1,9 +1,9 @@
 -- Nodes: who is there. Each master has its own number, there is at least one backup, and each master knows of all; no row names
--- a master that is not there, and some master is left. The steps that send, that commit and that notice a crash need it.
+-- a master that is not there, and some master is left. The steps that send, that apply and that notice a crash need it.
 use Rattle.std.specs.Prelude.{◌≡◌, ◌≤◌, ℕ, Bool, true, false, List, length, All}
 use Rattle.rk_tablet_map.specs.declared.row.Row.{Row}
-use Rattle.rk_world.specs.Coordinator.{names}
 use Rattle.rk_world.specs.Master.{Master}
+use Rattle.rk_world.specs.Notices.{names}
 
 -- the masters of a lane are numbered from 1
 pub record IsMaster (count number : ℕ) : Type 0 where

@@ -1,11 +1,11 @@
--- Order: an item that is not committed is above every version of its key in the truth, and above those staged before it. So
--- an entry that becomes committed is the newest of its key, and the newest staged item is the newest of all; the steps that
--- commit and that choose what a call does need it.
+-- Order: an item that is not applied is above every version of its key in the truth, and above those staged before it. So
+-- an entry that is applied is the newest of its key, and the newest staged item is the newest of all; the steps that
+-- apply and that choose what a call does need it.
 use Rattle.std.specs.Prelude.{◌≡◌, ◌<◌, true, List, [], ◌∷◌, ◌++◌, All, ⊤}
 use Rattle.rk_types.specs.declared.held.Held.{Held}
 use Rattle.rk_entry.specs.declared.entry.Entry.{Entry}
-use Rattle.rk_overlay.specs.Newest.{is_of}
 use Rattle.rk_tablet_map.specs.declared.row.Row.{Row}
+use Rattle.rk_overlay.specs.Newest.{is_of}
 use Rattle.rk_world.specs.Ends.{items_of}
 
 -- an item is above each other one of its key

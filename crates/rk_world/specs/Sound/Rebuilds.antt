@@ -1,35 +1,38 @@
--- Rebuilds: what a rebuilding master read is the committed part of a log and maybe more, what it merged is what it read, and
+-- Rebuilds: what a rebuilding master read is the applied part of a log and maybe more, what it merged is what it read, and
 -- what an earlier rebuild wrote that was given up tells nothing new. So no acknowledged call is lost with a master, and none
 -- comes back in another order; the steps that read, merge and take a Rebuilt need it.
 use Rattle.std.specs.Prelude.{◌≡◌, IfSome, ◌≤◌, ◌<◌, ℕ, suc, ◌-◌, ◌+◌, ◌==◌, Bool, true, false, not, nat_le, if◌then◌else◌, List, [], ◌∷◌, ◌++◌, None, Contains, All, length, map, filter, take, drop, slice_index_or, is_some, ⊤, ◌⊎◌, Option}
 use Rattle.std.specs.List.{prefix_len, list_any, flat_map}
+use Rattle.rk_types.specs.NumberMap.{EachIn}
 use Rattle.rk_types.specs.declared.held.Held.{Held}
 use Rattle.rk_types.specs.declared.lineage.Member.{Member}
 use Rattle.rk_types.specs.declared.range.Range.{Range}
+use Rattle.rk_outside.specs.Segments.{Segments}
 use Rattle.rk_entry.specs.declared.entry.Entry.{Entry}
 use Rattle.rk_entry.specs.declared.entry.Entry.TheVariants as entries
 use Rattle.rk_log.specs.Cut.{ends}
 use Rattle.rk_log.specs.Known.{Known, known_length}
 use Rattle.rk_log.specs.Log.{Log, known_of}
-use Rattle.rk_outside.specs.Segments.{Segments}
 use Rattle.rk_table.specs.Items.{is_in}
+use Rattle.rk_done.specs.Completions.{completions_from}
+use Rattle.rk_transfer.specs.declared.role.Role.{Role}
+use Rattle.rk_transfer.specs.declared.role.Role.TheVariants as roles
 use Rattle.rk_tablet_map.specs.Phase.{lineage_of, member as member_at}
 use Rattle.rk_tablet_map.specs.declared.phase.Phase.{Phase}
 use Rattle.rk_tablet_map.specs.declared.phase.Phase.TheVariants.{Rebuilding}
 use Rattle.rk_tablet_map.specs.declared.row.Row.{Row}
-use Rattle.rk_transfer.specs.declared.role.Role.{Role}
-use Rattle.rk_transfer.specs.declared.role.Role.TheVariants as roles
-use Rattle.rk_world.specs.Coordinator.{is_member}
-use Rattle.rk_world.specs.Ends.{told, items_of, completions_from}
-use Rattle.rk_world.specs.Gather.{Gather, Gathered, next_reading, by_member, merge, floor_of}
-use Rattle.rk_world.specs.Material.{Mark, counting, is_marked, unmarked_from, side_entries, material_of, as_entries, named}
+use Rattle.rk_world.specs.Ends.{told, items_of}
+use Rattle.rk_world.specs.Marks.{Mark, is_marked, unmarked_from}
+use Rattle.rk_world.specs.Material.{counting, side_entries, material_of, as_entries, named}
+use Rattle.rk_world.specs.Lineage.{is_member}
+use Rattle.rk_world.specs.Gather.{Gather, Gathered, next_reading, by_member}
+use Rattle.rk_world.specs.Merge.{merge, floor_of}
+use Rattle.rk_world.specs.Tablet.{Tablet}
+use Rattle.rk_world.specs.Master.{touches}
+use Rattle.rk_world.specs.Rebuilds.{own_place, rebuilt_entry}
+use Rattle.rk_world.specs.Written.{Written, member_material, applied_entries}
 use Rattle.rk_world.specs.Sound.Logs.{IsFirstPart, is_main, stored_of}
 use Rattle.rk_world.specs.Sound.Receives.{IsFound}
-use Rattle.rk_world.specs.Tables.{EachIn}
-use Rattle.rk_world.specs.Tablet.{Tablet}
-use Rattle.rk_world.specs.Written.{Written, member_material, committed_entries}
-use Rattle.rk_world.specs.Rebuilds.{own_place, rebuilt_entry}
-use Rattle.rk_world.specs.Master.{touches}
 
 -- rebuilds read from this backup
 abbrev pub READ_BACKUP : ℕ
@@ -94,9 +97,9 @@ pub record IsMergedOf (number from : ℕ) (own : List Entry) (tablet : Tablet) (
 
 -- ---- the master that rebuilds
 
--- all that is committed of a master's own entries of a range, marked or not
-abbrev pub committed_from : Range → ℕ → Written → List Entry
-committed_from range from written = material_of range (side_entries written.sides) (drop from (committed_entries written))
+-- all that is applied of a master's own entries of a range, marked or not
+abbrev pub applied_from : Range → ℕ → Written → List Entry
+applied_from range from written = material_of range (side_entries written.sides) (drop from (applied_entries written))
 
 -- the table of a master that rebuilds
 pub record IsRebuildTable (range : Range) (truth own : List Entry) (table : List Held) : Type 0 where
@@ -110,7 +113,7 @@ abbrev pub merged_place : Role → Option ℕ
 merged_place (roles.Rebuilding from entry) = entry
 merged_place role = None
 
--- the items of a range in the side segments that a master's unmarked entries name, committed or not
+-- the items of a range in the side segments that a master's unmarked entries name, applied or not
 abbrev pub named_items : Range → ℕ → Written → List Held
 named_items range from written =
     filter (is_in range)
@@ -127,7 +130,7 @@ pub record IsRebuilder (row : Row) (lineage : List Member) (master : ℕ) (truth
       IfSome (merged_place tablet.handover.role)
       (λ entry. IsMergedOf row.tablet (own_place tablet.handover.role) own tablet written entry)
   pub items :
-      IsRebuildTable row.range truth (committed_from row.range (own_place tablet.handover.role) written) table
+      IsRebuildTable row.range truth (applied_from row.range (own_place tablet.handover.role) written) table
   -- the items of side segments that its own entries name are the truth's, and found in its table
   pub sides :
       (item : Held) → Contains (named_items row.range (own_place tablet.handover.role) written) item
@@ -209,20 +212,20 @@ HasOwnRange range list mark = All (IsOfRange range) (take (mark.past - mark.firs
 
 -- what holds of a row while it is rebuilt
 abbrev pub RowIsRebuilt : Row → Phase → List Entry → (ℕ → Log) → (ℕ → Written) → (ℕ → Segments) → (ℕ → ℕ → Tablet) → (ℕ → List Held) → (ℕ → Bool) → Type 0
-RowIsRebuilt row (Rebuilding lineage to) truth logs written stored keeps tables live =
-    ((keeps to row.tablet).handover.term ≡ row.term
+RowIsRebuilt row (Rebuilding lineage to) truth logs written stored tablets records live =
+    ((tablets to row.tablet).handover.term ≡ row.term
     → IsRebuilder row lineage to truth
-    (member_material written row.range (member_at to (own_place (keeps to row.tablet).handover.role)))
+    (member_material written row.range (member_at to (own_place (tablets to row.tablet).handover.role)))
     (λ master. known_of (logs master) READ_BACKUP) (λ master. stored_of stored master READ_BACKUP) (written to)
-    (keeps to row.tablet) (tables to))
+    (tablets to row.tablet) (records to))
     × MarkedFit logs written stored live row.range lineage
-RowIsRebuilt row phase truth logs written stored keeps tables live = ⊤
+RowIsRebuilt row phase truth logs written stored tablets records live = ⊤
 
-pub record Rebuilds (rows : List Row) (truths : Row → List Entry) (logs : ℕ → Log) (written : ℕ → Written) (stored : ℕ → Segments) (keeps : ℕ → ℕ → Tablet) (tables : ℕ → List Held) (live : ℕ → Bool) : Type 0 where
-  pub rebuilt : All (λ row. RowIsRebuilt row row.phase (truths row) logs written stored keeps tables live) rows
+pub record Rebuilds (rows : List Row) (truths : Row → List Entry) (logs : ℕ → Log) (written : ℕ → Written) (stored : ℕ → Segments) (tablets : ℕ → ℕ → Tablet) (records : ℕ → List Held) (live : ℕ → Bool) : Type 0 where
+  pub rebuilt : All (λ row. RowIsRebuilt row row.phase (truths row) logs written stored tablets records live) rows
   pub marks :
       (master : ℕ)
-      → All (λ row. All (λ mark. mark.tablet ≡ row.tablet → MarkFits row master (keeps master row.tablet) (live master) mark)
+      → All (λ row. All (λ mark. mark.tablet ≡ row.tablet → MarkFits row master (tablets master row.tablet) (live master) mark)
       (written master).marks) rows
   pub pieces :
       (master : ℕ)

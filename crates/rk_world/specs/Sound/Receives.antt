@@ -3,29 +3,31 @@
 -- fetched the target's log alone has the tablet. The steps that replay, seal, and take a Joined need it.
 use Rattle.std.specs.Prelude.{◌≡◌, ◌≤◌, ◌<◌, ℕ, Bool, true, false, List, [], ◌∷◌, Option, Some, Contains, IfSome, All, drop, take, fold, filter, is_some, length, slice_get, ⊤, ◌⊎◌, if◌then◌else◌, None}
 use Rattle.std.specs.List.{flat_map, list_any}
+use Rattle.rk_types.specs.NumberMap.{NumberMap, get}
 use Rattle.rk_types.specs.declared.held.Held.{Held}
 use Rattle.rk_types.specs.declared.lineage.Member.{Member}
 use Rattle.rk_types.specs.declared.range.Range.{Range}
 use Rattle.rk_entry.specs.declared.entry.Entry.{Entry}
 use Rattle.rk_entry.specs.declared.entry.Entry.TheVariants as entries
-use Rattle.rk_overlay.specs.Newest.{is_of}
-use Rattle.rk_overlay.specs.Overlay.{newest_items}
-use Rattle.rk_priority.specs.Hashes.{contains}
 use Rattle.rk_table.specs.Items.{is_in, with_item}
 use Rattle.rk_table.specs.Order.{item_hash}
 use Rattle.rk_table.specs.Scans.{passed, end}
-use Rattle.rk_tablet_map.specs.Phase.{lineage_of}
-use Rattle.rk_tablet_map.specs.declared.row.Row.{Row}
+use Rattle.rk_done.specs.Completions.{ends_of}
 use Rattle.rk_transfer.specs.declared.role.Role.{Role}
 use Rattle.rk_transfer.specs.declared.role.Role.TheVariants as roles
-use Rattle.rk_world.specs.Coordinator.{Handed}
-use Rattle.rk_world.specs.Ends.{items_of, ends_of}
-use Rattle.rk_world.specs.Master.{touches}
+use Rattle.rk_tablet_map.specs.Phase.{lineage_of}
+use Rattle.rk_tablet_map.specs.declared.row.Row.{Row}
+use Rattle.rk_priority.specs.Hashes.{contains}
+use Rattle.rk_overlay.specs.Newest.{is_of}
+use Rattle.rk_overlay.specs.Overlay.{newest_items}
+use Rattle.rk_world.specs.Ends.{items_of}
 use Rattle.rk_world.specs.Material.{counting, side_entries, joined_from}
-use Rattle.rk_world.specs.Tables.{Table, look_up}
-use Rattle.rk_world.specs.Tablet.{Tablet, Pulling, is_receiving}
-use Rattle.rk_world.specs.Written.{Written, member_material, member_truth, committed_entries}
-use Rattle.rk_world.specs.Commits.{joined_entry}
+use Rattle.rk_world.specs.Tablet.{Tablet, Pulling}
+use Rattle.rk_world.specs.RoleTests.{is_receiving}
+use Rattle.rk_world.specs.Master.{touches}
+use Rattle.rk_world.specs.Waiting.{joined_entry}
+use Rattle.rk_world.specs.Coordinator.{Handed}
+use Rattle.rk_world.specs.Written.{Written, member_material, member_truth, applied_entries}
 
 -- the records that entries leave, as items in scan order
 abbrev pub scan_items : List Entry → List Held
@@ -57,7 +59,7 @@ pub record IsFound (table : List Held) (item : Held) : Type 0 where
   pub same_key : is_of item.table item.key there ≡ true
   pub as_new : item.version ≤ there.version
 
--- what has come stands where it should: `items` are the source's, `own` those that the target committed itself, `sides` those
+-- what has come stands where it should: `items` are the source's, `own` those that the target applied itself, `sides` those
 -- that it copied
 pub record IsReceived (Arrived : Held → Type 0) (range : Range) (items own sides table : List Held) : Type 0 where
   -- what is copied is the source's, and what arrived is copied or outdone
@@ -117,7 +119,7 @@ abbrev pub before_closing : Option ℕ → List Entry → List Entry
 before_closing None entries = entries
 before_closing (Some place) entries = take place entries
 
--- a target that pulls, or has all: `truth` counts for the range of what is committed at its source, `material` of all that the source
+-- a target that pulls, or has all: `truth` counts for the range of what is applied at its source, `material` of all that the source
 -- has written, and its own entries count from the place `from` on
 pub record IsTarget (range : Range) (source : ℕ) (truth material : List Entry) (from : ℕ) (written : Written) (tablet : Tablet) (handed : Option Handed) (table : List Held) : Type 0 where
   pub from_source : tablet.pulling.source ≡ source
@@ -125,7 +127,7 @@ pub record IsTarget (range : Range) (source : ℕ) (truth material : List Entry)
   pub pulled : is_joining tablet.handover.role ≡ true → HasPulled tablet.pulling
   pub received :
       IsReceived (HasArrived tablet.handover.role tablet.pulling (scan_items truth)) range (scan_items truth)
-      (items_of (entries_from range from (committed_entries written)))
+      (items_of (entries_from range from (applied_entries written)))
       (copied_items tablet.handover.role tablet.pulling written.sides) table
   -- each of its own versions is above each of the source's
   pub above :
@@ -135,8 +137,8 @@ pub record IsTarget (range : Range) (source : ℕ) (truth material : List Entry)
   pub told :
       IfSome handed
       (λ h. Contains (drop from (before_closing (joined_place tablet.handover.role) written.entries)) (beginning_of tablet h))
-  -- what it had not committed before its place is of other ranges
-  pub early : list_any (touches range) (drop written.committed (take from written.entries)) ≡ false
+  -- what it had not applied before its place is of other ranges
+  pub early : list_any (touches range) (drop written.applied (take from written.entries)) ≡ false
   pub closing : HasClosing (joined_place tablet.handover.role) (joined_entry tablet) range from written.entries
 
 -- whether a target has been granted its tablet, and has not begun to rebuild it
@@ -150,19 +152,19 @@ abbrev pub IsHandedBy : Option Handed → Tablet → Type 0
 IsHandedBy handed source = handed ≡ Some (record { floor = source.handover.counter; ends = ends_of source.completions })
 
 -- what holds of the two members of a lineage, where the second one was granted the tablet
-abbrev pub MembersFit : Row → (ℕ → Written) → (ℕ → ℕ → Tablet) → (ℕ → List Held) → Table Handed → List Member → Type 0
-MembersFit row written keeps tables handed (source ∷ target ∷ []) =
-    is_granted (keeps target.master row.tablet).handover.role ≡ true
+abbrev pub MembersFit : Row → (ℕ → Written) → (ℕ → ℕ → Tablet) → (ℕ → List Held) → NumberMap Handed → List Member → Type 0
+MembersFit row written tablets records handed (source ∷ target ∷ []) =
+    is_granted (tablets target.master row.tablet).handover.role ≡ true
     → IsTarget row.range source.master (member_truth written row.range source) (member_material written row.range source)
-    target.from (written target.master) (keeps target.master row.tablet) (look_up handed row.tablet) (tables target.master)
-MembersFit row written keeps tables handed _ = ⊤
+    target.from (written target.master) (tablets target.master row.tablet) (get handed row.tablet) (records target.master)
+MembersFit row written tablets records handed _ = ⊤
 
 -- what the coordinator keeps, while source and target keep one term
-abbrev pub HandedFits : Row → (ℕ → ℕ → Tablet) → Table Handed → List Member → Type 0
-HandedFits row keeps handed (source ∷ target ∷ []) =
-    (keeps target.master row.tablet).handover.term ≡ (keeps source.master row.tablet).handover.term
-    → IsHandedBy (look_up handed row.tablet) (keeps source.master row.tablet)
-HandedFits row keeps handed _ = ⊤
+abbrev pub HandedFits : Row → (ℕ → ℕ → Tablet) → NumberMap Handed → List Member → Type 0
+HandedFits row tablets handed (source ∷ target ∷ []) =
+    (tablets target.master row.tablet).handover.term ≡ (tablets source.master row.tablet).handover.term
+    → IsHandedBy (get handed row.tablet) (tablets source.master row.tablet)
+HandedFits row tablets handed _ = ⊤
 
 -- a master that made ready for a tablet has nothing of it: its entries begin at this place, and none stands there, nor in its table
 pub record IsBare (range : Range) (from : ℕ) (written : Written) (table : List Held) : Type 0 where
@@ -175,10 +177,10 @@ abbrev pub wanted_place : Role → Option ℕ
 wanted_place (roles.Wanting from) = Some from
 wanted_place role = None
 
-pub record Receives (rows : List Row) (written : ℕ → Written) (keeps : ℕ → ℕ → Tablet) (tables : ℕ → List Held) (handed : Table Handed) : Type 0 where
-  pub targets : All (λ row. MembersFit row written keeps tables handed (lineage_of row.phase)) rows
-  pub handed_on : All (λ row. HandedFits row keeps handed (lineage_of row.phase)) rows
+pub record Receives (rows : List Row) (written : ℕ → Written) (tablets : ℕ → ℕ → Tablet) (records : ℕ → List Held) (handed : NumberMap Handed) : Type 0 where
+  pub targets : All (λ row. MembersFit row written tablets records handed (lineage_of row.phase)) rows
+  pub handed_on : All (λ row. HandedFits row tablets handed (lineage_of row.phase)) rows
   pub bare :
       (master tablet : ℕ)
-      → IfSome (wanted_place (keeps master tablet).handover.role)
-      (λ from. IsBare (keeps master tablet).handover.range from (written master) (tables master))
+      → IfSome (wanted_place (tablets master tablet).handover.role)
+      (λ from. IsBare (tablets master tablet).handover.range from (written master) (records master))

@@ -1,32 +1,34 @@
 -- Rest: what is staged goes on lawfully from the journal, call by call, in the order of one log. So whatever part of it every
--- backup comes to hold, before or after a crash, may become records; the steps that commit, crash and rebuild need it.
+-- backup comes to hold, before or after a crash, may become records; the steps that apply entries, crash and rebuild need it.
 use Rattle.std.specs.Prelude.{◌≡◌, ◌≢◌, ◌≤◌, ℕ, Bool, true, false, List, [], ◌∷◌, ◌++◌, Option, Some, None, All, drop, slice_get, ⊤, max}
 use Rattle.std.specs.List.{AllPairs, Contains, flat_map, list_any}
+use Rattle.rk_types.specs.NumberMap.{NumberMap, EachIn, get}
 use Rattle.rk_types.specs.declared.call.Call.{Call}
 use Rattle.rk_types.specs.declared.call.Ended.{Ended}
 use Rattle.rk_types.specs.declared.history.Placed.{Placed}
 use Rattle.rk_types.specs.declared.lineage.Member.{Member}
 use Rattle.rk_types.specs.declared.range.Range.{Range}
-use Rattle.rk_entry.specs.declared.entry.Entry.{Entry}
-use Rattle.rk_entry.specs.declared.entry.Entry.TheVariants as entries
 use Rattle.rk_model.specs.History.{IsLegal, live_after}
 use Rattle.rk_model.specs.Merged.{is_mutation}
-use Rattle.rk_overlay.specs.Live.{live as live_items}
+use Rattle.rk_entry.specs.declared.entry.Entry.{Entry}
+use Rattle.rk_entry.specs.declared.entry.Entry.TheVariants as entries
 use Rattle.rk_tablet_map.specs.Phase.{lineage_of}
 use Rattle.rk_tablet_map.specs.declared.row.Row.{Row}
-use Rattle.rk_transfer.specs.declared.role.Role.{Role}
-use Rattle.rk_transfer.specs.declared.role.Role.TheVariants as roles
-use Rattle.rk_world.specs.Base.{Base, base_map}
-use Rattle.rk_world.specs.Desk.{LastCall, has_record}
+use Rattle.rk_overlay.specs.Live.{live as live_items}
+use Rattle.rk_world.specs.Ranges.{has_key, AgreeIn}
 use Rattle.rk_world.specs.Ends.{item_end, refusal_end, items_of, outcome_of}
-use Rattle.rk_world.specs.Master.{touches}
-use Rattle.rk_world.specs.Material.{has_key, is_marked, joined_from}
-use Rattle.rk_world.specs.Owed.{AgreeIn}
-use Rattle.rk_world.specs.Sound.Calls.{IsKnown}
-use Rattle.rk_world.specs.Tables.{Table, EachIn, look_up}
+use Rattle.rk_world.specs.Marks.{is_marked}
+use Rattle.rk_world.specs.Material.{joined_from}
+use Rattle.rk_world.specs.Lineage.{last_of}
+use Rattle.rk_world.specs.Base.{Base, base_map}
 use Rattle.rk_world.specs.Tablet.{Tablet}
-use Rattle.rk_world.specs.Written.{Written, member_rest, member_truth, member_material, last_of}
+use Rattle.rk_world.specs.RoleTests.{is_idle, may_have_staged}
+use Rattle.rk_world.specs.Master.{touches}
+use Rattle.rk_world.specs.Journal.{has_record}
+use Rattle.rk_world.specs.Ledger.{LastCall}
+use Rattle.rk_world.specs.Written.{Written, member_rest, member_truth, member_material}
 use Rattle.rk_world.specs.Sound.Posts.{StillCounts}
+use Rattle.rk_world.specs.Sound.Calls.{IsKnown}
 
 -- the end of the call that left an entry, if one did
 abbrev pub call_end : Entry → List Ended
@@ -52,14 +54,14 @@ records_of asked ends = flat_map (λ end. record_of_last end (asked end.client))
 -- the call of a client with a seq is the last that it asked, a mutation of this key, and has no record
 pub record IsLastAsked (asked : ℕ → Option LastCall) (journal : List Placed) (client seq table : ℕ) (key : List ℕ) : Type 0 where
   pub last : LastCall
-  pub kept : asked client ≡ Some last
+  pub asked_is : asked client ≡ Some last
   pub seq_is : last.call.seq ≡ seq
   pub table_is : last.call.table ≡ table
   pub key_is : last.call.key ≡ key
   pub mutation : is_mutation last.call.op ≡ true
   pub unrecorded : has_record journal client seq ≡ false
 
--- what an entry that is not committed is: that of the last call of its client, a Carried whose ends are known, or any Joined
+-- what an entry that is not applied is: that of the last call of its client, a Carried whose ends are known, or any Joined
 abbrev pub IsStaged : Base → (ℕ → Option LastCall) → List Placed → Entry → Type 0
 IsStaged base asked journal (entries.Held held) = IsLastAsked asked journal held.client held.seq held.table held.key
 IsStaged base asked journal (entries.Refused refused) =
@@ -78,42 +80,26 @@ pub record IsRest (base : Base) (range : Range) (truth rest : List Entry) (journ
   -- one call a client
   pub one : AllPairs (λ a b. a.client ≢ b.client) (call_ends rest)
 
--- a member has nothing of a range behind what it has committed
+-- a member has nothing of a range behind what it has applied
 pub record IsDone (written : ℕ → Written) (range : Range) (member : Member) : Type 0 where
   pub rest : member_rest written range member ≡ []
   pub all : member_material written range member ≡ member_truth written range member
 
--- of two members the first has nothing behind what it has committed
+-- of two members the first has nothing behind what it has applied
 abbrev pub FirstIsDone : (ℕ → Written) → Range → List Member → Type 0
 FirstIsDone written range (first ∷ last ∷ more) = IsDone written range first
 FirstIsDone written range _ = ⊤
 
--- the only member of a lineage has no Joined of the range behind what it has committed
+-- the only member of a lineage has no Joined of the range behind what it has applied
 abbrev pub OnlyIsUnnamed : (ℕ → Written) → Range → List Member → Type 0
 OnlyIsUnnamed written range (only ∷ []) =
-    joined_from range (max only.from (written only.master).committed) (written only.master).entries ≡ []
+    joined_from range (max only.from (written only.master).applied) (written only.master).entries ≡ []
 OnlyIsUnnamed written range lineage = ⊤
 
 -- a call is the last that its client asked
 abbrev pub IsLast : Option LastCall → Call → Type 0
 IsLast None call = ⊥
 IsLast (Some last) call = last.call ≡ call
-
--- whether a role has nothing staged of its tablet
-abbrev pub is_idle : Role → Bool
-is_idle roles.Absent = true
-is_idle roles.Frozen = true
-is_idle (roles.Wanting from) = true
-is_idle _ = false
-
--- whether staged calls of a tablet may be left in a role
-abbrev pub may_have_staged : Role → Bool
-may_have_staged roles.Serving = true
-may_have_staged roles.Receiving = true
-may_have_staged (roles.Joining entry) = true
-may_have_staged roles.Closing = true
-may_have_staged (roles.Rebuilding from entry) = true
-may_have_staged _ = false
 
 -- a call is of a client with a seq, and of this key
 pub record IsOfCall (call : Call) (client seq table : ℕ) (key : List ℕ) : Type 0 where
@@ -134,10 +120,10 @@ is_call_entry (entries.Held held) = true
 is_call_entry (entries.Refused refused) = true
 is_call_entry _ = false
 
--- a call that waits for the entry at a place: the entry is its own and not committed, a tablet has it that may stage, and
+-- a call that waits for the entry at a place: the entry is its own and not applied, a tablet has it that may stage, and
 -- the row of its key ends its lineage with this master
-pub record Waits (rows : List Row) (keeps : ℕ → Tablet) (written : Written) (master place : ℕ) (call : Call) : Type 0 where
-  pub behind : written.committed ≤ place
+pub record Waits (rows : List Row) (tablets : ℕ → Tablet) (written : Written) (master place : ℕ) (call : Call) : Type 0 where
+  pub behind : written.applied ≤ place
   pub entry : Entry
   pub stands : slice_get written.entries place ≡ Some entry
   pub own : IsEntryOf call entry
@@ -148,34 +134,34 @@ pub record Waits (rows : List Row) (keeps : ℕ → Tablet) (written : Written) 
   pub last : Member
   pub is_last : last_of (lineage_of row.phase) ≡ Some last
   pub here : last.master ≡ master
-  pub kept : may_have_staged (keeps row.tablet).handover.role ≡ true
+  pub may_stage : may_have_staged (tablets row.tablet).handover.role ≡ true
 
 -- the entry at a place has its call
-pub record HasCall (calls : Table Call) (place : ℕ) (entry : Entry) : Type 0 where
+pub record HasCall (calls : NumberMap Call) (place : ℕ) (entry : Entry) : Type 0 where
   pub call : Call
-  pub kept : look_up calls place ≡ Some call
+  pub waits : get calls place ≡ Some call
   pub own : IsEntryOf call entry
 
--- each entry of a call that is not committed and bears no mark has its call
-abbrev pub EachHasCall : Table Call → Written → Type 0
+-- each entry of a call that is not applied and bears no mark has its call
+abbrev pub EachHasCall : NumberMap Call → Written → Type 0
 EachHasCall calls written =
-    (place : ℕ) (entry : Entry) → written.committed ≤ place → slice_get written.entries place ≡ Some entry
+    (place : ℕ) (entry : Entry) → written.applied ≤ place → slice_get written.entries place ≡ Some entry
     → is_call_entry entry ≡ true → is_marked written.marks place ≡ false → HasCall calls place entry
 
-pub record Rest (base : Base) (rows : List Row) (truths rests : Row → List Entry) (written : ℕ → Written) (keeps : ℕ → ℕ → Tablet) (calls : ℕ → Table Call) (live : ℕ → Bool) (journal : List Placed) (asked : ℕ → Option LastCall) : Type 0 where
+pub record Rest (base : Base) (rows : List Row) (truths rests : Row → List Entry) (written : ℕ → Written) (tablets : ℕ → ℕ → Tablet) (calls : ℕ → NumberMap Call) (live : ℕ → Bool) (journal : List Placed) (asked : ℕ → Option LastCall) : Type 0 where
   pub goes_on : All (λ row. IsRest base row.range (truths row) (rests row) journal asked) rows
   pub done : All (λ row. FirstIsDone written row.range (lineage_of row.phase)) rows
   pub unnamed : All (λ row. OnlyIsUnnamed written row.range (lineage_of row.phase)) rows
-  -- a master that is Absent, Frozen or Wanting has nothing of the tablet that is not committed
+  -- a master that is Absent, Frozen or Wanting has nothing of the tablet that is not applied
   pub idle :
       (master : ℕ)
-      → All (λ row. StillCounts (live master) (keeps master row.tablet).handover.term row.term
-      → is_idle (keeps master row.tablet).handover.role ≡ true
-      → list_any (touches row.range) (drop (written master).committed (written master).entries) ≡ false) rows
-  -- the calls that wait at a living master are those whose entries are not committed there
+      → All (λ row. StillCounts (live master) (tablets master row.tablet).handover.term row.term
+      → is_idle (tablets master row.tablet).handover.role ≡ true
+      → list_any (touches row.range) (drop (written master).applied (written master).entries) ≡ false) rows
+  -- the calls that wait at a living master are those whose entries are not applied there
   pub waiting :
       (master : ℕ) → live master ≡ true
-      → EachIn (λ place call. Waits rows (keeps master) (written master) master place call) (calls master)
+      → EachIn (λ place call. Waits rows (tablets master) (written master) master place call) (calls master)
   pub are_last :
       (master : ℕ) → live master ≡ true → EachIn (λ place call. IsLast (asked call.client) call) (calls master)
   pub found : (master : ℕ) → live master ≡ true → EachHasCall (calls master) (written master)

@@ -2,14 +2,14 @@
 -- by one event that it does not fit; the code of each step needs it for its sums. It is said between events, when the greatest
 -- number that has stood is known.
 use Rattle.std.specs.Prelude.{◌≤◌, ◌<◌, ◌^◌, ℕ, List, All, [], ◌∷◌}
+use Rattle.std.specs.List.{flat_map}
+use Rattle.rk_types.specs.NumberMap.{NumberMap, EachIn}
+use Rattle.rk_entry.specs.declared.entry.Entry.{Entry}
+use Rattle.rk_entry.specs.declared.entry.Entry.TheVariants as entries
 use Rattle.rk_message.specs.declared.message.Body.{Body}
 use Rattle.rk_message.specs.declared.message.Body.TheVariants as bodies
 use Rattle.rk_message.specs.declared.message.Message.{Message}
 use Rattle.rk_world.specs.Coordinator.{Handed}
-use Rattle.rk_world.specs.Tables.{Table, EachIn}
-use Rattle.std.specs.List.{flat_map}
-use Rattle.rk_entry.specs.declared.entry.Entry.{Entry}
-use Rattle.rk_entry.specs.declared.entry.Entry.TheVariants as entries
 use Rattle.rk_world.specs.Written.{Written}
 
 -- below this each number stays that grows
@@ -40,7 +40,7 @@ AreAtMost top numbers = All (λ number. number ≤ top) numbers
 
 -- of a lane: the numbers that stand in it and may grow, what each master has written, the floors that are kept for grants, the
 -- messages on the wire and those that may be sent again, the greatest number that has stood, and the bytes of all logs
-pub record Room (numbers : List ℕ) (written : ℕ → Written) (handed : Table Handed) (wire requests : Table Message) (top bytes : ℕ) : Type 0 where
+pub record Room (numbers : List ℕ) (written : ℕ → Written) (handed : NumberMap Handed) (wire requests : NumberMap Message) (top bytes : ℕ) : Type 0 where
   pub standing : AreAtMost top numbers
   pub entries : (master : ℕ) → All (λ entry. AreAtMost top (numbers_of entry)) (written master).entries
   pub sides : (master : ℕ) → All (λ item. item.version ≤ top) (flat_map (λ items. items) (written master).sides)

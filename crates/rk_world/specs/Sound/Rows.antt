@@ -1,5 +1,5 @@
 -- Rows: what the rows of the coordinator are. Their ranges do not meet, so a key's history lies in the logs of one row's
--- lineage alone; each step that appends or commits an entry needs it for the other rows.
+-- lineage alone; each step that appends or applies an entry needs it for the other rows.
 use Rattle.std.specs.Prelude.{◌≡◌, ◌≢◌, ◌≤◌, ℕ, true, List, [], ◌∷◌, length, All, ⊤}
 use Rattle.rk_types.specs.Hashing.{hash_of}
 use Rattle.rk_types.specs.declared.history.Placed.{Placed}

@@ -1,20 +1,21 @@
--- Tables: the table of a master that answers calls for a tablet, or gave it away, has the newest committed items of it. So a
+-- Tables: the table of a master that answers calls for a tablet, or gave it away, has the newest applied items of it. So a
 -- read need not look into the log, and what a frozen source hands out is all that there is; the steps that read, that choose
 -- what a call does, and that answer a pull need it.
 use Rattle.std.specs.Prelude.{◌≡◌, ◌↔◌, ℕ, Bool, true, false, nat_lt, List, Some, Contains, IfSome, All}
 use Rattle.rk_types.specs.declared.held.Held.{Held}
 use Rattle.rk_types.specs.declared.range.Range.{Range}
 use Rattle.rk_entry.specs.declared.entry.Entry.{Entry}
-use Rattle.rk_overlay.specs.Newest.{newest}
 use Rattle.rk_table.specs.Items.{is_in}
 use Rattle.rk_table.specs.Order.{IsInScanOrder}
+use Rattle.rk_transfer.specs.declared.handover.Handover.{Handover}
 use Rattle.rk_tablet_map.specs.Phase.{lineage_of}
 use Rattle.rk_tablet_map.specs.declared.row.Row.{Row}
-use Rattle.rk_transfer.specs.declared.handover.Handover.{Handover}
+use Rattle.rk_overlay.specs.Newest.{newest}
 use Rattle.rk_world.specs.Ends.{items_of}
-use Rattle.rk_world.specs.Sound.Posts.{Post, Owner, Giver, Given, Heir, FirstHeir, post_of}
+use Rattle.rk_world.specs.Lineage.{first_of}
 use Rattle.rk_world.specs.Tablet.{Tablet}
-use Rattle.rk_world.specs.Written.{Written, member_truth, first_of}
+use Rattle.rk_world.specs.Written.{Written, member_truth}
+use Rattle.rk_world.specs.Sound.Posts.{Post, Owner, OpeningSource, MovingSource, OnlyRebuilder, FirstRebuilder, post_of}
 
 -- a table has, of a range, the newest item of each key of these entries
 abbrev pub IsTableOf : Range → List Entry → List Held → Type 0
@@ -22,26 +23,26 @@ IsTableOf range material table =
     (item : Held) → is_in range item ≡ true
     → (Contains table item ↔ (newest (items_of material) item.table item.key ≡ Some item))
 
--- whether a master's table has all of the tablet: it owns it or gives it away, or it gave it away or is to rebuild it and
+-- whether a master's records has all of the tablet: it owns it or gives it away, or it gave it away or is to rebuild it and
 -- has not begun
 abbrev pub has_all_items : Post → Handover → ℕ → Bool
 has_all_items (Owner place) handover term = true
-has_all_items Giver handover term = true
-has_all_items Given handover term = true
-has_all_items (Heir place) handover term = nat_lt handover.term term
-has_all_items (FirstHeir place) handover term = nat_lt handover.term term
+has_all_items OpeningSource handover term = true
+has_all_items MovingSource handover term = true
+has_all_items (OnlyRebuilder place) handover term = nat_lt handover.term term
+has_all_items (FirstRebuilder place) handover term = nat_lt handover.term term
 has_all_items _ handover term = false
 
--- the table has what is committed at the first member of a row's lineage
+-- the table has what is applied at the first member of a row's lineage
 abbrev pub HasItems : Row → (ℕ → Written) → List Held → Type 0
 HasItems row written table =
     IfSome (first_of (lineage_of row.phase))
     (λ member. IsTableOf row.range (member_truth written row.range member) table)
 
-pub record Tables (rows : List Row) (written : ℕ → Written) (keeps : ℕ → ℕ → Tablet) (tables : ℕ → List Held) (live : ℕ → Bool) : Type 0 where
+pub record Tables (rows : List Row) (written : ℕ → Written) (tablets : ℕ → ℕ → Tablet) (records : ℕ → List Held) (live : ℕ → Bool) : Type 0 where
   -- a table is in scan order, so no key stands in it twice
-  pub ordered : (master : ℕ) → IsInScanOrder (tables master)
+  pub ordered : (master : ℕ) → IsInScanOrder (records master)
   pub items :
       (master : ℕ) → live master ≡ true
-      → All (λ row. has_all_items (post_of row.phase master) (keeps master row.tablet).handover row.term ≡ true
-      → HasItems row written (tables master)) rows
+      → All (λ row. has_all_items (post_of row.phase master) (tablets master row.tablet).handover row.term ≡ true
+      → HasItems row written (records master)) rows

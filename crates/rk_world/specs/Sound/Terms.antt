@@ -2,16 +2,17 @@
 -- another row there has come to. So the row's own order is greater wherever it should act, and what is late has a smaller term or an equal one;
 -- the steps that take a Prepare, a Close or a Rebuild need it.
 use Rattle.std.specs.Prelude.{◌≡◌, ◌≢◌, ◌≤◌, ◌<◌, ℕ, true, false, List, Option, Some, None, IfSome, All}
+use Rattle.rk_types.specs.NumberMap.{NumberMap, EachIn}
 use Rattle.rk_types.specs.Range.{meets}
 use Rattle.rk_types.specs.declared.range.Range.{Range}
+use Rattle.rk_transfer.specs.declared.handover.Handover.{Handover}
+use Rattle.rk_tablet_map.specs.declared.row.Row.{Row}
 use Rattle.rk_message.specs.declared.handover.Tenure.{Tenure}
 use Rattle.rk_message.specs.declared.message.Body.{Body}
 use Rattle.rk_message.specs.declared.message.Body.TheVariants as bodies
 use Rattle.rk_message.specs.declared.message.Message.{Message}
-use Rattle.rk_tablet_map.specs.declared.row.Row.{Row}
-use Rattle.rk_transfer.specs.declared.handover.Handover.{Handover}
-use Rattle.rk_world.specs.Tables.{Table, EachIn}
-use Rattle.rk_world.specs.Tablet.{Tablet, is_absent}
+use Rattle.rk_world.specs.Tablet.{Tablet}
+use Rattle.rk_world.specs.RoleTests.{is_absent}
 
 -- the tablet and the term that a message speaks of
 abbrev pub tenure_in : Body → Option Tenure
@@ -39,7 +40,7 @@ range_in (bodies.Prepare prepare) = Some prepare.range
 range_in (bodies.Rebuild rebuild) = Some rebuild.range
 range_in _ = None
 
--- a term of a tablet is at most that of the tablet's row
+-- a term of a tablet is at most that of the recordst's row
 abbrev pub IsWithinTerm : Row → ℕ → ℕ → Type 0
 IsWithinTerm row tablet term = row.tablet ≡ tablet → term ≤ row.term
 
@@ -47,8 +48,8 @@ IsWithinTerm row tablet term = row.tablet ≡ tablet → term ≤ row.term
 abbrev pub IsBelowOthers : Row → ℕ → ℕ → Range → Type 0
 IsBelowOthers row tablet term range = row.tablet ≢ tablet → meets row.range range ≡ true → term < row.term
 
--- what a master keeps of a tablet, beside a row; at the row's term it has the row's range
-pub record KeptFits (row : Row) (tablet : ℕ) (handover : Handover) : Type 0 where
+-- what a master has of a tablet, beside a row; at the row's term it has the row's range
+pub record HandoverFits (row : Row) (tablet : ℕ) (handover : Handover) : Type 0 where
   pub within : IsWithinTerm row tablet handover.term
   pub below : IsBelowOthers row tablet handover.term handover.range
   pub exact : row.tablet ≡ tablet → handover.term ≡ row.term → handover.range ≡ row.range
@@ -59,11 +60,11 @@ pub record SentFits (row : Row) (body : Body) : Type 0 where
   pub below :
       IfSome (tenure_in body) (λ tenure. IfSome (range_in body) (λ range. IsBelowOthers row tenure.tablet tenure.term range))
 
-pub record Terms (rows : List Row) (keeps : ℕ → ℕ → Tablet) (wire : Table Message) : Type 0 where
-  pub kept : (master tablet : ℕ) → All (λ row. KeptFits row tablet (keeps master tablet).handover) rows
+pub record Terms (rows : List Row) (tablets : ℕ → ℕ → Tablet) (wire : NumberMap Message) : Type 0 where
+  pub handovers : (master tablet : ℕ) → All (λ row. HandoverFits row tablet (tablets master tablet).handover) rows
   -- two tablets of one master that are not absent do not meet
   pub apart :
       (master a b : ℕ) → a ≢ b
-      → is_absent (keeps master a).handover.role ≡ false → is_absent (keeps master b).handover.role ≡ false
-      → meets (keeps master a).handover.range (keeps master b).handover.range ≡ false
+      → is_absent (tablets master a).handover.role ≡ false → is_absent (tablets master b).handover.role ≡ false
+      → meets (tablets master a).handover.range (tablets master b).handover.range ≡ false
   pub sent : EachIn (λ number message. All (λ row. SentFits row message.body) rows) wire

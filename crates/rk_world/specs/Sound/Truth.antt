@@ -1,18 +1,18 @@
 -- Truth: the journal is a lawful history, and the committed logs of a row's lineage tell just the records that it leaves. A
--- read answers from them, and a rebuild has nothing else; each step that commits, joins or takes a rebuild needs it.
+-- read answers from them, and a rebuild has nothing else; each step that applies, joins or takes a rebuild needs it.
 use Rattle.std.specs.Prelude.{◌≡◌, ◌<◌, ℕ, List, Option, Some, None, All, ⊤}
 use Rattle.rk_types.specs.declared.history.Placed.{Placed}
 use Rattle.rk_types.specs.declared.range.Range.{Range}
-use Rattle.rk_entry.specs.declared.entry.Entry.{Entry}
 use Rattle.rk_model.specs.History.{IsLegal, live_after}
 use Rattle.rk_model.specs.Merged.{IsRisingAbove}
+use Rattle.rk_entry.specs.declared.entry.Entry.{Entry}
+use Rattle.rk_tablet_map.specs.declared.row.Row.{Row}
 use Rattle.rk_overlay.specs.Live.{live as live_items}
 use Rattle.rk_overlay.specs.Plain.{IsPlain}
-use Rattle.rk_tablet_map.specs.declared.row.Row.{Row}
-use Rattle.rk_world.specs.Base.{Base, base_map}
-use Rattle.rk_world.specs.Desk.{LastCall}
+use Rattle.rk_world.specs.Ranges.{AgreeIn}
 use Rattle.rk_world.specs.Ends.{items_of}
-use Rattle.rk_world.specs.Owed.{AgreeIn}
+use Rattle.rk_world.specs.Base.{Base, base_map}
+use Rattle.rk_world.specs.Ledger.{LastCall}
 
 -- the truth of a row tells the records that the journal leaves in the row's range
 pub record IsTruth (base : Base) (range : Range) (truth : List Entry) (journal : List Placed) : Type 0 where

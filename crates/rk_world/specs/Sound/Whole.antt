@@ -2,13 +2,13 @@
 use Rattle.std.specs.Prelude.{List, length}
 use Rattle.rk_entry.specs.declared.entry.Entry.{Entry}
 use Rattle.rk_tablet_map.specs.declared.row.Row.{Row}
-use Rattle.rk_world.specs.Desk.{asked_by}
+use Rattle.rk_world.specs.Ledger.{asked_by}
 use Rattle.rk_world.specs.Written.{truth_of, rest_of}
-use Rattle.rk_world.specs.World.{World, master_at, backup_at, lives, log_in, table_in, calls_in, kept_in, written_in, standing, bytes_of_logs}
+use Rattle.rk_world.specs.World.{World, master_at, backup_at, lives, log_in, records_in, calls_in, tablet_in, written_in, standing, bytes_of_logs}
 use Rattle.rk_world.specs.Sound.Nodes.{Nodes}
 use Rattle.rk_world.specs.Sound.Rows.{Rows}
-use Rattle.rk_world.specs.Sound.Cover.{Cover}
 use Rattle.rk_world.specs.Sound.Terms.{Terms}
+use Rattle.rk_world.specs.Sound.Cover.{Cover}
 use Rattle.rk_world.specs.Sound.Roles.{Roles}
 use Rattle.rk_world.specs.Sound.Logs.{Logs}
 use Rattle.rk_world.specs.Sound.Truth.{Truth}
@@ -31,34 +31,34 @@ rest_in w row = rest_of (written_in w) row
 pub record IsSound (w : World) : Type 0 where
   pub nodes :
       Nodes (master_at w) w.coordinator.masters (length w.backups) w.coordinator.rows w.coordinator.noticed (lives w)
-  pub rows : Rows w.coordinator.rows (written_in w) w.desk.journal
-  pub terms : Terms w.coordinator.rows (kept_in w) w.desk.wire
-  pub cover : Cover w.coordinator.rows (written_in w) (kept_in w) (table_in w) w.desk.wire
-  pub roles : Roles w.coordinator.rows (kept_in w) (written_in w) (lives w)
-  pub logs : Logs (log_in w) (written_in w) (backup_at w) w.desk.wire
-  pub truth : Truth w.base w.coordinator.rows (truth_of w.base (written_in w)) w.desk.journal (asked_by w.desk)
+  pub rows : Rows w.coordinator.rows (written_in w) w.ledger.journal
+  pub terms : Terms w.coordinator.rows (tablet_in w) w.wire.messages
+  pub cover : Cover w.coordinator.rows (written_in w) (tablet_in w) (records_in w) w.wire.messages
+  pub roles : Roles w.coordinator.rows (tablet_in w) (written_in w) (lives w)
+  pub logs : Logs (log_in w) (written_in w) (backup_at w) w.wire.messages
+  pub truth : Truth w.base w.coordinator.rows (truth_of w.base (written_in w)) w.ledger.journal (asked_by w.ledger)
   pub order : Order w.coordinator.rows (truth_of w.base (written_in w)) (rest_of (written_in w))
   pub calls :
-      Calls w.base w.coordinator.rows (truth_of w.base (written_in w)) (rest_of (written_in w)) (kept_in w) (lives w)
-      w.coordinator.handed w.desk.journal w.desk.wire
+      Calls w.base w.coordinator.rows (truth_of w.base (written_in w)) (rest_of (written_in w)) (tablet_in w) (lives w)
+      w.coordinator.handed w.ledger.journal w.wire.messages
   pub counters :
-      Counters w.base w.coordinator.rows (truth_of w.base (written_in w)) (rest_of (written_in w)) (written_in w) (kept_in w)
-      (lives w) w.coordinator.handed w.desk.journal w.desk.wire
+      Counters w.base w.coordinator.rows (truth_of w.base (written_in w)) (rest_of (written_in w)) (written_in w) (tablet_in w)
+      (lives w) w.coordinator.handed w.ledger.journal w.wire.messages
   pub rest :
-      Rest w.base w.coordinator.rows (truth_of w.base (written_in w)) (rest_of (written_in w)) (written_in w) (kept_in w)
-      (calls_in w) (lives w) w.desk.journal (asked_by w.desk)
-  pub tables : Tables w.coordinator.rows (written_in w) (kept_in w) (table_in w) (lives w)
+      Rest w.base w.coordinator.rows (truth_of w.base (written_in w)) (rest_of (written_in w)) (written_in w) (tablet_in w)
+      (calls_in w) (lives w) w.ledger.journal (asked_by w.ledger)
+  pub records : Tables w.coordinator.rows (written_in w) (tablet_in w) (records_in w) (lives w)
   pub receives :
-      Receives w.coordinator.rows (written_in w) (kept_in w) (table_in w) w.coordinator.handed
+      Receives w.coordinator.rows (written_in w) (tablet_in w) (records_in w) w.coordinator.handed
   pub rebuilds :
-      Rebuilds w.coordinator.rows (truth_of w.base (written_in w)) (log_in w) (written_in w) (backup_at w) (kept_in w) (table_in w)
+      Rebuilds w.coordinator.rows (truth_of w.base (written_in w)) (log_in w) (written_in w) (backup_at w) (tablet_in w) (records_in w)
       (lives w)
   pub messages :
-      Messages w.coordinator.rows (log_in w) (written_in w) (backup_at w) (kept_in w) (lives w) w.coordinator.handed w.desk.journal
-      w.desk.wire
-  pub asked : Asked w.lane (asked_by w.desk) w.desk.requests w.desk.journal w.desk.wire
+      Messages w.coordinator.rows (log_in w) (written_in w) (backup_at w) (tablet_in w) (lives w) w.coordinator.handed w.ledger.journal
+      w.wire.messages
+  pub asked : Asked w.lane (asked_by w.ledger) w.ledger.requests w.ledger.journal w.wire.messages
 
 -- the numbers of a lane have room
 abbrev pub HasRoom : World → Type 0
 HasRoom w =
-    Room (standing w) (written_in w) w.coordinator.handed w.desk.wire w.desk.requests w.top (bytes_of_logs w)
+    Room (standing w) (written_in w) w.coordinator.handed w.wire.messages w.ledger.requests w.top (bytes_of_logs w)

@@ -1,4 +1,4 @@
-use Rattle.rk_laws_parts.proofs.SoundDesk.{sound_come, sound_kept}
+use Rattle.rk_laws_parts.proofs.SoundLedger.{sound_come, sound_saved}
 use Rattle.rk_laws_parts.proofs.SoundForgotten.{sound_forgotten}
 use Rattle.rk_laws_parts.proofs.SoundFrozen.{sound_frozen}
 use Rattle.rk_laws_parts.proofs.SoundSent.{sound_sent}
@@ -14,8 +14,8 @@ returns-clause-forgotten c = sound_forgotten
 pub returns-clause-come : goal.returns-clause-come
 returns-clause-come c = λ w client sound may. sound_come w client sound may
 
-pub returns-clause-kept : goal.returns-clause-kept
-returns-clause-kept c = λ w client message sound may. sound_kept w client message sound may
+pub returns-clause-saved : goal.returns-clause-saved
+returns-clause-saved c = λ w client message sound may. sound_saved w client message sound may
 
 pub returns-clause-staged : goal.returns-clause-staged
 returns-clause-staged c = sound_staged

@@ -1,0 +1,29 @@
+-- Marks: pieces of a log that a rebuild made and that are not told yet. They count for nothing until then.
+use Rattle.std.specs.Prelude.{ℕ, suc, Bool, ◌==◌, ◌&&◌, nat_lt, nat_le, if◌then◌else◌, List, [], ◌∷◌, drop}
+use Rattle.std.specs.List.{list_any}
+use Rattle.rk_entry.specs.declared.entry.Entry.{Entry}
+
+-- a piece of a log that a rebuild made, from the place `first` on and before the place `past`, until it is told
+pub record Mark : Type 0 where
+  pub first : ℕ
+  pub past : ℕ
+  pub tablet : ℕ
+  pub term : ℕ
+
+-- whether the entry at a place is of such a piece
+abbrev pub is_marked : List Mark → ℕ → Bool
+is_marked marks place = list_any (λ mark. nat_le mark.first place && nat_lt place mark.past) marks
+
+-- the entries that bear no mark, where the first of them stands at `place`
+abbrev pub unmarked : List Mark → ℕ → List Entry → List Entry
+unmarked marks place [] = []
+unmarked marks place (entry ∷ entries) =
+    if is_marked marks place then unmarked marks (suc place) entries else entry ∷ unmarked marks (suc place) entries
+
+-- the entries of a log from a place on that bear no mark
+abbrev pub unmarked_from : List Mark → ℕ → List Entry → List Entry
+unmarked_from marks place entries = unmarked marks place (drop place entries)
+
+-- whether a mark is of a tablet, made at this term or before
+abbrev pub is_told : ℕ → ℕ → Mark → Bool
+is_told tablet term mark = mark.tablet == tablet && nat_le mark.term term
