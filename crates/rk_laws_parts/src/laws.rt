@@ -46,7 +46,7 @@ pub fn one_master_answers()
         → (a ≡ b) × (i ≡ j) }
 {}
 
-/// In a sound lane every backup stores each committed entry of each master, up to its end.
+/// In a sound lane every backup stores each entry that its master has applied, up to the end of the entry.
 pub fn what_is_committed_is_stored()
     ensures stored { (w : World) (master backup place : ℕ)
         → IsSound w → IsBackup (log_in w master) backup → place < (written_in w master).applied

@@ -62,12 +62,12 @@ fits_by w session (Some call) = fits_with w session call
 abbrev pub fits : World → Session → Bool
 fits w session = is_added w.ledger session.client && fits_by w session session.outstanding
 
--- whether a session with this outstanding call, if any, is asked in a lane
+-- whether this outstanding call of a session, if there is one, was asked in a lane
 abbrev pub asked_by_session : World → Session → Option Call → Bool
 asked_by_session w session None = false
 asked_by_session w session (Some call) = is_asked w.ledger session call
 
--- whether a session is asked in a lane
+-- whether the outstanding call of a session was asked in a lane
 abbrev pub is_asked_here : World → Session → Bool
 is_asked_here w session = asked_by_session w session session.outstanding
 

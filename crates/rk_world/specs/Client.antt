@@ -139,7 +139,7 @@ requesting session call tablet master = record {
   message = request_of session call tablet master;
 }
 
--- a request to the owner of a cached range; one without an owner is not cached
+-- a request to the owner of a cached range; where it has none, the key is looked up
 abbrev pub turn_to : Session → Call → ℕ → Option ℕ → ClientTurn
 turn_to session call tablet (Some master) = requesting session call tablet master
 turn_to session call tablet None = looking_up session call
@@ -168,7 +168,7 @@ pub record Accepted : Type 0 where
 abbrev pub ignoring : Session → Accepted
 ignoring session = record { session = session; taken = taken.Ignored }
 
--- a range with an owner, if it has one
+-- a range as a list, where it has an owner
 abbrev pub owned_range : Located → Option ℕ → List Located
 owned_range located None = []
 owned_range located (Some owner) = located ∷ []

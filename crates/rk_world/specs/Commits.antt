@@ -20,7 +20,7 @@ use Rattle.rk_world.specs.Worked.{Worked, changed, then_works}
 use Rattle.rk_world.specs.Requests.{answering}
 use Rattle.rk_world.specs.Waiting.{all_going_on}
 
--- the records after an entry was applied: an item goes into it where it is newer
+-- the records after an entry was applied: an item goes into them where it is newer
 abbrev pub with_entry_item : Master → Entry → Master
 with_entry_item master (entries.Held held) = with_item master held
 with_entry_item master _ = master
@@ -32,7 +32,7 @@ noting call end tablet =
     then record tablet { completions = noted tablet.completions end }
     else tablet
 
--- each tablet that has the key of a call notes its end
+-- each tablet that is not absent and has the key of a call notes its end
 abbrev pub with_noted : Master → Call → Ended → Master
 with_noted master call end =
     record master { tablets = map (λ entry. (entry.0, noting call end entry.1)) master.tablets }

@@ -12,14 +12,14 @@ use Rattle.rk_entry.specs.declared.entry.Entry.TheVariants as entries
 use Rattle.rk_entry.specs.declared.entry.Refused.{Refused}
 use Rattle.rk_done.specs.Completions.{completions_from, Completions}
 
--- the outcome that tells an end
+-- the outcome that an end tells
 abbrev pub outcome_of : End → Outcome
 outcome_of (ends.Written version) = outcomes.Written version
 outcome_of (ends.Deleted version) = outcomes.Deleted version
 outcome_of ends.Absent = outcomes.Absent
 outcome_of (ends.Mismatch version) = outcomes.Mismatch version
 
--- a call that left an item wrote a value, or removed the record
+-- how the call that left an item ended: it wrote a value, or removed the record
 abbrev pub end_of_item : ℕ → Option (List ℕ) → End
 end_of_item version (Some value) = ends.Written version
 end_of_item version None = ends.Deleted version

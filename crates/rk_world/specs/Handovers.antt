@@ -26,7 +26,7 @@ use Rattle.rk_world.specs.Waiting.{freezing}
 abbrev pub is_above : Range → ℕ → ℕ × Tablet → Bool
 is_above range term entry = not (meets entry.1.handover.range range) || nat_lt entry.1.handover.term term
 
--- whether a term is greater than that of the recordst and of each tablet that it has with a range that meets this one,
+-- whether a term is greater than that of the tablet and of each tablet that it has with a range that meets this one,
 -- absent ones too: so a message from before a split cannot take what a newer tablet has
 abbrev pub is_greater : Master → ℕ → ℕ → Range → Bool
 is_greater master number term range =

@@ -18,7 +18,7 @@ use Rattle.rk_world.specs.Material.{as_entries}
 use Rattle.rk_world.specs.Tablet.{Tablet, no_tablet}
 
 -- a master: its number; its log, with the items of its side segments; how many first entries are applied; the calls
--- whose entries are not, by the place of the entry; the applied items, in scan order; and what it has of each tablet
+-- whose entries are not, by the place of the entry; the records, in scan order: the applied items, and what was pulled; and what it has of each tablet
 pub record Master : Type 0 where
   pub number : ℕ
   pub log : Log

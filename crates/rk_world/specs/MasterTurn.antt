@@ -35,21 +35,21 @@ appends master =
     flat_map (λ backup. append_of master backup (pending master.log backup)) (range_with_len 1 (length master.log.known))
 
 -- the tenure of a tablet at a master
-abbrev pub kept_tenure : ℕ → Tablet → Tenure
-kept_tenure number tablet = record { tablet = number; term = tablet.handover.term }
+abbrev pub tenure_at : ℕ → Tablet → Tenure
+tenure_at number tablet = record { tablet = number; term = tablet.handover.term }
 
 -- a target asks for the batch from its token on
 abbrev pub pull_of : Master → ℕ → Tablet → Message
 pull_of master number tablet =
     from_master master (nodes.Master tablet.pulling.source)
-    (bodies.Pull (record { tenure = kept_tenure number tablet; token = tablet.pulling.token }))
+    (bodies.Pull (record { tenure = tenure_at number tablet; token = tablet.pulling.token }))
 
 -- a target asks first for the outstanding hashes, where there are some
 abbrev pub want_of : Master → ℕ → Tablet → List ℕ → List Message
 want_of master number tablet [] = []
 want_of master number tablet (hash ∷ more) =
     from_master master (nodes.Master tablet.pulling.source)
-    (bodies.Want (record { tenure = kept_tenure number tablet; hashes = hash ∷ more })) ∷ []
+    (bodies.Want (record { tenure = tenure_at number tablet; hashes = hash ∷ more })) ∷ []
 
 -- the wanted hashes of a tablet become a batch, where none is outstanding
 abbrev pub with_outstanding : Tablet → Tablet
@@ -70,7 +70,7 @@ receiving_duty master number tablet =
 abbrev pub joined_duty : Master → ℕ → Tablet → ℕ → Worked
 joined_duty master number tablet entry =
     if nat_lt entry master.applied
-    then sending master (from_master master nodes.Coordinator (bodies.Joined (kept_tenure number tablet)))
+    then sending master (from_master master nodes.Coordinator (bodies.Joined (tenure_at number tablet)))
     else changed master
 
 -- a rebuilding master whose closing entry is applied tells its place and the ends
@@ -78,7 +78,7 @@ abbrev pub rebuilt_duty : Master → ℕ → Tablet → ℕ → ℕ → Worked
 rebuilt_duty master number tablet from entry =
     if nat_lt entry master.applied
     then sending master (from_master master nodes.Coordinator
-    (bodies.Rebuilt (record { tenure = kept_tenure number tablet; place = from; ends = tablet.merged.ends })))
+    (bodies.Rebuilt (record { tenure = tenure_at number tablet; place = from; ends = tablet.merged.ends })))
     else changed master
 
 -- a rebuilding master reads the next segment from backup 1
@@ -86,7 +86,7 @@ abbrev pub reading_duty : Master → ℕ → Tablet → Option Reading → Worke
 reading_duty master number tablet None = changed master
 reading_duty master number tablet (Some reading) =
     sending master (from_master master (nodes.Backup 1)
-    (bodies.Read (record { tenure = kept_tenure number tablet; master = reading.master; segment = reading.segment })))
+    (bodies.Read (record { tenure = tenure_at number tablet; master = reading.master; segment = reading.segment })))
 
 -- what a master does for a tablet on its turn, by its role
 abbrev pub tablet_duty : Master → ℕ → Tablet → Role → Worked

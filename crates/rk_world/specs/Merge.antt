@@ -21,11 +21,11 @@ abbrev pub has_version : List Held → Held → Bool
 has_version items item =
     list_any (λ other. other.table == item.table && bytes_eq other.key item.key && (other.version == item.version)) items
 
--- the newest items of all, in order of their versions, but those that the own entries have
+-- the newest items of all, in order of their versions, except those that the own entries have
 abbrev pub copies_of : List Held → List Held → List Held
 copies_of own all = filter (λ item. not (has_version own item)) (newest_items all)
 
--- the number that an entry needs the next version to have at least
+-- a floor, raised by an entry: it is above the version of an item, and not below the floor of a Carried
 abbrev pub floor_by : ℕ → Entry → ℕ
 floor_by floor (entries.Held held) = max floor (held.version + 1)
 floor_by floor (entries.Refused refused) = floor

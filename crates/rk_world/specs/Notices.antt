@@ -9,7 +9,7 @@ use Rattle.rk_tablet_map.specs.declared.row.Row.{Row}
 use Rattle.rk_world.specs.Lineage.{is_member}
 use Rattle.rk_world.specs.Coordinator.{Coordinator, is_noticed, lowest_left}
 
--- the first master of a lineage that was not noticed dead, and else the lowest one
+-- the first master of a lineage that was not noticed dead, and else the lowest one left
 abbrev pub next_rebuilder : Coordinator → List Member → ℕ
 next_rebuilder coordinator lineage =
     unwrap_or (find (λ master. not (is_noticed coordinator master)) (map (λ member. member.master) lineage))

@@ -87,7 +87,7 @@ rebuilding_on master number None =
 abbrev pub rebuild_goes_on : Master → ℕ → Worked
 rebuild_goes_on master number = rebuilding_on master number (next_reading (tablet_at master number).gather)
 
--- a master of the lineage leaves its items where they are, and its log counts from its place there
+-- the place from which the log of the rebuilding master counts: its place in the lineage, and else the end of its log
 abbrev pub begun_from : Master → Option Member → ℕ
 begun_from master (Some member) = member.from
 begun_from master None = length master.log.entries

@@ -45,7 +45,7 @@ pub data Choice : Type 0 where
   Reads : (outcome : Outcome) → Choice
   -- the mutation writes or removes the record
   Writes : (tablet : ℕ) (value : Option (List ℕ)) → Choice
-  -- the mutation is refused: it found this version, or was a removal
+  -- the mutation is refused: it found this version, or was the removal of a record that is not there
   Refuses : (found : ℕ) (absent : Bool) → Choice
 
 -- the item of a key that a call finds: for a mutation the newest staged one, else that of the records; for a read that of

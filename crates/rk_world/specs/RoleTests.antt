@@ -30,7 +30,7 @@ abbrev pub is_rebuilding : Role → Bool
 is_rebuilding (roles.Rebuilding from entry) = true
 is_rebuilding _ = false
 
--- whether a role has nothing staged of its tablet
+-- whether a master in this role has nothing of its tablet staged
 abbrev pub is_idle : Role → Bool
 is_idle roles.Absent = true
 is_idle roles.Frozen = true

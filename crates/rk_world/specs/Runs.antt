@@ -32,7 +32,7 @@ after w (Happens event failed) = world_stepped w (step w event failed)
 after w (Asks session) = world_visited w (ask w session)
 after w (Accepts number session) = world_visited w (accept w number session)
 
--- the world after a list of these
+-- the world after a list of happenings
 abbrev pub run : World → List Happening → World
 run w [] = w
 run w (happening ∷ later) = run (after w happening) later

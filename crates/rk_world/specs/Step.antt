@@ -34,7 +34,7 @@ pub record Stepped : Type 0 where
   pub world : World
   pub seen : Seen
 
--- the number of the first message of so many that are sent next, 0 where there is none
+-- the number of the first of these messages that are sent next, 0 where there is none
 abbrev pub first_number : Traffic → List Message → ℕ
 first_number wire [] = 0
 first_number wire (message ∷ more) = wire.sent + 1

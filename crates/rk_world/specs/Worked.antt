@@ -8,8 +8,8 @@ use Rattle.rk_world.specs.declared.work.Served.{Served}
 use Rattle.rk_world.specs.Marks.{Mark}
 use Rattle.rk_world.specs.Master.{Master}
 
--- what a master makes of a message or of its turn: the master after it, what it sends, the calls that it served, the
--- reads at once and the mutations once they are applied, and the piece of its log that a rebuild made
+-- what a master makes of a message or of its turn: the master after it, what it sends, the calls that it served
+-- (reads at once, mutations once they are applied), and the piece of its log that a rebuild made
 pub record Worked : Type 0 where
   pub master : Master
   pub sends : List Message

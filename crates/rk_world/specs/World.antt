@@ -108,7 +108,7 @@ with_crash w master = record w { crashed = w.crashed ++ master ∷ [] }
 abbrev pub greatest : List ℕ → ℕ
 greatest numbers = fold max 0 numbers
 
--- the counters of a master's recordsts
+-- the counters of a master's tablets
 abbrev pub counters_of : Master → List ℕ
 counters_of master = map (λ entry. entry.1.handover.counter) master.tablets
 

@@ -84,7 +84,7 @@ pub record Calls (base : Base) (rows : List Row) (truths rests : Row → List En
   -- is a record's, or one of the start
   pub reached : All (λ row. TellAll row.range journal (truths row)) rows
   pub recorded : All (λ row. All (IsKnown base journal) (told (truths row))) rows
-  -- so do the ends that a master keeps which answers calls, or will
+  -- so do the completions of a master that answers calls, or will
   pub answering :
       (master : ℕ)
       → All (λ row. StillCounts (live master) (tablets master row.tablet).handover.term row.term

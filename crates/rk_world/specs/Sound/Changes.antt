@@ -64,7 +64,7 @@ pub record MayBeSent (rows : List Row) (truths rests : Row → List Entry) (logs
 pub record MayCome (clients : NumberMap (Option LastCall)) (client : ℕ) : Type 0 where
   pub new : get clients client ≡ None
 
--- a message may be kept, to be sent again, that is a Request of its client
+-- a message may be saved, to be sent again, that is a Request of its client
 pub record MayBeSentAgain (asked : ℕ → Option LastCall) (journal : List Placed) (client : ℕ) (message : Message) : Type 0 where
   pub request : IsRequest asked journal client message.from message.body
 
@@ -78,7 +78,7 @@ pub record MayBeAsked (lane : ℕ) (asked : Option LastCall) (journal : List Pla
 pub record MayBeAccepted (asked : ℕ → Option LastCall) (journal : List Placed) (place : ℕ) : Type 0 where
   pub placed : Placed
   pub stands : slice_get journal place ≡ Some placed
-  pub last : IfSome (asked placed.call.client) (λ kept. kept.call ≡ placed.call)
+  pub last : IfSome (asked placed.call.client) (λ last. last.call ≡ placed.call)
   pub first : IsAccepted journal placed.call → ⊥
 
 -- ---- backups
@@ -148,7 +148,7 @@ pub record MayBeRead (base : Base) (rows : List Row) (tablets : ℕ → Tablet) 
   pub has_seen : HasSeen (asked call.client) call seen
   pub allowed : Allowed (map_after (base_map base) journal call.table call.key) call.op outcome
 
--- the next entry of a living master's log may are applied where every backup is known to hold it
+-- the next entry of a living master's log may be applied where every backup is known to hold it
 pub record MayCommit (log : Log) (written : Written) (live : Bool) : Type 0 where
   pub lives : live ≡ true
   pub held : written.applied < committed log

@@ -48,7 +48,7 @@ pub record Cover (rows : List Row) (written : ℕ → Written) (tablets : ℕ �
   pub marks : (master : ℕ) → All (λ mark. is_some (row_of rows mark.tablet) ≡ true) (written master).marks
   pub sent :
       EachIn (λ number message. IfSome (tenure_in message.body) (λ tenure. is_some (row_of rows tenure.tablet) ≡ true)) wire
-  -- ranges that are kept, or that orders bear, entries, side items and items of tables lie in rows
+  -- ranges that masters have, or that orders bear, entries, side items and records lie in rows
   pub ranges :
       (master tablet : ℕ) → 1 ≤ (tablets master tablet).handover.term → IsWithinRows rows (tablets master tablet).handover.range
   pub ordered : EachIn (λ number message. IfSome (range_in message.body) (IsWithinRows rows)) wire

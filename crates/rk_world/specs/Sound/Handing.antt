@@ -25,7 +25,7 @@ abbrev pub is_wanting : Role → Bool
 is_wanting (roles.Wanting from) = true
 is_wanting _ = false
 
--- what the second member of a row's lineage, if it has one, keeps of the tablet
+-- what the second member of a row's lineage, if there is one, has of the tablet
 abbrev pub second_has : (ℕ → ℕ → Tablet) → Row → Option Member → Option Handover
 second_has tablets row None = None
 second_has tablets row (Some member) = Some (tablets member.master row.tablet).handover
@@ -40,7 +40,7 @@ abbrev pub is_waiting_at : Option Handover → ℕ → Bool
 is_waiting_at None term = false
 is_waiting_at (Some handover) term = is_wanting handover.role && (handover.term == term)
 
--- what the coordinator keeps for the grant, while the target waits for it
+-- what the coordinator has noted for the grant, while the target waits for it
 abbrev pub handed_for_grant : Row → (ℕ → ℕ → Tablet) → NumberMap Handed → Option Handed
 handed_for_grant row tablets handed =
     if is_waiting (second_has tablets row (second_of (lineage_of row.phase))) then get handed row.tablet else None

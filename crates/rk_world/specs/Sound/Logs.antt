@@ -1,5 +1,5 @@
--- Logs: each backup keeps first parts of each master's segments, one segment after the other, and no master believes it to
--- keep more. So every backup holds what is applied; the steps that apply entries, and those that read a dead master's log, need it.
+-- Logs: each backup stores first parts of each master's segments, one segment after the other, and no master believes it to
+-- store more. So every backup holds what is applied; the steps that apply entries, and those that read a dead master's log, need it.
 use Rattle.std.specs.Prelude.{◌≡◌, ◌≢◌, ◌≤◌, ◌<◌, ℕ, Bool, true, nat_lt, List, [], ◌++◌, length, map, All, ⊤}
 use Rattle.rk_types.specs.NumberMap.{NumberMap, EachIn}
 use Rattle.rk_types.specs.declared.node.Node.{Node}

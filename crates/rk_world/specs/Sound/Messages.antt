@@ -83,14 +83,14 @@ IsClosing (Opening source sfrom target (Some dfrom)) master = source ≡ master
 IsClosing phase master = ⊥
 
 -- a master is to rebuild a tablet that was its own alone
-abbrev pub IsHeir : Post → Type 0
-IsHeir (OnlyRebuilder place) = ⊤
-IsHeir _ = ⊥
+abbrev pub IsOnlyRebuilder : Post → Type 0
+IsOnlyRebuilder (OnlyRebuilder place) = ⊤
+IsOnlyRebuilder _ = ⊥
 
 -- a Close may be followed now: the row asks for it, or its source is to rebuild the tablet at a greater term
 abbrev pub MayFollowClose : Row → ℕ → ℕ → Type 0
 MayFollowClose row master term =
-    ((term ≡ row.term) × IsClosing row.phase master) ⊎ ((term < row.term) × IsHeir (post_of row.phase master))
+    ((term ≡ row.term) × IsClosing row.phase master) ⊎ ((term < row.term) × IsOnlyRebuilder (post_of row.phase master))
 
 -- a tablet that opens or moves has this source
 abbrev pub HasSource : Phase → ℕ → Type 0

@@ -98,12 +98,12 @@ pub record MayBeReplayed (row : Row) (source target : Member) (written : ℕ →
   pub worker_is : worker < 4
   pub of_source : Contains (scan_items (member_truth written row.range source)) item
 
--- items of a source are kept at a target, copied or outdone, and found in its table
+-- items of a source have arrived at a target: they are copied or outdone, and found in its records
 pub record HaveArrived (items own sides table : List Held) : Type 0 where
   pub copied : (item : Held) → Contains items item → Contains sides item ⊎ IsOutdone own item
   pub found : (item : Held) → Contains items item → IsFound table item
 
--- a target may pass on to a token where all items that the token has passed are kept
+-- a target may pass on to a token where all items that the token has passed have arrived
 pub record MayPass (row : Row) (source target : Member) (written : ℕ → Written) (tablet : Tablet) (table : List Held) (live : Bool) (next : Token) : Type 0 where
   pub lives : live ≡ true
   pub lineage_is : lineage_of row.phase ≡ source ∷ target ∷ []
@@ -113,7 +113,7 @@ pub record MayPass (row : Row) (source target : Member) (written : ℕ → Writt
       (items_of (entries_from row.range target.from (applied_entries (written target.master))))
       (copied_items roles.Receiving tablet.pulling (written target.master).sides) table
 
--- hashes may be resolved where all items that have them are kept
+-- hashes may be resolved where all items that have them have arrived
 pub record MayResolve (row : Row) (source target : Member) (written : ℕ → Written) (tablet : Tablet) (table : List Held) (live : Bool) (hashes : List ℕ) : Type 0 where
   pub lives : live ≡ true
   pub lineage_is : lineage_of row.phase ≡ source ∷ target ∷ []

@@ -129,7 +129,7 @@ Holds (Closed entry) term own applied = entry < applied
 Holds (Both one other) term own applied = Holds one term own applied × Holds other term own applied
 Holds (Either one other) term own applied = Holds one term own applied ⊎ Holds other term own applied
 
--- whether the counter and the last ends that a master keeps of a tablet are those from which calls are answered, or will
+-- whether the counter and the completions that a master has of a tablet are those from which calls are answered, or will
 -- be: it serves, or it owns the tablet or gives it away, or it rebuilt the tablet for a row that is rebuilt once more
 abbrev pub speaks : Post → Handover → ℕ → Bool
 speaks (Owner place) handover term = true
@@ -138,7 +138,7 @@ speaks (OnlyRebuilder place) handover term =
     is_serving handover.role || (is_rebuilding handover.role && nat_lt handover.term term)
 speaks _ handover term = is_serving handover.role
 
--- what a master has of a tablet still counts: the master lives, or it keeps the row's term, so that what it told before it
+-- what a master has of a tablet still counts: the master lives, or it has the row's term, so that what it told before it
 -- crashed may still be taken
 abbrev pub StillCounts : Bool → ℕ → ℕ → Type 0
 StillCounts live own term = (live ≡ true) ⊎ (own ≡ term)

@@ -1,4 +1,4 @@
--- Receives: what a target has that pulls. Each record that arrived is kept, beside the log or under a newer one of the target's
+-- Receives: what a target that pulls has. Each record that arrived is there, beside the log or under a newer one of the target's
 -- own, and the table has the newest of all that came; so calls may be answered while records are fetched, and once all is
 -- fetched the target's log alone has the tablet. The steps that replay, seal, and take a Joined need it.
 use Rattle.std.specs.Prelude.{◌≡◌, ◌≤◌, ◌<◌, ℕ, Bool, true, false, List, [], ◌∷◌, Option, Some, Contains, IfSome, All, drop, take, fold, filter, is_some, length, slice_get, ⊤, ◌⊎◌, if◌then◌else◌, None}
@@ -147,7 +147,7 @@ is_granted roles.Receiving = true
 is_granted (roles.Joining entry) = true
 is_granted _ = false
 
--- what the coordinator keeps of a tablet that moves is what the frozen source keeps
+-- what the coordinator has noted of a tablet that moves is what the frozen source has
 abbrev pub IsHandedBy : Option Handed → Tablet → Type 0
 IsHandedBy handed source = handed ≡ Some (record { floor = source.handover.counter; ends = ends_of source.completions })
 
@@ -159,7 +159,7 @@ MembersFit row written tablets records handed (source ∷ target ∷ []) =
     target.from (written target.master) (tablets target.master row.tablet) (get handed row.tablet) (records target.master)
 MembersFit row written tablets records handed _ = ⊤
 
--- what the coordinator keeps, while source and target keep one term
+-- what the coordinator has noted, while source and target have one term
 abbrev pub HandedFits : Row → (ℕ → ℕ → Tablet) → NumberMap Handed → List Member → Type 0
 HandedFits row tablets handed (source ∷ target ∷ []) =
     (tablets target.master row.tablet).handover.term ≡ (tablets source.master row.tablet).handover.term
@@ -172,7 +172,7 @@ pub record IsBare (range : Range) (from : ℕ) (written : Written) (table : List
   pub nothing : list_any (touches range) (drop from written.entries) ≡ false
   pub empty : list_any (is_in range) table ≡ false
 
--- the place from which the entries of a master are to count that made ready, if it did
+-- the place from which the entries of a master that made ready are to count, if it did
 abbrev pub wanted_place : Role → Option ℕ
 wanted_place (roles.Wanting from) = Some from
 wanted_place role = None

@@ -12,11 +12,11 @@ use Rattle.rk_message.specs.declared.message.Message.{Message}
 use Rattle.rk_world.specs.Coordinator.{Handed}
 use Rattle.rk_world.specs.Written.{Written}
 
--- below this each number stays that grows
+-- each number that grows stays below this
 abbrev pub MOST_NUMBER : ℕ
 MOST_NUMBER = 2 ^ 60
 
--- below this the bytes of all logs of a lane stay
+-- the bytes of all logs of a lane stay below this
 abbrev pub MOST_BYTES : ℕ
 MOST_BYTES = 2 ^ 30
 
@@ -38,13 +38,13 @@ numbers_told _ = []
 abbrev pub AreAtMost : ℕ → List ℕ → Type 0
 AreAtMost top numbers = All (λ number. number ≤ top) numbers
 
--- of a lane: the numbers that stand in it and may grow, what each master has written, the floors that are kept for grants, the
+-- of a lane: the numbers that stand in it and may grow, what each master has written, the floors that are noted for grants, the
 -- messages on the wire and those that may be sent again, the greatest number that has stood, and the bytes of all logs
 pub record Room (numbers : List ℕ) (written : ℕ → Written) (handed : NumberMap Handed) (wire requests : NumberMap Message) (top bytes : ℕ) : Type 0 where
   pub standing : AreAtMost top numbers
   pub entries : (master : ℕ) → All (λ entry. AreAtMost top (numbers_of entry)) (written master).entries
   pub sides : (master : ℕ) → All (λ item. item.version ≤ top) (flat_map (λ items. items) (written master).sides)
-  pub floors : EachIn (λ tablet kept. kept.floor ≤ top) handed
+  pub floors : EachIn (λ tablet told. told.floor ≤ top) handed
   pub sent : EachIn (λ number message. AreAtMost top (numbers_told message.body)) wire
   pub again : EachIn (λ client message. AreAtMost top (numbers_told message.body)) requests
   pub number_bound : top < MOST_NUMBER

@@ -36,11 +36,11 @@ client_come w client = with_ledger w (with_client w.ledger client)
 abbrev pub MayComeTo : World → ℕ → Type 0
 MayComeTo w client = MayCome w.ledger.clients client
 
--- a message is kept that a client may send again
+-- a message is saved that a client may send again
 abbrev pub request_saved : World → ℕ → Message → World
 request_saved w client message = with_ledger w (with_request w.ledger client message)
 
--- a message may be kept in this world, to be sent again by a client
+-- a message may be saved in this world, to be sent again by a client
 abbrev pub MaySave : World → ℕ → Message → Type 0
 MaySave w client message = MayBeSentAgain (asked_by w.ledger) w.ledger.journal client message
 

@@ -1,4 +1,4 @@
--- Tables: the table of a master that answers calls for a tablet, or gave it away, has the newest applied items of it. So a
+-- Tables: the records of a master that answers calls for a tablet, or gave it away, are the newest applied items of it. So a
 -- read need not look into the log, and what a frozen source hands out is all that there is; the steps that read, that choose
 -- what a call does, and that answer a pull need it.
 use Rattle.std.specs.Prelude.{◌≡◌, ◌↔◌, ℕ, Bool, true, false, nat_lt, List, Some, Contains, IfSome, All}
@@ -23,7 +23,7 @@ IsTableOf range material table =
     (item : Held) → is_in range item ≡ true
     → (Contains table item ↔ (newest (items_of material) item.table item.key ≡ Some item))
 
--- whether a master's records has all of the tablet: it owns it or gives it away, or it gave it away or is to rebuild it and
+-- whether a master's records have all of the tablet: it owns it or gives it away, or it gave it away or is to rebuild it and
 -- has not begun
 abbrev pub has_all_items : Post → Handover → ℕ → Bool
 has_all_items (Owner place) handover term = true

@@ -40,7 +40,7 @@ range_in (bodies.Prepare prepare) = Some prepare.range
 range_in (bodies.Rebuild rebuild) = Some rebuild.range
 range_in _ = None
 
--- a term of a tablet is at most that of the recordst's row
+-- a term of a tablet is at most that of the tablet's row
 abbrev pub IsWithinTerm : Row → ℕ → ℕ → Type 0
 IsWithinTerm row tablet term = row.tablet ≡ tablet → term ≤ row.term
 

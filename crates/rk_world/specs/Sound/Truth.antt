@@ -1,4 +1,4 @@
--- Truth: the journal is a lawful history, and the committed logs of a row's lineage tell just the records that it leaves. A
+-- Truth: the journal is a lawful history, and the applied logs of a row's lineage tell just the records that it leaves. A
 -- read answers from them, and a rebuild has nothing else; each step that applies, joins or takes a rebuild needs it.
 use Rattle.std.specs.Prelude.{◌≡◌, ◌<◌, ℕ, List, Option, Some, None, All, ⊤}
 use Rattle.rk_types.specs.declared.history.Placed.{Placed}
