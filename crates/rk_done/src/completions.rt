@@ -1,9 +1,9 @@
-ghost use Rattle.std.specs.Prelude.{◌≡◌, [], map as map_list, ◌≤◌, ◌<◌, ◌+◌, ℕ, length, slice_index_or, IfOk, IfErr, OnOk, OnErr};
-ghost use Rattle.rk_types.specs.NumberMap.{IsInOrder, get};
-ghost use Rattle.rk_done.specs.Completions.{IsAt, Parts, look_of, noted, ended_of, ends_of};
+ghost use Rattle.std.specs.Prelude.{◌≡◌, [], map as map_list, ◌≤◌, ◌<◌, ◌+◌, IfOk, IfErr, OnOk, OnErr};
+ghost use Rattle.rk_types.specs.NumberMap.{IsInOrder};
+ghost use Rattle.rk_done.specs.Completions.{IsAt, Parts, look as look_lem, noted, ended_of, ends_of};
 
 use crate::completion::{Completion, Look};
-use rk_types::{End, Ended, NoMemory};
+use rk_types::{Ended, NoMemory};
 use std::alloc::Global;
 use std::marker::Model;
 
@@ -48,7 +48,7 @@ impl Completions {
 
     /// What is known of this client's call with this seq. One binary search.
     pub fn look(&self, client: u32, seq: u64) -> Look
-        ensures value { result ≡ look_of (get self.now.completions client) seq }
+        ensures value { result ≡ look_lem self.now.completions client seq }
         ensures order { IsInOrder self.now.completions }
     {
         match place(self.completions.as_slice(), client) {
