@@ -1,4 +1,4 @@
-ghost use Rattle.std.specs.Prelude.{◌≡◌, ◌≢◌, ◌≤◌, ℕ, not, length, OnOk, OnErr, IfOk, AllPairs};
+ghost use Rattle.std.specs.Prelude.{◌≡◌, ◌≢◌, ◌≤◌, not, length, OnOk, OnErr, IfOk, AllPairs};
 ghost use Rattle.std.specs.Borrow.{sem};
 ghost use Rattle.rk_priority.specs.Hashes.{Hashes, AreApart, no_hashes, contains, is_known, wanting, batched, is_batch, got as got_lem};
 

@@ -21,8 +21,6 @@ pub struct Segment {
 }
 
 impl Model for Segment {
-    ghost use Rattle.std.specs.Prelude.{◌≤◌};
-    ghost use Rattle.std.specs.Vec.{vec_len, vec_capacity};
     ghost use Rattle.rk_segment.specs.Segment.{NumberedBytes, IsConsistent};
 
     ghost Value = { NumberedBytes };
