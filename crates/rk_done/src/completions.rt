@@ -1,109 +1,108 @@
-ghost use Rattle.std.specs.Prelude.{◌≡◌, map as map_list, ◌≤◌, ◌<◌, ◌+◌, ℕ, length, slice_index_or, IfOk, IfErr, OnOk, OnErr, IsTrue};
-ghost use Rattle.std.specs.Ordering.{nat_cmp};
-ghost use Rattle.std.specs.FinMap as map;
-ghost use Rattle.rk_done.specs.Completions.{IsAt, Parts, look_of, noted, ended_of, ends_of};
+ghost use Rattle.std.specs.Prelude.{◌≡◌, [], map as map_list, ◌≤◌, ◌<◌, ◌+◌, IfOk, IfErr, OnOk, OnErr};
+ghost use Rattle.rk_types.specs.NumberMap.{IsInOrder};
+ghost use Rattle.rk_done.specs.Completions.{IsAt, Parts, look as look_lem, noted, ended_of, ends_of};
 
-use crate::kept::{Kept, Look};
-use rk_types::{End, Ended, NoMemory};
+use crate::completion::{Completion, Look};
+use rk_types::{Ended, NoMemory};
 use std::alloc::Global;
 use std::marker::Model;
 
-/// The last end of each client.
+/// The last completion of each client. Contracts see a map by client, and the room for more clients.
 #[derive(Debug, Drop)]
 pub struct Completions {
-    kept: Vec<(u32, Kept)>,
+    completions: Vec<(u32, Completion)>,
 }
 
 impl Model for Completions {
-    ghost use Rattle.std.specs.Prelude.{◌-◌, vec_len, vec_capacity, IsTrue};
-    ghost use Rattle.std.specs.Ordering.{nat_cmp};
-    ghost use Rattle.std.specs.FinMap.{from_sorted, is_sorted};
+    ghost use Rattle.std.specs.Prelude.{◌-◌, vec_len, vec_capacity};
+    ghost use Rattle.rk_types.specs.NumberMap.{IsInOrder};
     ghost use Rattle.rk_done.specs.Completions.{Completed, completed_code};
 
     ghost Value = { Completed };
 
     ghost coded = { completed_code };
 
-    ghost view = { λ a. record { kept = from_sorted a.kept.items; room = vec_capacity a.kept - vec_len a.kept } };
+    ghost view = { λ a. record { completions = a.completions.items; room = vec_capacity a.completions - vec_len a.completions } };
 
-    ghost invariant = { λ a. IsTrue (is_sorted nat_cmp a.kept.items) };
+    ghost invariant = { λ a. IsInOrder a.completions.items };
 }
 
 // The place of the client, or where it would stand.
-fn place(kept: &[(u32, Kept)], client: u32) -> Result<usize, usize>
-    requires { IsTrue (map.is_sorted nat_cmp kept.now) }
-    ensures found { IfOk result (IsAt client kept.now) }
-    ensures absent { IfErr result (Parts client kept.now) }
+fn place(completions: &[(u32, Completion)], client: u32) -> Result<usize, usize>
+    requires { IsInOrder completions.now }
+    ensures found { IfOk result (IsAt client completions.now) }
+    ensures absent { IfErr result (Parts client completions.now) }
 {
-    kept.binary_search_by_key(&client, |entry| entry.0)
+    completions.binary_search_by_key(&client, |entry| entry.0)
 }
 
 impl Completions {
-    /// No client yet, and room for none.
+    /// No completions, and room for none. Takes no memory.
     pub fn new(alloc: Global) -> Completions
-        ensures { result.kept ≡ map.empty }
+        ensures { result.completions ≡ [] }
     {
         Completions {
-            kept: Vec::new(alloc),
+            completions: Vec::new(alloc),
         }
     }
 
-    /// What is known of this client's call with this seq.
+    /// What is known of this client's call with this seq. One binary search.
     pub fn look(&self, client: u32, seq: u64) -> Look
-        ensures { result ≡ look_of (map.get self.now.kept client) seq }
+        ensures value { result ≡ look_lem self.now.completions client seq }
+        ensures order { IsInOrder self.now.completions }
     {
-        match place(self.kept.as_slice(), client) {
-            Ok(at) => self.kept[at].1.look(seq),
+        match place(self.completions.as_slice(), client) {
+            Ok(at) => self.completions[at].1.look(seq),
             Err(_) => Look::New,
         }
     }
 
     /// Makes room for this many more clients. After `NoMemory` nothing has changed.
     pub fn reserve(&mut self, clients: usize) -> Result<(), NoMemory>
-        ensures kept { self.new.kept ≡ self.old.kept }
+        ensures completions { self.new.completions ≡ self.old.completions }
         ensures ok { OnOk result (clients ≤ self.new.room) }
         ensures err { OnErr result (self.new ≡ self.old) }
     {
-        self.kept.reserve(clients)?;
+        self.completions.reserve(clients)?;
         Ok(())
     }
 
-    /// Keeps the end where its seq is greater than the kept one, or nothing is kept of its client. It takes at most the
-    /// room of one client.
+    /// Notes how a call ended: it becomes its client's last completion where it is the first, or its seq is greater
+    /// than that of the last one; else nothing changes. It takes at most the room of one client.
     pub fn note(&mut self, ended: Ended)
         requires { 0 < self.old.room }
-        ensures kept { self.new.kept ≡ noted self.old.kept ended }
+        ensures completions { self.new.completions ≡ noted self.old.completions ended }
         ensures room { self.old.room ≤ self.new.room + 1 }
     {
-        let kept = Kept {
+        let completion = Completion {
             seq: ended.seq,
             end: ended.end,
         };
-        match place(self.kept.as_slice(), ended.client) {
+        match place(self.completions.as_slice(), ended.client) {
             Ok(at) => {
-                if self.kept[at].1.seq < ended.seq {
-                    self.kept[at].1 = kept;
+                if self.completions[at].1.seq < ended.seq {
+                    self.completions[at].1 = completion;
                 }
             }
             Err(at) => {
-                let _ = self.kept.insert(at, (ended.client, kept));
+                let _ = self.completions.insert(at, (ended.client, completion));
             }
         }
     }
 
-    /// The last end of each client, by rising client.
+    /// The end of each client's last call, by rising client.
     pub fn ends(&self) -> Result<Vec<Ended>, NoMemory>
-        ensures { IfOk result (λ ends. ends.items ≡ ends_of self.now.kept) }
+        ensures { IfOk result (λ ends. ends.items ≡ ends_of self.now.completions) }
     {
-        listed(self.kept.as_slice(), *self.kept.allocator())
+        listed(self.completions.as_slice(), *self.completions.allocator())
     }
 }
 
-// The end of each entry, in the order of the entries.
-fn listed(kept: &[(u32, Kept)], alloc: Global) -> Result<Vec<Ended>, NoMemory>
-    ensures { IfOk result (λ ends. ends.items ≡ map_list ended_of kept.now) }
+// The end of each client's last call, in the order of the completions.
+fn listed(completions: &[(u32, Completion)], alloc: Global) -> Result<Vec<Ended>, NoMemory>
+    ensures { IfOk result (λ ends. ends.items ≡ map_list ended_of completions.now) }
 {
-    let ends = kept.iter().map(|entry| Ended {
+    let ends = completions.iter().map(|entry| Ended {
         client: entry.0,
         seq: entry.1.seq,
         end: entry.1.end,

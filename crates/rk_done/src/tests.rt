@@ -2,9 +2,9 @@ use super::*;
 use rk_types::{End, Ended};
 use std::test::Fail;
 
-// What is known after seq 2 of client 1, and which of several ends is kept.
+// What is known after seq 2 of client 1, and which of several completions is the last one.
 #[test]
-fn keeps_the_greatest_seq(rt: HostRuntime) -> Result<(), Fail> {
+fn the_greatest_seq_stays(rt: HostRuntime) -> Result<(), Fail> {
     let mut completions = Completions::new(rt.alloc());
     completions.reserve(4)?;
     let rows = [

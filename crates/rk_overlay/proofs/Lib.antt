@@ -7,6 +7,6 @@ pub mod Ordered
 pub mod Overlays
 pub mod Alike
 pub mod Live
-pub mod Kept
+pub mod Trees
 pub mod Listed
 pub mod Examples

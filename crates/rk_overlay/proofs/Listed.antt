@@ -1,4 +1,4 @@
--- The items that the code keeps, sorted, are the newest items in order.
+-- The items of the tree, sorted, are the newest items in order.
 use Rattle.std.proofs.Common.{◌≡◌, ◌+◌, ◌<◌, Bool, false, List, [], ◌∷◌, Option, Some, None, length, map, get_or, refl, sym, ap, ◌∙◌, subst, ⊎_elim, arith, rules}
 use Rattle.std.specs.Prelude.{IfSome}
 use Rattle.std.specs.BTreeMap.{BTreeMap, get, values, IsOrdered, is_at}
@@ -21,13 +21,13 @@ use denote.Ref.{Bor}
 use Rattle.rk_types.specs.declared.held.Held.{Held}
 use Rattle.rk_overlay.specs.Newest.{newest}
 use Rattle.rk_overlay.specs.Overlay.{item_cmp, newest_items}
-use Rattle.rk_overlay.specs.Lent.{Name, Keeps, name_cmp}
+use Rattle.rk_overlay.specs.Lent.{Name, IsTreeOf, name_cmp}
 use Rattle.rk_overlay.proofs.Members.{none_stands, first_stands, behind_stands, stands_cases}
 use Rattle.rk_overlay.proofs.Names.{is_of_parts}
 use Rattle.rk_overlay.proofs.Bridges.{newest_is}
 use Rattle.rk_overlay.proofs.Ordered.{item_total}
 use Rattle.rk_overlay.proofs.Overlays.{newest_own, newest_items_alone, tie_parts}
-use Rattle.rk_overlay.proofs.Kept.{name_of}
+use Rattle.rk_overlay.proofs.Trees.{name_of}
 
 -- the order of names is total
 name_total : IsTotalOrder name_cmp
@@ -114,50 +114,50 @@ shown_by : (seen : Option (Bor Held)) (item : Held) → option_copied seen ≡ S
 shown_by None item is = absurd (cc (is))
 shown_by (Some lent) item is = let same : lent.now ≡ item = cc (is) in (lent, refl, same)
 
-module _ (kept : BTreeMap Name (Bor Held)) (items : List Held) (ordered : IsOrdered name_cmp kept) (keeps : Keeps kept (newest items)) where
-  -- each entry is kept under the name of its item, which is the newest there
-  entry_is : All (λ (entry : Name × Bor Held). newest items entry.0.0 entry.0.1.now ≡ Some entry.1.now) kept.entries
+module _ (tree : BTreeMap Name (Bor Held)) (items : List Held) (ordered : IsOrdered name_cmp tree) (is_tree : IsTreeOf tree (newest items)) where
+  -- each entry stands under the name of its item, which is the newest there
+  entry_is : All (λ (entry : Name × Bor Held). newest items entry.0.0 entry.0.1.now ≡ Some entry.1.now) tree.entries
   entry_is k d within =
-      let entry = get_or kept.entries k d in
-      sym (keeps entry.0) ∙ ap option_copied (All-found name_total kept ordered k d within)
+      let entry = get_or tree.entries k d in
+      sym (is_tree entry.0) ∙ ap option_copied (All-found name_total tree ordered k d within)
 
-  entry_own : All HasOwnName kept.entries
+  entry_own : All HasOwnName tree.entries
   entry_own k d within =
-      let entry = get_or kept.entries k d in
+      let entry = get_or tree.entries k d in
       let its = is_of_parts entry.0.0 entry.0.1.now entry.1.now (newest_is items entry.0.0 entry.0.1.now entry.1.now (entry_is k d within)).of_record in
       (sym its.0, sym its.1)
 
-  value_own : (lent : Bor Held) → Contains (values kept) lent → newest items lent.now.table lent.now.key ≡ Some lent.now
+  value_own : (lent : Bor Held) → Contains (values tree) lent → newest items lent.now.table lent.now.key ≡ Some lent.now
   value_own lent at =
-      let from = mapped_from (λ (entry : Name × Bor Held). entry.1) kept.entries lent at in
+      let from = mapped_from (λ (entry : Name × Bor Held). entry.1) tree.entries lent at in
       let is : newest items from.0.0.0 from.0.0.1.now ≡ Some from.0.1.now =
-      All-contains (λ (entry : Name × Bor Held). newest items entry.0.0 entry.0.1.now ≡ Some entry.1.now) kept.entries from.0 entry_is from.1 in
+      All-contains (λ (entry : Name × Bor Held). newest items entry.0.0 entry.0.1.now ≡ Some entry.1.now) tree.entries from.0 entry_is from.1 in
       subst (λ (x : Bor Held). newest items x.now.table x.now.key ≡ Some x.now) from.2 (newest_own items from.0.0.0 from.0.0.1.now from.0.1.now is)
 
-  -- and each newest item is kept
-  newest_kept : (item : Held) → newest items item.table item.key ≡ Some item → (lent : Bor Held) × Contains (values kept) lent × (lent.now ≡ item)
-  newest_kept item is =
-      let shown = shown_by (get name_cmp kept (name_of item)) item (keeps (name_of item) ∙ is) in
-      let among : IfSome (get name_cmp kept (name_of item)) (Contains (values kept)) =
-      IfSome-lookup_from_All (Contains (values kept)) (is_at (name_cmp (name_of item))) kept.entries (All-contains_itself (values kept)) in
-      (shown.0, subst (λ (o : Option (Bor Held)). IfSome o (Contains (values kept))) shown.1 among, shown.2)
+  -- and each newest item stands in the tree
+  newest_stands : (item : Held) → newest items item.table item.key ≡ Some item → (lent : Bor Held) × Contains (values tree) lent × (lent.now ≡ item)
+  newest_stands item is =
+      let shown = shown_by (get name_cmp tree (name_of item)) item (is_tree (name_of item) ∙ is) in
+      let among : IfSome (get name_cmp tree (name_of item)) (Contains (values tree)) =
+      IfSome-lookup_from_All (Contains (values tree)) (is_at (name_cmp (name_of item))) tree.entries (All-contains_itself (values tree)) in
+      (shown.0, subst (λ (o : Option (Bor Held)). IfSome o (Contains (values tree))) shown.1 among, shown.2)
 
   -- sorted, they are the newest items in order
-  pub sorted_are : (lent : List (Bor Held)) → IsPermutation (values kept) lent → IsSortedBy (λ x y. is_lt (item_cmp x.now y.now)) lent → lent_items lent ≡ newest_items items
+  pub sorted_are : (lent : List (Bor Held)) → IsPermutation (values tree) lent → IsSortedBy (λ x y. is_lt (item_cmp x.now y.now)) lent → lent_items lent ≡ newest_items items
   sorted_are lent moved rises =
       newest_items_alone items (lent_items lent) (record {
         newest = λ item. (
           λ at.
               let from = mapped_from (λ (x : Bor Held). x.now) lent item at in
               subst (λ (x : Held). newest items x.table x.key ≡ Some x) from.2
-              (value_own from.0 (Contains-permutation lent (values kept) from.0 (IsPermutation-sym (values kept) lent moved) from.1)),
+              (value_own from.0 (Contains-permutation lent (values tree) from.0 (IsPermutation-sym (values tree) lent moved) from.1)),
           λ is.
-              let found = newest_kept item is in
+              let found = newest_stands item is in
               subst (Contains (lent_items lent)) found.2
-              (mapped_stands (λ (x : Bor Held). x.now) lent found.0 (Contains-permutation (values kept) lent found.0 moved found.1)),
+              (mapped_stands (λ (x : Bor Held). x.now) lent found.0 (Contains-permutation (values tree) lent found.0 moved found.1)),
         );
         order =
             rises_strictly lent rises
-            (IsDistinct-IsPermutation have_one_name one_name_back (values kept) lent moved
-            (distinct_names kept.entries (recursion_from_All HasOwnName kept.entries entry_own) ordered));
+            (IsDistinct-IsPermutation have_one_name one_name_back (values tree) lent moved
+            (distinct_names tree.entries (recursion_from_All HasOwnName tree.entries entry_own) ordered));
       })

@@ -1,4 +1,4 @@
--- What the code keeps while it walks the lists: the newest item so far of each key, lent.
+-- The tree of the newest items so far, lent, which the code builds while it walks the lists.
 use Rattle.std.specs.Prelude.{◌≡◌, ℕ, List}
 use Rattle.std.specs.declared.cmp.Ordering.{Ordering}
 use Rattle.std.specs.Ordering.{nat_cmp, ordering_then}
@@ -17,6 +17,6 @@ Name = ℕ × Bor (List ℕ)
 abbrev pub name_cmp : Name → Name → Ordering
 name_cmp a b = ordering_then (nat_cmp a.0 b.0) (slice_cmp nat_cmp a.1.now b.1.now)
 
--- under each name is kept what is found there
-abbrev pub Keeps : BTreeMap Name (Bor Held) → Found → Type 0
-Keeps kept found = (name : Name) → option_copied (get name_cmp kept name) ≡ found name.0 name.1.now
+-- under each name the tree has what is found there
+abbrev pub IsTreeOf : BTreeMap Name (Bor Held) → Found → Type 0
+IsTreeOf tree found = (name : Name) → option_copied (get name_cmp tree name) ≡ found name.0 name.1.now

@@ -15,9 +15,9 @@ pub fn lists_join()
         → live_from found (front ++ back) ≡ live_from (newest_from found front) back }
 {}
 
-/// The newest item of a record stands in the list, and none of the record there has a greater version; nothing is found
-/// exactly where no item is of the record. Of such an item the one that is found has the version, and in a plain list
-/// it is the one.
+/// The item that is found of a record stands in the list, and none of the record there has a greater version; none is
+/// found exactly where no item is of the record. Every newest item has the version of the one that is found, and in a
+/// plain list is that one.
 pub fn newest_item_has_the_greatest_version()
     ensures found { (items : List Held) (table : ℕ) (key : List ℕ) (item : Held)
         → newest items table key ≡ Some item → IsNewest items table key item }
@@ -48,7 +48,7 @@ pub fn overlay_has_just_the_newest_items()
 {}
 
 /// An overlay stands for its two lists: it has their newest items and their records, and a list that is laid on it may
-/// as well be laid on them. So nothing laid on it changes nothing.
+/// as well be laid on them. So a list without items changes nothing when it is laid on it.
 pub fn overlays_join()
     ensures newest { (a b : List Held) (table : ℕ) (key : List ℕ)
         → newest (overlay a b) table key ≡ newest (a ++ b) table key }
@@ -70,8 +70,8 @@ pub fn plain_lists_may_change_places()
     ensures swapped { (a b : List Held) → IsPlain (a ++ b) → overlay a b ≡ overlay b a }
 {}
 
-/// An item that stands in a plain list already changes nothing, wherever it is put in. A list that is laid on itself
-/// changes nothing, plain or not.
+/// Of two lists that are plain together, an item that stands in one of them changes nothing when it is put before the
+/// second. A list that is laid on itself changes nothing, plain or not.
 pub fn repeats_change_nothing()
     ensures repeated { (a b : List Held) (item : Held)
         → IsPlain (a ++ b) → Contains (a ++ b) item → overlay a (item ∷ b) ≡ overlay a b }

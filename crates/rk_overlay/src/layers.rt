@@ -2,7 +2,7 @@ ghost use Rattle.std.specs.Prelude.{◌≡◌, IfOk, List, OnOk, map};
 ghost use Rattle.rk_overlay.specs.Newest.{Found, newest as newest_lem, newest_from, with_newer};
 ghost use Rattle.rk_overlay.specs.Overlay.{item_cmp, newest_items, overlay as overlay_lem};
 ghost use Rattle.std.specs.BTreeMap.{IsOrdered, values};
-ghost use Rattle.rk_overlay.specs.Lent.{Keeps, name_cmp};
+ghost use Rattle.rk_overlay.specs.Lent.{IsTreeOf, name_cmp};
 
 use rk_types::{Held, Key, NoMemory};
 use std::alloc::Global;
@@ -31,7 +31,7 @@ pub fn overlay(alloc: Global, a: &[Held], b: &[Held]) -> Result<Vec<Held>, NoMem
 // Takes in the items of a list, in their order.
 fn take_all<'a>(newest: &mut Newest<'a>, items: &'a [Held]) -> Result<(), NoMemory>
     ensures { OnOk result ((found : Found)
-        → Keeps newest.old found → Keeps newest.new (newest_from found items.now)) }
+        → IsTreeOf newest.old found → IsTreeOf newest.new (newest_from found items.now)) }
 {
     for item in items {
         take_in(newest, item)?;
@@ -39,10 +39,10 @@ fn take_all<'a>(newest: &mut Newest<'a>, items: &'a [Held]) -> Result<(), NoMemo
     Ok(())
 }
 
-// Takes in one more item, unless one of its key is kept that is as new.
+// Takes in one more item, unless the tree has one of its key that is as new.
 fn take_in<'a>(newest: &mut Newest<'a>, item: &'a Held) -> Result<(), NoMemory>
     ensures { OnOk result ((found : Found)
-        → Keeps newest.old found → Keeps newest.new (with_newer found item.now)) }
+        → IsTreeOf newest.old found → IsTreeOf newest.new (with_newer found item.now)) }
 {
     let name = (item.table, &item.key);
     if let Some(old) = newest.get(&name) {
@@ -57,7 +57,7 @@ fn take_in<'a>(newest: &mut Newest<'a>, item: &'a Held) -> Result<(), NoMemory>
 // The newest items, in order.
 fn in_order<'a>(alloc: Global, newest: &Newest<'a>) -> Result<Vec<&'a Held>, NoMemory>
     ensures { IfOk result (λ lent. (items : List Held)
-        → Keeps newest.now (newest_lem items) → map (λ item. item.now) lent.items ≡ newest_items items) }
+        → IsTreeOf newest.now (newest_lem items) → map (λ item. item.now) lent.items ≡ newest_items items) }
 {
     let mut lent = values(alloc, newest)?;
     lent.sort_by(|x, y| compare(x, y))?;

@@ -3,13 +3,13 @@ use Rattle.std.specs.Prelude.{◌≢◌, ℕ, ◌≤◌, Bool, false, List, [], 
 use Rattle.std.specs.List.{list_any}
 use Rattle.rk_priority.specs.declared.wanted.TheConstants.{BATCH_HASHES}
 
--- what is kept: the hashes that have come, the batch that is asked for, and those that are still wanted, the oldest first
+-- the hashes whose records have come, those of the batch that is asked for, and those that are still wanted, the oldest first
 pub record Hashes : Type 0 where
   pub resolved : List ℕ
   pub outstanding : List ℕ
   pub wanted : List ℕ
 
--- no hash at all
+-- no hashes
 abbrev pub no_hashes : Hashes
 no_hashes = record { resolved = []; outstanding = []; wanted = [] }
 

@@ -1,4 +1,4 @@
-ghost use Rattle.std.specs.Prelude.{◌≡◌, ◌≢◌, ◌≤◌, ℕ, not, length, OnOk, OnErr, IfOk, AllPairs};
+ghost use Rattle.std.specs.Prelude.{◌≡◌, ◌≢◌, ◌≤◌, not, length, OnOk, OnErr, IfOk, AllPairs};
 ghost use Rattle.std.specs.Borrow.{sem};
 ghost use Rattle.rk_priority.specs.Hashes.{Hashes, AreApart, no_hashes, contains, is_known, wanting, batched, is_batch, got as got_lem};
 
@@ -9,7 +9,8 @@ use std::marker::Model;
 /// The most hashes of a batch.
 pub const BATCH_HASHES: usize = 16;
 
-/// The hashes that are wanted, outstanding or resolved.
+/// The hashes of keys whose records a tablet needs: wanted at first, outstanding once they stand in the batch that is
+/// asked for, and resolved once their records have come.
 #[derive(Debug, Drop)]
 pub struct Wanted {
     // All of them, the oldest first: those that are resolved, then the batch, then those that are still wanted.
@@ -33,7 +34,7 @@ impl Model for Wanted {
 impl Wanted {
     ghost use Rattle.rk_priority.specs.Batches.{EndsAs};
 
-    /// No hash at all.
+    /// No hashes, which takes no memory.
     pub fn new(alloc: Global) -> Wanted
         ensures { result ≡ no_hashes }
     {
@@ -44,8 +45,8 @@ impl Wanted {
         }
     }
 
-    /// Wants a hash, and answers whether it was neither wanted, outstanding nor resolved before. After `NoMemory`
-    /// nothing has changed.
+    /// Wants a hash, behind those that are wanted, and answers whether it was new; one that is wanted, outstanding or
+    /// resolved changes nothing. After `NoMemory` nothing has changed. A step for each of the hashes.
     pub fn want(&mut self, hash: u64) -> Result<bool, NoMemory>
         ensures answer { IfOk result (λ new. new ≡ not (is_known self.old hash)) }
         ensures after { OnOk result (self.new ≡ wanting self.old hash) }
@@ -71,8 +72,8 @@ impl Wanted {
         rest.split_at(self.batch).0
     }
 
-    /// Takes note that the records of these hashes have come, and answers whether these are the outstanding batch, in
-    /// its order, and not empty. Only then are they resolved, and else nothing has changed.
+    /// Takes note that the records of these hashes have come, and answers whether the hashes are those of the
+    /// outstanding batch, in its order, and are not none. Then they are resolved; else nothing has changed.
     pub fn got(&mut self, hashes: &[u64]) -> bool
         ensures answer { result ≡ is_batch self.old.outstanding hashes.now }
         ensures after { self.new ≡ got_lem self.old hashes.now }
@@ -88,7 +89,7 @@ impl Wanted {
         true
     }
 
-    /// Whether the record of this hash has come.
+    /// Whether the record of this hash has come. A step for each hash that is resolved.
     pub fn resolved(&self, hash: u64) -> bool
         ensures resolved { result ≡ contains self.now.resolved hash }
         ensures apart { AreApart self.now }
@@ -96,7 +97,7 @@ impl Wanted {
         has(self.hashes.split_at(self.resolved).0, hash)
     }
 
-    /// Forgets all hashes.
+    /// Forgets all hashes, resolved ones too.
     pub fn clear(&mut self)
         ensures { self.new ≡ no_hashes }
     {

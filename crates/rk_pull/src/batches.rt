@@ -6,11 +6,12 @@ use rk_table::RecordTable;
 use rk_types::{Held, NoMemory, Range, Token};
 use std::alloc::Global;
 
-/// A batch ends with the item at which its log entries have so many bytes.
+/// A batch ends with the first item at which the log entries of its items have this many bytes together.
 pub const BATCH_BYTES: u32 = 20_480;
 
-/// The live items of the range from the token on, in scan order, as many as a batch takes, and the token behind them:
-/// `{1024, 0}` exactly where none is left. One scan of the table.
+/// Duplicates of the live items of the range from the token on, in scan order, up to and with the first one at which
+/// their entries have [`BATCH_BYTES`], and the token behind them: `{1024, 0}` exactly where none is left. `NoMemory` may
+/// come in place of the answer. One scan of the table, which has fewer than 2^32 items.
 pub fn batch<T: RecordTable>(
     alloc: Global,
     table: &T,

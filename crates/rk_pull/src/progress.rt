@@ -21,7 +21,7 @@ impl Model for Progress {
 }
 
 impl Progress {
-    /// Nothing has arrived.
+    /// No batch has arrived: the token is the first one.
     pub fn new() -> Progress
         ensures { result ≡ first }
     {
@@ -29,7 +29,7 @@ impl Progress {
     }
 
     /// Takes a batch that was asked for at `from` and ends at `next`, and answers whether it goes on where the last one
-    /// ended; else nothing changes.
+    /// ended. Then the token is `next`; else nothing has changed.
     pub fn take(&mut self, from: &Token, next: Token) -> bool
         ensures fits { IsTrue result ↔ (from.now ≡ self.old) }
         ensures taken { OnTrue result (self.new ≡ next) }

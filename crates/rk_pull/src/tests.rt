@@ -20,7 +20,7 @@ fn item(alloc: Global, key: &[u8]) -> Result<Held, Fail> {
     })
 }
 
-#[tactic(auto, using(rk_table::proofs::Kept::length_after))]
+#[tactic(auto, using(rk_table::proofs::Changes::length_after))]
 fn put(table: &mut SortedTable, alloc: Global, key: &[u8]) -> Result<(), Fail>
     ensures { length (items_of table.new) ≤ length (items_of table.old) + 1 }
 {

@@ -22,6 +22,6 @@ overflow segment more =
     else None
 
 -- memory for a whole segment has been taken, and the bytes are within it
-pub record IsReserved (bytes : Vec ℕ) : Type 0 where
+pub record IsConsistent (bytes : Vec ℕ) : Type 0 where
   pub reserved : SEGMENT_BYTES ≤ vec_capacity bytes
   pub within : vec_len bytes ≤ SEGMENT_BYTES

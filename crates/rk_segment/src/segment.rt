@@ -21,21 +21,20 @@ pub struct Segment {
 }
 
 impl Model for Segment {
-    ghost use Rattle.std.specs.Prelude.{◌≤◌};
-    ghost use Rattle.std.specs.Vec.{vec_len, vec_capacity};
-    ghost use Rattle.rk_segment.specs.Segment.{NumberedBytes, IsReserved};
+    ghost use Rattle.rk_segment.specs.Segment.{NumberedBytes, IsConsistent};
 
     ghost Value = { NumberedBytes };
 
     ghost view = { λ segment. record { number = segment.number; bytes = segment.bytes.items } };
 
-    ghost invariant = { λ segment. IsReserved segment.bytes };
+    ghost invariant = { λ segment. IsConsistent segment.bytes };
 }
 
 impl Segment {
     ghost use Rattle.rk_segment.specs.Segment.{appended, overflow};
 
-    /// The segment with this number and no bytes, which has reserved [`SEGMENT_BYTES`].
+    /// The segment with this number and no bytes. It takes memory for [`SEGMENT_BYTES`] at once; `NoMemory` may come in
+    /// its place.
     pub fn new(alloc: Global, number: u32) -> Result<Segment, NoMemory>
         ensures { IfOk result (λ segment. segment ≡ record { number = number; bytes = [] }) }
     {
@@ -45,8 +44,8 @@ impl Segment {
         })
     }
 
-    /// Puts the bytes at the end, which takes no memory. `Full` comes exactly where the segment would then have more
-    /// than [`SEGMENT_BYTES`], and nothing changes.
+    /// Puts the bytes, fewer than 2^32, at the end, which takes no memory. `Full` comes exactly where the segment would
+    /// then have more than [`SEGMENT_BYTES`], and nothing has changed after it.
     pub fn append(&mut self, bytes: &[u8]) -> Result<(), Full>
         requires { length bytes.now < 2 ^ 32 }
         ensures ok { OnOk result (self.new ≡ appended self.old bytes.now) }

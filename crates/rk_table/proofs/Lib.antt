@@ -5,5 +5,5 @@ pub mod Cuts
 pub mod Walks
 pub mod Found
 pub mod Scanning
-pub mod Kept
+pub mod Changes
 pub mod Examples

@@ -25,14 +25,15 @@ pub trait RecordTable {
     /// How many more items there is room for.
     ghost spare: { Self → ℕ };
 
-    /// The item of this key of this table, a tombstone too. One search.
+    /// The item of this key of this table, a tombstone too, or none where there is no item of the key. One search.
     fn get(&self, table: u64, key: &Key) -> Option<&Held>
         ensures { option_copied result ≡ found table key.now (items self.now) };
 
-    /// Makes room for `n` items more than there are. After `NoMemory` the table is as it was.
+    /// Makes room for `n` items more than there are, and leaves no less room than there was. After `NoMemory` the items are
+    /// as they were.
     fn reserve(&mut self, n: usize) -> Result<(), NoMemory>
         ensures room { OnOk result (n ≤ spare self.new) }
-        ensures kept { spare self.old ≤ spare self.new }
+        ensures no_less { spare self.old ≤ spare self.new }
         ensures same { items self.new ≡ items self.old };
 
     /// Puts the item where its key is absent or has an older version, and answers whether it did; else it is dropped.
@@ -51,8 +52,8 @@ pub trait RecordTable {
 
     /// Appends duplicates of the live items of the range from the token on, in scan order, up to and with the first one
     /// at which their entries have `limit` bytes, and answers the token behind them: `{1024, 0}` exactly where no live
-    /// item of the range is left. After `NoMemory` `into` is as it was. One search, and a step for each item from
-    /// the token's bucket to the next live item of the range.
+    /// item of the range is left. The table has fewer than 2^32 items. After `NoMemory` `into` is as it was. One search,
+    /// and a step for each item from the token's bucket to the next live item of the range.
     fn scan(
         &self,
         range: &Range,
@@ -66,8 +67,8 @@ pub trait RecordTable {
         ensures next { IfOk result (λ next. next ≡ next_token from.now limit (live_in range.now (items self.now))) }
         ensures err { OnErr result (into.new.items ≡ into.old.items) };
 
-    /// Removes the items of the range, and keeps the room. A step for each item of the table: a range of hashes is
-    /// spread over all buckets.
+    /// Removes the items of the range, and leaves no less room than there was. A step for each item of the table: a range
+    /// of hashes is spread over all buckets.
     fn drop_range(&mut self, range: &Range)
         ensures dropped { items self.new ≡ without range.now (items self.old) }
         ensures room { spare self.old ≤ spare self.new };

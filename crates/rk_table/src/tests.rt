@@ -44,7 +44,7 @@ fn keeps_the_newest_version(rt: HostRuntime) -> Result<(), Fail> {
 }
 
 // Puts the first version of a key of table 1.
-#[tactic(auto, using(crate::proofs::Kept::length_after))]
+#[tactic(auto, using(crate::proofs::Changes::length_after))]
 fn put(table: &mut SortedTable, alloc: Global, key: &[u8], lives: bool) -> Result<(), Fail>
     ensures { length (items_of table.new) ≤ length (items_of table.old) + 1 }
 {

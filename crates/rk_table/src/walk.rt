@@ -51,7 +51,7 @@ pub(crate) fn batch_end(slots: &[Slot], range: &Range, limit: u32) -> usize
 // Appends duplicates of the live items of the range; after `NoMemory` of some first ones.
 fn push_live(slots: &[Slot], range: &Range, into: &mut Vec<Held>) -> Result<(), NoMemory>
     ensures ok { OnOk result (into.new.items ≡ into.old.items ++ live_in range.now slots.now) }
-    ensures kept { take (vec_len into.old) into.new.items ≡ into.old.items }
+    ensures before { take (vec_len into.old) into.new.items ≡ into.old.items }
 {
     for slot in slots {
         if slot.is_live_in(range) {
@@ -70,11 +70,11 @@ pub(crate) fn append_live(
     ensures ok { OnOk result (into.new.items ≡ into.old.items ++ live_in range.now slots.now) }
     ensures err { OnErr result (into.new.items ≡ into.old.items) }
 {
-    let kept = into.len();
+    let before = into.len();
     match push_live(slots, range, into) {
         Ok(()) => Ok(()),
         Err(error) => {
-            into.truncate(kept);
+            into.truncate(before);
             Err(error)
         }
     }

@@ -196,7 +196,7 @@ covered_parts row lower upper tablet (x ∷ xs) table hash h parts =
     (λ e s. rw e (or_grouped (has upper.range table hash) (has lower.range table hash) (is_covered xs table hash) ∙ ap (λ t. t || is_covered xs table hash) parts ∙ ap (λ (r : Row). has r.range table hash || is_covered xs table hash) (sym s)))
     (λ e s. rw e (or_turned (has upper.range table hash) (has x.range table hash) (is_covered (replaced tablet lower xs) table hash) ∙ ap (λ t. has x.range table hash || t) (covered_parts row lower upper tablet xs table hash s parts)))
 
--- a split keeps the union of the ranges
+-- a split leaves the union of the ranges as it was
 pub covered_split : (rows : List Row) (tablet at new : ℕ) (row : Row) (table hash : ℕ) → row_of rows tablet ≡ Some row → is_split row.range at ≡ true → is_covered (placed (upper_part row at new) (replaced tablet (lower_part row at) rows)) table hash ≡ is_covered rows table hash
 covered_split rows tablet at new row table hash h split =
     covered_placed (upper_part row at new) (replaced tablet (lower_part row at) rows) table hash

@@ -1,7 +1,7 @@
 ghost use Rattle.std.specs.Prelude.{◌≡◌};
 ghost use Rattle.rk_tablet_map.specs.declared.error.MapError.TheVariants.{NoMemory as no_memory};
 
-use std::alloc::{AllocError, AllocFailed};
+use rk_types::NoMemory;
 use thiserror::Error;
 
 /// Why a tablet map refuses.
@@ -24,26 +24,10 @@ pub enum MapError {
     Overlap,
 }
 
-impl From<AllocError> for MapError {
+impl From<NoMemory> for MapError {
     ghost from_gives = { λ _ e. e ≡ no_memory };
 
-    fn from(_error: AllocError) -> MapError {
-        MapError::NoMemory
-    }
-}
-
-impl<T: Drop> From<AllocFailed<T>> for MapError {
-    ghost from_gives = { λ _ e. e ≡ no_memory };
-
-    fn from(_error: AllocFailed<T>) -> MapError {
-        MapError::NoMemory
-    }
-}
-
-impl From<rk_types::NoMemory> for MapError {
-    ghost from_gives = { λ _ e. e ≡ no_memory };
-
-    fn from(_error: rk_types::NoMemory) -> MapError {
+    fn from(_error: NoMemory) -> MapError {
         MapError::NoMemory
     }
 }

@@ -6,11 +6,12 @@ ghost use Rattle.rk_tablet_map.specs.Rows.{IsTabletMap, row_of, row_with, tablet
 use crate::error::MapError;
 use crate::phase::Phase;
 use crate::row::Row;
-use rk_types::Range;
+use rk_types::{NoMemory, Range};
 use std::alloc::Global;
 use std::marker::Model;
 
-/// The rows of all tablets.
+/// The rows of all tablets, by rising number. No two of them have one number, and no hash of a table is in the ranges of
+/// two.
 #[derive(Debug, Drop)]
 pub struct TabletMap {
     rows: Vec<Row>,
@@ -29,7 +30,7 @@ impl Model for TabletMap {
 }
 
 impl TabletMap {
-    /// The map of no tablets.
+    /// The map of no tablets, which takes no memory.
     pub fn new(alloc: Global) -> TabletMap
         ensures { result ≡ [] }
     {
@@ -38,8 +39,8 @@ impl TabletMap {
         }
     }
 
-    /// Adds a row. `Taken` comes where its number is there, and else `Overlap` where its range meets one that is there.
-    /// After an error nothing has changed, and the row is dropped.
+    /// Adds a row, in its place by number. `Taken` comes where its number is there, else `Overlap` where its range meets
+    /// that of a row. After an error, `NoMemory` too, nothing has changed, and the row is dropped. A step for each row.
     pub fn add(&mut self, row: Row) -> Result<(), MapError>
         ensures lawful { OnOk result (add_fault self.old row ≡ None) }
         ensures ok { OnOk result (self.new ≡ placed row self.old) }
@@ -52,12 +53,13 @@ impl TabletMap {
         if meets_one(self.rows.as_slice(), &row.range) {
             return Err(MapError::Overlap);
         }
-        let place = place_of(self.rows.as_slice(), row.tablet);
-        self.rows.insert(place, row)?;
+        reserve_one(&mut self.rows)?;
+        put_in_place(&mut self.rows, row);
         Ok(())
     }
 
-    /// The tablet that has this hash of the table. The only error is `NoTablet`, where none has it.
+    /// The number of the tablet that has this hash of the table. The only error is `NoTablet`, where none has it. A step
+    /// for each row.
     pub fn locate(&self, table: u64, hash: u64) -> Result<u32, MapError>
         ensures found { IfOk result (λ tablet. tablet_of self.now table hash ≡ Some tablet) }
         ensures absent { OnErr result (tablet_of self.now table hash ≡ None) }
@@ -71,7 +73,7 @@ impl TabletMap {
 
     /// Splits a tablet at a hash: the hashes from it on become the tablet `new`, with the same term and phase. `NoTablet`
     /// comes where the tablet is unknown, else `Taken` where `new` is there, else `BadSplit` where the hash is not above
-    /// the first or is above the last. After an error nothing has changed.
+    /// the first or is above the last. After an error, `NoMemory` too, nothing has changed. A step for each row.
     pub fn split(&mut self, tablet: u32, at: u64, new: u32) -> Result<(), MapError>
         ensures lawful { OnOk result (split_fault self.old tablet at new ≡ None) }
         ensures ok { OnOk result (self.new ≡ split_rows self.old tablet at new) }
@@ -96,14 +98,13 @@ impl TabletMap {
             term: row.term,
             phase: row.phase.duplicate()?,
         };
-        self.rows.reserve(1)?;
+        reserve_one(&mut self.rows)?;
         self.rows[place].range.last = at - 1;
-        let above = place_of(self.rows.as_slice(), new);
-        let _ = self.rows.insert(above, upper);
+        put_in_place(&mut self.rows, upper);
         Ok(())
     }
 
-    /// The row of this tablet.
+    /// The row of this tablet, where there is one. A step for each row.
     pub fn row(&self, tablet: u32) -> Option<&Row>
         ensures { option_copied result ≡ row_of self.now tablet }
     {
@@ -119,7 +120,7 @@ impl TabletMap {
     }
 
     /// Gives the row of this tablet this term and phase, and changes nothing else. It answers whether there is such a
-    /// row; where there is none, nothing has changed.
+    /// row; where there is none, nothing has changed, and the phase is dropped.
     pub fn change(&mut self, tablet: u32, term: u64, phase: Phase) -> bool
         ensures answer { result ≡ is_some (row_of self.old tablet) }
         ensures after { self.new ≡ changed_rows self.old tablet term phase }
@@ -132,6 +133,24 @@ impl TabletMap {
         row.phase = phase;
         true
     }
+}
+
+// Makes room for one more row.
+fn reserve_one(rows: &mut Vec<Row>) -> Result<(), NoMemory>
+    ensures room { OnOk result (vec_len rows.new < vec_capacity rows.new) }
+    ensures same { rows.new.items ≡ rows.old.items }
+{
+    rows.reserve(1)?;
+    Ok(())
+}
+
+// Puts a row, for which there is room, in its place by number.
+fn put_in_place(rows: &mut Vec<Row>, row: Row)
+    requires { vec_len rows.old < vec_capacity rows.old }
+    ensures { rows.new.items ≡ placed row rows.old.items }
+{
+    let place = place_of(rows.as_slice(), row.tablet);
+    let _ = rows.insert(place, row);
 }
 
 // The place of the row of this tablet.

@@ -1,4 +1,4 @@
--- The moves of a handover: which role comes after which, at which term, and what is kept of what a move is handed.
+-- The moves of a handover: which role comes after which, at which term, and what else a move changes.
 use Rattle.std.specs.Prelude.{ℕ, Bool, true, false, nat_lt, ◌==◌, if◌then◌else◌, Option, Some, None}
 use Rattle.std.specs.Option.{option_map}
 use Rattle.rk_types.specs.declared.range.Range.{Range}
@@ -76,14 +76,14 @@ prepared handover term range from = begun handover term range (Wanting from)
 abbrev pub rebuilt : Handover → ℕ → Range → ℕ → Option Handover
 rebuilt handover term range from = begun handover term range (Rebuilding from None)
 
--- a close comes by a greater term, which is kept
+-- a close comes by a greater term, which is the handover's then
 abbrev pub closed : Handover → ℕ → Option Handover
 closed handover term =
     if nat_lt handover.term term
     then in_role (record handover { term = term }) (role_closed handover.role)
     else None
 
--- each other move comes at the kept term; a freeze is the first of them
+-- each other move comes at the handover's own term; a freeze is the first of them
 abbrev pub frozen : Handover → ℕ → Option Handover
 frozen handover term = if handover.term == term then in_role handover (role_frozen handover.role) else None
 

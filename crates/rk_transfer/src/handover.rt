@@ -4,8 +4,8 @@ ghost use Rattle.rk_transfer.specs.Handover.{begun, prepared, closed, frozen, gr
 use crate::role::Role;
 use rk_types::Range;
 
-/// What a master keeps of the handover of one tablet: its role, the term and the range that it was told, and the
-/// counter that gives the next version.
+/// A master's side of the handover of one tablet: its role, the term and the range that it was told last, and the
+/// counter that gives the next version. Places count the entries of the master's log from 0.
 ///
 /// Each move answers whether it applied. Where it did not, nothing has changed.
 #[derive(Clone, Copy, Debug, PartialEq, Eq)]
@@ -17,8 +17,9 @@ pub struct Handover {
 }
 
 impl Handover {
-    /// Asks the master to take the tablet over. It applies in any role, by a greater term, and the master waits for a
-    /// grant; `from` is where its own entries of the tablet start.
+    /// Asks the master to take the tablet over; `from` is the place at which its own entries of the tablet start. It
+    /// applies in any role, by a greater term than its own. The term and the range are those given then, and the role
+    /// is `Wanting`.
     pub fn prepare(&mut self, term: u64, range: Range, from: u64) -> bool
         ensures answer { result ≡ is_some (prepared self.old term range from) }
         ensures after { self.new ≡ unwrap_or (prepared self.old term range from) self.old }
@@ -26,7 +27,8 @@ impl Handover {
         self.begin(term, range, Role::Wanting { from })
     }
 
-    /// Asks the master to give the tablet away. It applies to one that serves, joins or rebuilds, by a greater term.
+    /// Asks the master to give the tablet away. It applies to `Serving`, `Joining` and `Rebuilding`, by a greater term
+    /// than its own. The term is the one given then, and the role is `Closing`.
     pub fn close(&mut self, term: u64) -> bool
         ensures answer { result ≡ is_some (closed self.old term) }
         ensures after { self.new ≡ unwrap_or (closed self.old term) self.old }
@@ -43,7 +45,8 @@ impl Handover {
         true
     }
 
-    /// Tells that nothing of the tablet waits to be committed. It applies to one that closes, at its term.
+    /// Tells that no entry of the tablet waits to be committed. It applies to `Closing`, at its own term. The role is
+    /// `Frozen` then.
     pub fn freeze(&mut self, term: u64) -> bool
         ensures answer { result ≡ is_some (frozen self.old term) }
         ensures after { self.new ≡ unwrap_or (frozen self.old term) self.old }
@@ -55,7 +58,8 @@ impl Handover {
         true
     }
 
-    /// Hands the tablet over, with the counter to go on from. It applies to one that waits, at its term.
+    /// Hands the tablet over, with the counter to go on from. It applies to `Wanting`, at its own term. The counter is
+    /// the one given then, and the role is `Receiving`.
     pub fn grant(&mut self, term: u64, counter: u64) -> bool
         ensures answer { result ≡ is_some (granted self.old term counter) }
         ensures after { self.new ≡ unwrap_or (granted self.old term counter) self.old }
@@ -68,8 +72,8 @@ impl Handover {
         true
     }
 
-    /// Tells that all has been fetched, and the place of the closing entry where it is in the log. It applies at its
-    /// term to one that receives, and with a place to one that joins and has none.
+    /// Tells that all has been fetched, and the place of the closing entry, where that is in the log. It applies at its
+    /// own term to `Receiving`, and with a place to `Joining` that has none. The role is `Joining` with that entry then.
     pub fn join(&mut self, term: u64, entry: Option<u64>) -> bool
         ensures answer { result ≡ is_some (joined self.old term entry) }
         ensures after { self.new ≡ unwrap_or (joined self.old term entry) self.old }
@@ -86,8 +90,9 @@ impl Handover {
         true
     }
 
-    /// Asks the master to rebuild the tablet. It applies in any role, by a greater term; `from` is where its own entries
-    /// of the tablet start.
+    /// Asks the master to rebuild the tablet; `from` is the place at which its own entries of the tablet start. It
+    /// applies in any role, by a greater term than its own. The term and the range are those given then, and the role
+    /// is `Rebuilding` with no closing entry.
     pub fn rebuild(&mut self, term: u64, range: Range, from: u64) -> bool
         ensures answer { result ≡ is_some (rebuilt self.old term range from) }
         ensures after { self.new ≡ unwrap_or (rebuilt self.old term range from) self.old }
@@ -95,8 +100,8 @@ impl Handover {
         self.begin(term, range, Role::Rebuilding { from, entry: None })
     }
 
-    /// Tells the place of the entry that closes a rebuild, and the counter to go on from. It applies to one that
-    /// rebuilds and has no such place, at its term.
+    /// Tells the place of the entry that closes a rebuild, and the counter to go on from. It applies to `Rebuilding`
+    /// that has no such place, at its own term. The place and the counter are those given then.
     pub fn carry(&mut self, term: u64, entry: u64, counter: u64) -> bool
         ensures answer { result ≡ is_some (carried self.old term entry counter) }
         ensures after { self.new ≡ unwrap_or (carried self.old term entry counter) self.old }
@@ -115,8 +120,8 @@ impl Handover {
         true
     }
 
-    /// Tells that the tablet is the master's own. It applies to one that joins or rebuilds, at its term, where its
-    /// closing entry stands below `committed`.
+    /// Tells that the tablet is the master's own; `committed` is how many entries of its log are committed. It applies
+    /// to `Joining` and `Rebuilding` whose closing entry is among those, at its own term. The role is `Serving` then.
     pub fn own(&mut self, term: u64, committed: u64) -> bool
         ensures answer { result ≡ is_some (owned self.old term committed) }
         ensures after { self.new ≡ unwrap_or (owned self.old term committed) self.old }
@@ -136,7 +141,8 @@ impl Handover {
         true
     }
 
-    /// Tells that nobody will ask for what it has any more. It applies to one that is frozen, at its term.
+    /// Tells that nobody will ask for what the master has of the tablet any more. It applies to `Frozen`, at its own
+    /// term. The role is `Absent` then.
     pub fn release(&mut self, term: u64) -> bool
         ensures answer { result ≡ is_some (released self.old term) }
         ensures after { self.new ≡ unwrap_or (released self.old term) self.old }

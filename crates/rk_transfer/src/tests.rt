@@ -68,8 +68,8 @@ fn apply(handover: &mut Handover, step: Move, term: u64) -> bool {
     }
 }
 
-// For each move the term at which it comes, the range and the counter that are kept after it, and the role after it for
-// each role before it, a dot where the move does not apply. The kept term is 5.
+// For each move the term at which it comes, the range and the counter after it, and the role after it for each role
+// before it, a dot where the move does not apply. The term before it is 5.
 #[test]
 fn moves_by_the_table(rt: HostRuntime) {
     let roles = b"ascfwrjJbB";

@@ -8,5 +8,5 @@ pub returns : goal.returns
 returns c =
     let facts = c.binary_search_by_key.ensures in
     let by_client = facts.position (λ entry. entry.0) (answers_always _ _ _ (λ f a r g called. search rules)) in
-    let found = found_place c.args.client c.args.kept.now _ c.requires facts.bound by_client in
+    let found = found_place c.args.client c.args.completions.now _ c.requires facts.bound by_client in
     record { found = found.0; absent = found.1 }

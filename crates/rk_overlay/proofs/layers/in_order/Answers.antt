@@ -11,8 +11,8 @@ use Rattle.rk_overlay.proofs.layers.in_order.Goals as goal
 
 -- the closure compares as the order of items does
 pub returns : goal.returns
-returns c = λ items keeps.
-    sorted_are c.args.newest.now items c.values.ensures.ordered keeps c.sort_by.new.self.items
+returns c = λ items is_tree.
+    sorted_are c.args.newest.now items c.values.ensures.ordered is_tree c.sort_by.new.self.items
     (subst (λ (xs : List (Bor Held)). IsPermutation xs c.sort_by.new.self.items) c.in_ok-lent.ensures.values c.in_ok-sort_by.ensures.permutation)
     (c.in_ok-sort_by.ensures.sorted (λ x y. is_lt (item_cmp x.now y.now)) (ranks_by item_total (λ (x : Bor Held). x.now))
     (answers_always _ (λ a r. is_lt r ≡ is_lt (item_cmp a.0.now.now a.1.0.now.now)) _ (λ f a r f' k. search rules)))

@@ -1,4 +1,4 @@
-use Rattle.rk_table.proofs.Kept.{found_dropped, found_outside, order_live, order_without}
+use Rattle.rk_table.proofs.Changes.{found_dropped, found_outside, order_live, order_without}
 use Rattle.rk_table.proofs.laws.dropped_ranges_are_gone.Goals as goal
 
 pub returns-clause-dropped : goal.returns-clause-dropped

@@ -1,10 +1,9 @@
-use Rattle.std.proofs.Common.{◌≡◌, ℕ, List, true, false, cond, is_ok, is_some, nat_le, Some, None, sym, ap, ◌∙◌, subst, get_or, slice_set, arith}
-use Rattle.std.specs.List.{position_or_len, insert}
+use Rattle.std.proofs.Common.{◌≡◌, true, false, cond, is_some, Some, None, sym, ap, ◌∙◌, subst, get_or, slice_set}
 use Rattle.rk_tablet_map.specs.declared.phase.Phase.{Phase}
 use Rattle.rk_tablet_map.specs.declared.row.Row.{Row}
 use Rattle.rk_tablet_map.specs.declared.error.MapError.TheVariants.{BadSplit}
 use Rattle.rk_tablet_map.specs.Rows.{IsTabletMap, row_of, placed, replaced, is_split, lower_part, upper_part}
-use Rattle.rk_tablet_map.proofs.Places.{row_at, no_row, replaced_at, placed_at}
+use Rattle.rk_tablet_map.proofs.Places.{row_at, no_row, replaced_at}
 use Rattle.rk_tablet_map.proofs.Lawful.{lawful_split, covered_split, no_split, splits, fault_unknown, fault_taken, fault_of_range}
 use Rattle.rk_tablet_map.proofs.tablet_map.TabletMap.split.Goals as goal
 
@@ -13,43 +12,37 @@ row_read : (c : goal.Joined-then-at-range) → row_of c.self.inside.rows.items c
 row_read c = row_at c.self.inside.rows.items c.args.tablet c.in-Some.place c.index-row.result.now (rw c.as_slice.ensures.value at c.in-Some.ensures) ∙ ap Some (sym c.index-row.ensures)
 
 -- the same, as known at the end
-row_is : (c : goal.Joined-insert) → row_of c.self.inside.rows.items c.args.tablet ≡ Some c.index-row.result.now
+row_is : (c : goal.After-put_in_place) → row_of c.self.inside.rows.items c.args.tablet ≡ Some c.index-row.result.now
 row_is c = row_at c.self.inside.rows.items c.args.tablet c.in-Some.place c.index-row.result.now (rw c.as_slice.ensures.value at c.in-Some.ensures) ∙ ap Some (sym c.index-row.ensures)
 
 -- the row that is written is the row that was read
-same_row : (c : goal.Joined-insert) → c.index_mut.result.now ≡ c.index-row.result.now
+same_row : (c : goal.After-put_in_place) → c.index_mut.result.now ≡ c.index-row.result.now
 same_row c =
     let read = row_is c in
-    let here : c.index_mut.result.now ≡ get_or c.self.inside.rows.items c.in-Some.place c.index_mut.result.now = rw c.reserve.ensures.items at c.index_mut.ensures.value in
+    let here : c.index_mut.result.now ≡ get_or c.self.inside.rows.items c.in-Some.place c.index_mut.result.now = rw c.reserve_one.ensures.same at c.index_mut.ensures.value in
     let written = row_at c.self.inside.rows.items c.args.tablet c.in-Some.place c.index_mut.result.now (rw c.as_slice.ensures.value at c.in-Some.ensures) ∙ ap Some (sym here) in
     cc (read, written)
 
 -- the lower part stands in its place
-lowered : (c : goal.Joined-insert) → slice_set c.reserve.new.self.items c.in-Some.place (lower_part c.index_mut.result.now c.args.at) ≡ replaced c.args.tablet (lower_part c.index-row.result.now c.args.at) c.self.inside.rows.items
+lowered : (c : goal.After-put_in_place) → slice_set c.reserve_one.new.rows.items c.in-Some.place (lower_part c.index_mut.result.now c.args.at) ≡ replaced c.args.tablet (lower_part c.index-row.result.now c.args.at) c.self.inside.rows.items
 lowered c =
-    rw (c.reserve.ensures.items, same_row c)
+    rw (c.reserve_one.ensures.same, same_row c)
     (sym (replaced_at c.args.tablet (lower_part c.index-row.result.now c.args.at) c.self.inside.rows.items c.in-Some.place (rw c.as_slice.ensures.value at c.in-Some.ensures)))
 
--- the upper part was inserted in its place, since there is room
-inserted : (c : goal.Joined-insert) → c.insert.new.self.items ≡ placed (upper_part c.index-row.result.now c.args.at c.args.new) (replaced c.args.tablet (lower_part c.index-row.result.now c.args.at) c.self.inside.rows.items)
+-- the upper part was put in its place
+inserted : (c : goal.After-put_in_place) → c.put_in_place.new.rows.items ≡ placed (upper_part c.index-row.result.now c.args.at c.args.new) (replaced c.args.tablet (lower_part c.index-row.result.now c.args.at) c.self.inside.rows.items)
 inserted c =
-    let stored : is_ok c.insert.result ≡ true = c.insert.ensures.succeeds (omega (arith, c.in_ok-reserve.ensures.ok)) in
-    let rows : List Row = slice_set c.reserve.new.self.items c.in-Some.place (lower_part c.index_mut.result.now c.args.at) in
     let upper : Row = record (upper_part c.index-row.result.now c.args.at c.args.new) { phase = c.in_ok-duplicate.field-0 } in
-    let place : c.place_of-above.result ≡ position_or_len (λ row. nat_le c.args.new row.tablet) rows = c.place_of-above.ensures.place ∙ ap (position_or_len (λ (row : Row). nat_le c.args.new row.tablet)) c.as_slice-3.ensures.value in
-    let there : c.insert.new.self.items ≡ insert rows c.place_of-above.result upper = rw stored at c.insert.ensures.items in
-    there
-    ∙ ap (λ (k : ℕ). insert rows k upper) place
-    ∙ sym (placed_at upper rows)
+    c.put_in_place.ensures
     ∙ ap (placed upper) (lowered c)
     ∙ ap (λ (phase : Phase). placed (record (upper_part c.index-row.result.now c.args.at c.args.new) { phase = phase }) (replaced c.args.tablet (lower_part c.index-row.result.now c.args.at) c.self.inside.rows.items)) c.in_ok-duplicate.ensures
 
 -- the hash splits the range
-is_inside : (c : goal.Joined-insert) → is_split c.index-row.result.now.range c.args.at ≡ true
+is_inside : (c : goal.After-put_in_place) → is_split c.index-row.result.now.range c.args.at ≡ true
 is_inside c = splits c.index-row.result.now.range c.args.at c.if-at-range.false c.if-range-at.false
 
 -- the new number is free
-is_free : (c : goal.Joined-insert) → is_some (row_of c.self.inside.rows.items c.args.new) ≡ false
+is_free : (c : goal.After-put_in_place) → is_some (row_of c.self.inside.rows.items c.args.new) ≡ false
 is_free c = rw c.as_slice-2.ensures.value at (sym c.if-has_number.ensures)
 
 pub returns-in_default-clause-refused : goal.returns-in_default-clause-refused

@@ -79,8 +79,8 @@ pub found_newer : (item : Held) (items : List Held) → IsInScanOrder items → 
 found_newer item items order newer =
     ap (found item.table item.key) (cond-true (is_newer item (found item.table item.key items)) (with_item item items) items newer) ∙ found_with_item item items
 
-pub kept_older : (item : Held) (items : List Held) → is_newer item (found item.table item.key items) ≡ false → with_newer item items ≡ items
-kept_older item items older = cond-false (is_newer item (found item.table item.key items)) (with_item item items) items older
+pub same_older : (item : Held) (items : List Held) → is_newer item (found item.table item.key items) ≡ false → with_newer item items ≡ items
+same_older item items older = cond-false (is_newer item (found item.table item.key items)) (with_item item items) items older
 
 pub found_after : (item : Held) (items : List Held) (table : ℕ) (key : List ℕ) → IsInScanOrder items → is_at table key item ≡ false
     → found table key (with_newer item items) ≡ found table key items
@@ -140,7 +140,7 @@ order_without range items order = IsStrictlySortedBy-filter item_cmp (λ x. not 
 pub order_live : (range : Range) (items : List Held) → IsInScanOrder items → IsInScanOrder (live_in range items)
 order_live range items order = IsStrictlySortedBy-filter item_cmp (is_live_in range) items order
 
--- two tests of which no item passes both keep no more items than there are
+-- two tests of which no item passes both pass no more items than there are
 length_of_two : (p q : Held → Bool) → ((item : Held) → p item ≡ true → q item ≡ false) → (items : List Held)
     → length (filter p items) + length (filter q items) ≤ length items
 length_of_two p q apart [] = omega arith

@@ -4,9 +4,9 @@ ghost use Rattle.rk_done.specs.Completions.{look_of};
 use rk_types::End;
 use std::cmp::Ordering;
 
-/// What is kept of a client: the seq of its last call that ended, and that end.
+/// The last completion of a client: the seq of its last call that ended, and that end.
 #[derive(Clone, Copy, Debug, PartialEq, Eq)]
-pub struct Kept {
+pub struct Completion {
     pub seq: u64,
     pub end: End,
 }
@@ -14,7 +14,7 @@ pub struct Kept {
 /// What is known of a client's call.
 #[derive(Clone, Copy, Debug, PartialEq, Eq)]
 pub enum Look {
-    /// Nothing is kept of the client, or a smaller seq: the call has not ended.
+    /// The client has no completion, or its last one has a smaller seq: the call has not ended.
     New,
     /// The call ended so.
     Same(End),
@@ -22,8 +22,8 @@ pub enum Look {
     Old(u64),
 }
 
-impl Kept {
-    /// What is known of the client's call with this seq.
+impl Completion {
+    /// What is known of the call with this seq, of the client whose last completion this is.
     pub fn look(&self, seq: u64) -> Look
         ensures { result ≡ look_of (Some self.now) seq }
     {
