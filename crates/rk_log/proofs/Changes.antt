@@ -14,28 +14,21 @@ use Rattle.rk_log.specs.declared.cursor.Cursor.{Cursor}
 use Rattle.rk_log.specs.declared.ends.EntryEnd.{EntryEnd}
 use Rattle.rk_log.specs.Cut.{last_of, has_room, in_last, with_bytes, cut}
 use Rattle.rk_log.specs.Log.{Log, bytes_of, segment_bytes, with_entry, with_side, with_told}
-use Rattle.rk_log.specs.Kept.{bytes_in, lengths_in, none_known, copied_of, bytes_among, with_length, known_from, known_by, log_of, AreKnown, IsKept}
+use Rattle.rk_log.specs.Parts.{bytes_in, lengths_in, none_known, copied_of, bytes_among, known_from, known_by, log_of, AreKnown, IsConsistent}
 use Rattle.rk_log.proofs.Cuts.{cut_filled, length-le-bytes, cut_push, room_some}
 use Rattle.rk_log.proofs.KnownLaws.{known_from_push}
 use Rattle.rk_log.proofs.Lookups.{copied_before, copied_past, known_told}
-use Rattle.rk_log.proofs.Grown.{zeros_at, among_none_is}
+use Rattle.rk_log.proofs.Grown.{zeros_at, Raised, among_none_is}
 use Rattle.rk_log.proofs.Views.{bytes_of_is}
 
 -- ---- bounds
 
 -- a log with room has numbers left for main segments
-pub main_few : (entries : List Entry) (places : List EntryEnd) (count : ℕ) (main sides : List Copied) (cursors : List Cursor) (log : Log) → IsKept entries places count main sides cursors
+pub main_few : (entries : List Entry) (places : List EntryEnd) (count : ℕ) (main sides : List Copied) (cursors : List Cursor) (log : Log) → IsConsistent entries places count main sides cursors
     → log_of entries main sides cursors ≡ log → segment_bytes log < 2 ^ 31 → length main + 1 < FIRST_SIDE_SEGMENT
-main_few entries places count main sides cursors log kept is room =
+main_few entries places count main sides cursors log consistent is room =
     let own : segment_bytes (log_of entries main sides cursors) < 2 ^ 31 = subst (λ (l : Log). segment_bytes l < 2 ^ 31) (sym is) room in
-    omega (arith, own, length-le-bytes (cut entries) (cut_filled [] entries (λ k h. absurd (omega arith))), ap length kept.cut_is, length-map main (λ (c : Copied). c.segment.bytes))
-
--- and for side segments
-pub sides_few : (entries : List Entry) (places : List EntryEnd) (count : ℕ) (main sides : List Copied) (cursors : List Cursor) (log : Log) (more : ℕ) → IsKept entries places count main sides cursors
-    → log_of entries main sides cursors ≡ log → 0 < more → segment_bytes log + more < 2 ^ 31 → FIRST_SIDE_SEGMENT + (length sides + 1) ≤ 2 ^ 32
-sides_few entries places count main sides cursors log more kept is some room =
-    let own : segment_bytes (log_of entries main sides cursors) + more < 2 ^ 31 = subst (λ (l : Log). segment_bytes l + more < 2 ^ 31) (sym is) room in
-    omega (arith, own, length-le-bytes (bytes_in sides) kept.sides_filled, length-map sides (λ (c : Copied). c.segment.bytes))
+    omega (arith, own, length-le-bytes (cut entries) (cut_filled [] entries (λ k h. absurd (omega arith))), ap length consistent.cut_is, length-map main (λ (c : Copied). c.segment.bytes))
 
 -- bytes begin one segment at most
 pub put_few : (main main' : List Copied) (room : Bool) → lengths_in main' ≡ cond room (lengths_in main) (lengths_in main ++ none_known ∷ []) → length main' ≤ length main + 1
@@ -85,19 +78,18 @@ side_shown entries main sides cursors side bytes log is same unknown =
 
 -- a length that a backup told
 pub told_shown : (entries : List Entry) (places : List EntryEnd) (count : ℕ) (main sides : List Copied) (cursors : List Cursor) (main' sides' : List Copied) (log : Log) (number backup size : ℕ) (cursor : Cursor)
-    → IsKept entries places count main sides cursors → log_of entries main sides cursors ≡ log → backup - 1 < length cursors
-    → lengths_in main' ≡ with_length FIRST_SEGMENT number (backup - 1) size (lengths_in main)
-    → bytes_in sides' ≡ bytes_in sides → lengths_in sides' ≡ with_length FIRST_SIDE_SEGMENT number (backup - 1) size (lengths_in sides)
+    → IsConsistent entries places count main sides cursors → log_of entries main sides cursors ≡ log → backup - 1 < length cursors
+    → Raised FIRST_SEGMENT number (backup - 1) size main main' → Raised FIRST_SIDE_SEGMENT number (backup - 1) size sides sides'
     → size ≤ length (bytes_among number main sides)
     → log_of entries main' sides' (set cursors (backup - 1) cursor) ≡ with_told log backup number size
-told_shown entries places count main sides cursors main' sides' log number backup size cursor kept is within told_main same_sides told_sides enough =
+told_shown entries places count main sides cursors main' sides' log number backup size cursor consistent is within raised raised_sides enough =
     (λ i. record {
       entries = entries;
-      sides = same_sides i;
+      sides = raised_sides.bytes i;
       known =
-          ((λ j. known_by (length-set cursors (backup - 1) cursor j) (told_main j) (told_sides j))
-          ∙ known_told (length cursors) (lengths_in main) (lengths_in sides) number (backup - 1) size within (omega (arith, counts, kept.few_main))
-          (wide (bytes_in main) (lengths_in main) kept.main_known) (wide (bytes_in sides) (lengths_in sides) kept.sides_known) nowhere) i;
+          ((λ j. known_by (length-set cursors (backup - 1) cursor j) (raised.lengths j) (raised_sides.lengths j))
+          ∙ known_told (length cursors) (lengths_in main) (lengths_in sides) number (backup - 1) size within (omega (arith, counts, consistent.few_main))
+          (wide (bytes_in main) (lengths_in main) consistent.main_known) (wide (bytes_in sides) (lengths_in sides) consistent.sides_known) nowhere) i;
     })
     ∙ ap (λ (l : Log). with_told l backup number size) is
   where
@@ -105,7 +97,7 @@ told_shown entries places count main sides cursors main' sides' log number backu
     counts = length-map main (λ (c : Copied). c.known)
 
     wide : (bytes lengths : List (List ℕ)) → AreKnown bytes lengths → (k : ℕ) → k < length lengths → backup - 1 < length (get_or lengths k [])
-    wide bytes lengths known k h = omega (arith, (known k h).each, kept.last_backup)
+    wide bytes lengths known k h = omega (arith, (known k h).each, consistent.last_backup)
 
     nowhere : (number < FIRST_SEGMENT) ⊎ (FIRST_SEGMENT + length (lengths_in main) ≤ number) → (number < FIRST_SIDE_SEGMENT) ⊎ (FIRST_SIDE_SEGMENT + length (lengths_in sides) ≤ number) → size ≡ 0
     nowhere a b = omega (arith, ap length (among_none_is number main sides (none FIRST_SEGMENT main a) (none FIRST_SIDE_SEGMENT sides b)))
@@ -118,10 +110,10 @@ told_shown entries places count main sides cursors main' sides' log number backu
             apart
 
 -- a backup tells no more than there is
-pub told_enough : (entries : List Entry) (places : List EntryEnd) (count : ℕ) (main sides : List Copied) (cursors : List Cursor) (log : Log) (number size : ℕ) → IsKept entries places count main sides cursors
+pub told_enough : (entries : List Entry) (places : List EntryEnd) (count : ℕ) (main sides : List Copied) (cursors : List Cursor) (log : Log) (number size : ℕ) → IsConsistent entries places count main sides cursors
     → log_of entries main sides cursors ≡ log → size ≤ length (bytes_of log number) → size ≤ length (bytes_among number main sides)
-told_enough entries places count main sides cursors log number size kept is le =
-    omega (arith, ap (λ (l : Log). length (bytes_of l number)) is, ap length (bytes_of_is entries places count main sides cursors number kept))
+told_enough entries places count main sides cursors log number size consistent is le =
+    omega (arith, ap (λ (l : Log). length (bytes_of l number)) is, ap length (bytes_of_is entries places count main sides cursors number consistent))
 
 -- ---- the count of bytes
 

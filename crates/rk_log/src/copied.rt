@@ -3,7 +3,7 @@ ghost use Rattle.std.specs.List.{list_all, prefix_len};
 ghost use Rattle.std.specs.Option.{option_copied};
 ghost use Rattle.std.specs.Bool.{OnTrue, OnFalse};
 ghost use Rattle.rk_log.specs.Cut.{has_room, in_last, with_bytes};
-ghost use Rattle.rk_log.specs.Kept.{none_known, bytes_in, lengths_in, is_whole_at, with_length, copied_of, bytes_among};
+ghost use Rattle.rk_log.specs.Parts.{none_known, bytes_in, lengths_in, is_whole_at, with_length, copied_of, bytes_among};
 
 use rk_entry::FIRST_SIDE_SEGMENT;
 use rk_segment::Segment;
@@ -16,7 +16,8 @@ pub(crate) const FIRST_SEGMENT: u32 = 1;
 /// The most backups that keep a log.
 pub const MOST_BACKUPS: usize = 4;
 
-/// A segment, and how many of its bytes each backup is known to hold.
+/// A segment, and how many of its bytes each backup is known to hold. Its place among the others tells its number: the
+/// one that it was made with is not read.
 #[derive(Debug, Drop)]
 pub(crate) struct Copied {
     pub(crate) segment: Segment,
@@ -53,12 +54,12 @@ impl Copied {
 }
 
 // A new segment with these bytes, of which nothing is known to be held.
-fn begun(alloc: Global, number: u32, bytes: &[u8]) -> Result<Copied, NoMemory>
+fn begun(alloc: Global, bytes: &[u8]) -> Result<Copied, NoMemory>
     requires { length bytes.now ≤ SEGMENT_BYTES }
     ensures bytes { IfOk result (λ copied. copied.segment.bytes ≡ bytes.now) }
     ensures known { IfOk result (λ copied. copied.known ≡ none_known) }
 {
-    let mut segment = Segment::new(alloc, number)?;
+    let mut segment = Segment::new(alloc, FIRST_SEGMENT)?;
     segment.append(bytes).unwrap();
     Ok(Copied::new(segment))
 }
@@ -81,8 +82,7 @@ fn put_in_last(main: &mut [Copied], bytes: &[u8]) -> bool
 /// Puts the bytes at the end of the last segment where they fit, and else into one more. After `NoMemory` nothing has
 /// changed. It takes memory only for a segment more.
 pub(crate) fn put_bytes(main: &mut Vec<Copied>, bytes: &[u8]) -> Result<(), NoMemory>
-    requires fits { length bytes.now ≤ SEGMENT_BYTES }
-    requires few { length main.old.items + 1 < FIRST_SIDE_SEGMENT }
+    requires { length bytes.now ≤ SEGMENT_BYTES }
     ensures bytes { OnOk result (bytes_in main.new.items ≡ with_bytes (bytes_in main.old.items) bytes.now) }
     ensures known { OnOk result (lengths_in main.new.items ≡ (if has_room (bytes_in main.old.items) bytes.now
         then lengths_in main.old.items else lengths_in main.old.items ++ none_known ∷ [])) }
@@ -91,7 +91,7 @@ pub(crate) fn put_bytes(main: &mut Vec<Copied>, bytes: &[u8]) -> Result<(), NoMe
     if put_in_last(main.as_mut_slice(), bytes) {
         return Ok(());
     }
-    let next = begun(*main.allocator(), main.len() as u32 + 1, bytes)?;
+    let next = begun(*main.allocator(), bytes)?;
     main.push(next)?;
     Ok(())
 }

@@ -1,5 +1,5 @@
 ghost use Rattle.std.specs.Prelude.{◌≡◌, ◌<◌};
-ghost use Rattle.rk_log.specs.Kept.{IsCursor, cursor_at};
+ghost use Rattle.rk_log.specs.Parts.{IsCursor, cursor_at};
 
 use crate::copied::{Copied, MOST_BACKUPS, lacking_from};
 

@@ -1,7 +1,7 @@
 ghost use Rattle.std.specs.Prelude.{◌≡◌, ◌+◌, ◌<◌, ◌≤◌, length, drop};
 ghost use Rattle.std.specs.List.{prefix_len};
 ghost use Rattle.rk_log.specs.Cut.{end_of};
-ghost use Rattle.rk_log.specs.Kept.{bytes_in, lengths_in, is_held_at, AreWithin};
+ghost use Rattle.rk_log.specs.Parts.{bytes_in, lengths_in, is_held_at, AreWithin};
 
 use crate::copied::{Copied, MOST_BACKUPS};
 use rk_entry::FIRST_SIDE_SEGMENT;

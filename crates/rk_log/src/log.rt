@@ -35,7 +35,7 @@ pub struct MasterLog {
 
 impl Model for MasterLog {
     ghost use Rattle.rk_log.specs.Log.{Log, log_code};
-    ghost use Rattle.rk_log.specs.Kept.{IsCounted, log_of};
+    ghost use Rattle.rk_log.specs.Parts.{IsCounted, log_of};
 
     ghost Value = { Log };
 
@@ -92,15 +92,17 @@ impl MasterLog {
     }
 
     /// Puts a side segment beside the log, and answers the number that it has from now on, whatever number it was made
-    /// with. After `NoMemory` nothing has changed. It takes a constant time on average.
+    /// with. After `NoMemory`, which also comes where no number is left for another one, nothing has changed. It takes a
+    /// constant time on average.
     pub fn add_side(&mut self, segment: Segment) -> Result<u32, NoMemory>
-        requires filled { 0 < length segment.bytes }
-        requires room { segment_bytes self.old + length segment.bytes < 2 ^ 31 }
+        requires { segment_bytes self.old < 2 ^ 63 }
         ensures number { IfOk result (λ number. number ≡ FIRST_SIDE_SEGMENT + length self.old.sides) }
         ensures ok { OnOk result (self.new ≡ with_side self.old segment.bytes) }
         ensures err { OnErr result (self.new ≡ self.old) }
     {
-        let number = FIRST_SIDE_SEGMENT + self.sides.len() as u32;
+        let number = FIRST_SIDE_SEGMENT
+            .checked_add(self.sides.len() as u32)
+            .ok_or(NoMemory)?;
         let count = segment.length() as u64;
         self.sides.push(Copied::new(segment))?;
         self.size += count;

@@ -1,6 +1,6 @@
 ghost use Rattle.std.specs.Prelude.{◌≡◌, ◌+◌, ◌<◌, ◌≤◌, ◌^◌, length, drop, slice_index, IfOk};
 ghost use Rattle.std.specs.List.{prefix_len};
-ghost use Rattle.rk_log.specs.Kept.{AreKnown, bytes_in, lengths_in, is_whole_at, lacking_at, piece_at};
+ghost use Rattle.rk_log.specs.Parts.{AreKnown, bytes_in, lengths_in, is_whole_at, lacking_at, piece_at};
 
 use crate::copied::{Copied, MOST_BACKUPS, lacking_from};
 use rk_types::NoMemory;

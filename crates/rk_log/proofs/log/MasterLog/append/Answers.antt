@@ -7,18 +7,14 @@ use Rattle.rk_log.specs.declared.copied.Copied.{Copied}
 use Rattle.rk_log.specs.declared.ends.EntryEnd.{EntryEnd}
 use Rattle.rk_log.specs.Cut.{end_of, has_room, with_bytes}
 use Rattle.rk_log.specs.Log.{segment_bytes}
-use Rattle.rk_log.specs.Kept.{bytes_in, lengths_in, none_known, log_of, IsKept}
-use Rattle.rk_log.proofs.Keeping.{kept_entry}
+use Rattle.rk_log.specs.Parts.{bytes_in, lengths_in, none_known, log_of, IsConsistent}
+use Rattle.rk_log.proofs.Consistency.{consistent_entry}
 use Rattle.rk_log.proofs.Changes.{size_entry, main_few, put_few, entry_shown}
 use Rattle.rk_log.proofs.log.MasterLog.append.Goals as goal
 
-pub put_bytes-requires-clause-few : goal.put_bytes-requires-clause-few
-put_bytes-requires-clause-few c =
-    main_few c.self.inside.entries.items c.self.inside.ends.items c.self.inside.committed c.self.inside.main.items c.self.inside.sides.items c.self.inside.cursors.items c.args.self.now c.self.invariant.kept c.self.view_is c.requires.room
-
 pub end_of-requires-clause-few : goal.end_of-requires-clause-few
 end_of-requires-clause-few c =
-    let few = main_few c.self.inside.entries.items c.self.inside.ends.items c.self.inside.committed c.self.inside.main.items c.self.inside.sides.items c.self.inside.cursors.items c.args.self.now c.self.invariant.kept c.self.view_is c.requires.room in
+    let few = main_few c.self.inside.entries.items c.self.inside.ends.items c.self.inside.committed c.self.inside.main.items c.self.inside.sides.items c.self.inside.cursors.items c.args.self.now c.self.invariant.consistent c.self.view_is c.requires.room in
     omega (arith, few, put_few c.self.inside.main.items c.put_bytes.new.main.items _ c.in_ok-put_bytes.ensures.known, ap length c.as_slice-2.ensures.value)
 
 -- the bytes that were put are those of the entry
@@ -38,12 +34,12 @@ ends_now c =
     c.push.ensures.items ∙ cond-true (is_ok c.push.result) _ _ stored
     ∙ (λ i. c.reserve-2.ensures.items i ++ (c.end_of.ensures ∙ ap (λ (m : List Copied). end_of (bytes_in m)) c.as_slice-2.ensures.value) i ∷ [])
 
-kept_now : (c : goal.After-self-1) → IsKept c.push-2.new.self.items c.push.new.self.items c.self.inside.committed c.put_bytes.new.main.items c.self.inside.sides.items c.self.inside.cursors.items
-kept_now c =
-    let few = main_few c.self.inside.entries.items c.self.inside.ends.items c.self.inside.committed c.self.inside.main.items c.self.inside.sides.items c.self.inside.cursors.items c.args.self.now c.self.invariant.kept c.self.view_is c.requires.room in
-    subst (λ (l : List Entry). IsKept l c.push.new.self.items c.self.inside.committed c.put_bytes.new.main.items c.self.inside.sides.items c.self.inside.cursors.items) (sym (entries_now c))
-    (subst (λ (l : List EntryEnd). IsKept (c.self.inside.entries.items ++ c.args.entry ∷ []) l c.self.inside.committed c.put_bytes.new.main.items c.self.inside.sides.items c.self.inside.cursors.items) (sym (ends_now c))
-    (kept_entry c.self.inside.entries.items c.self.inside.ends.items c.self.inside.committed c.self.inside.main.items c.self.inside.sides.items c.self.inside.cursors.items c.put_bytes.new.main.items c.args.entry c.self.invariant.kept
+consistent_now : (c : goal.After-self-1) → IsConsistent c.push-2.new.self.items c.push.new.self.items c.self.inside.committed c.put_bytes.new.main.items c.self.inside.sides.items c.self.inside.cursors.items
+consistent_now c =
+    let few = main_few c.self.inside.entries.items c.self.inside.ends.items c.self.inside.committed c.self.inside.main.items c.self.inside.sides.items c.self.inside.cursors.items c.args.self.now c.self.invariant.consistent c.self.view_is c.requires.room in
+    subst (λ (l : List Entry). IsConsistent l c.push.new.self.items c.self.inside.committed c.put_bytes.new.main.items c.self.inside.sides.items c.self.inside.cursors.items) (sym (entries_now c))
+    (subst (λ (l : List EntryEnd). IsConsistent (c.self.inside.entries.items ++ c.args.entry ∷ []) l c.self.inside.committed c.put_bytes.new.main.items c.self.inside.sides.items c.self.inside.cursors.items) (sym (ends_now c))
+    (consistent_entry c.self.inside.entries.items c.self.inside.ends.items c.self.inside.committed c.self.inside.main.items c.self.inside.sides.items c.self.inside.cursors.items c.put_bytes.new.main.items c.args.entry c.self.invariant.consistent
     (c.in_ok-put_bytes.ensures.bytes ∙ ap (with_bytes (bytes_in c.self.inside.main.items)) (spelling c))
     (subst
     (λ (l : List ℕ). lengths_in c.put_bytes.new.main.items ≡ cond (has_room (bytes_in c.self.inside.main.items) l) (lengths_in c.self.inside.main.items) (lengths_in c.self.inside.main.items ++ none_known ∷ []))
@@ -57,7 +53,7 @@ size_now c =
     size_entry c.self.inside.entries.items c.self.inside.main.items c.self.inside.sides.items c.self.inside.cursors.items c.put_bytes.new.main.items c.push-2.new.self.items c.args.entry c.self.inside.size c.len-count.result c.self.invariant.size_is count (entries_now c)
 
 pub invariant_of-self-2 : goal.invariant_of-self-2
-invariant_of-self-2 c = record { kept = kept_now c; size_is = size_now c }
+invariant_of-self-2 c = record { consistent = consistent_now c; size_is = size_now c }
 
 pub returns-clause-ok : goal.returns-clause-ok
 returns-clause-ok c =

@@ -1,8 +1,8 @@
--- What the parts of a log keep, through each change.
+-- The parts of a log stay consistent through each change.
 use Rattle.std.proofs.Common.{◌≡◌, ℕ, ◌+◌, ◌-◌, ◌<◌, ◌≤◌, ◌^◌, true, false, cond, leb, List, [], ◌∷◌, ◌++◌, length, get_or, set, take, drop, sym, ap, subst, ◌∙◌, ⊎_elim, arith, length-set, length-append, get_or-set_same, get_or-set_other}
 use Rattle.std.specs.List.{list_all, prefix_len}
-use Rattle.std.proofs.lemmas.Bool.{le-leb, leb-true, cases_lt, cases_eq}
-use Rattle.std.proofs.lemmas.List.{length-map, get_or-map, get_or_append_left, get_or_push, map_push}
+use Rattle.std.proofs.lemmas.Bool.{le-leb, leb-true, cases_eq}
+use Rattle.std.proofs.lemmas.List.{length-map, get_or-map, get_or_append_left, map_push}
 use Rattle.std.proofs.lemmas.List.Sums.{prefix_len-le-length, prefix_len_passes}
 use Rattle.rk_entry.specs.declared.entry.Entry.{Entry}
 use Rattle.rk_entry.specs.declared.lists.TheConstants.{FIRST_SIDE_SEGMENT}
@@ -12,24 +12,24 @@ use Rattle.rk_log.specs.declared.copied.TheConstants.{FIRST_SEGMENT}
 use Rattle.rk_log.specs.declared.cursor.Cursor.{Cursor}
 use Rattle.rk_log.specs.declared.ends.EntryEnd.{EntryEnd}
 use Rattle.rk_log.specs.Cut.{last_of, has_room, with_bytes, cut, end_of}
-use Rattle.rk_log.specs.Kept.{bytes_in, lengths_in, none_known, bytes_among, with_length, is_whole_at, is_held_at, AreWithin, AreKnown, IsCursor, cursor_at, IsKept}
+use Rattle.rk_log.specs.Parts.{bytes_in, lengths_in, none_known, bytes_among, is_whole_at, is_held_at, AreWithin, AreKnown, IsCursor, cursor_at, IsConsistent}
 use Rattle.rk_log.proofs.Prefixes.{pass_then, prefix_len_same, prefix_len_push_no, list_all_greater, list_all_small}
 use Rattle.rk_log.proofs.Cuts.{spelled_some, cut_push, ends_push, ends_within, room_some}
-use Rattle.rk_log.proofs.Grown.{Grew, grew, known_push, Rose, rose, known_told_lists, among_main_is, among_sides_is}
+use Rattle.rk_log.proofs.Grown.{Grew, grew, known_push, Rose, Raised, rose_in, known_told_lists, among_main_is, among_sides_is}
 
 -- ---- what the parts tell
 
 -- each entry ends in one of the main segments
-pub places_within : (entries : List Entry) (places : List EntryEnd) (count : ℕ) (main sides : List Copied) (cursors : List Cursor) → IsKept entries places count main sides cursors → AreWithin (length main) places
-places_within entries places count main sides cursors kept =
-    subst (AreWithin (length main)) (sym kept.places_are) (λ k d h.
+pub places_within : (entries : List Entry) (places : List EntryEnd) (count : ℕ) (main sides : List Copied) (cursors : List Cursor) → IsConsistent entries places count main sides cursors → AreWithin (length main) places
+places_within entries places count main sides cursors consistent =
+    subst (AreWithin (length main)) (sym consistent.places_are) (λ k d h.
     let e = ends_within [] entries k d h in
-    (e.0, omega (arith, e.1, ap length kept.cut_is, length-map main (λ (c : Copied). c.segment.bytes))))
+    (e.0, omega (arith, e.1, ap length consistent.cut_is, length-map main (λ (c : Copied). c.segment.bytes))))
 
 -- no more are committed than there are
-pub count_within : (entries : List Entry) (places : List EntryEnd) (count : ℕ) (main sides : List Copied) (cursors : List Cursor) → IsKept entries places count main sides cursors → count ≤ length places
-count_within entries places count main sides cursors kept =
-    omega (arith, kept.count_is, prefix_len-le-length (is_held_at (length cursors) (lengths_in main)) places)
+pub count_within : (entries : List Entry) (places : List EntryEnd) (count : ℕ) (main sides : List Copied) (cursors : List Cursor) → IsConsistent entries places count main sides cursors → count ≤ length places
+count_within entries places count main sides cursors consistent =
+    omega (arith, consistent.count_is, prefix_len-le-length (is_held_at (length cursors) (lengths_in main)) places)
 
 -- a segment is whole by its bytes and its known length
 whole_by : (segments : List Copied) (k : ℕ) (d : Copied) (backup : ℕ) → k < length segments
@@ -58,64 +58,62 @@ cursor_grew main main' sides backup cursor grown old =
       sides_within = old.sides_within;
     }
 
-pub kept_entry : (entries : List Entry) (places : List EntryEnd) (count : ℕ) (main sides : List Copied) (cursors : List Cursor) (main' : List Copied) (entry : Entry)
-    → IsKept entries places count main sides cursors → bytes_in main' ≡ with_bytes (bytes_in main) (spelled entry)
+pub consistent_entry : (entries : List Entry) (places : List EntryEnd) (count : ℕ) (main sides : List Copied) (cursors : List Cursor) (main' : List Copied) (entry : Entry)
+    → IsConsistent entries places count main sides cursors → bytes_in main' ≡ with_bytes (bytes_in main) (spelled entry)
     → lengths_in main' ≡ cond (has_room (bytes_in main) (spelled entry)) (lengths_in main) (lengths_in main ++ none_known ∷ []) → length main + 1 < FIRST_SIDE_SEGMENT
-    → IsKept (entries ++ entry ∷ []) (places ++ end_of (bytes_in main') ∷ []) count main' sides cursors
-kept_entry entries places count main sides cursors main' entry kept put put_lengths few =
+    → IsConsistent (entries ++ entry ∷ []) (places ++ end_of (bytes_in main') ∷ []) count main' sides cursors
+consistent_entry entries places count main sides cursors main' entry consistent put put_lengths few =
     let counts : length (bytes_in main) ≡ length (lengths_in main) = length-map main (λ (c : Copied). c.segment.bytes) ∙ sym (length-map main (λ (c : Copied). c.known)) in
-    let grown = grew (bytes_in main) (lengths_in main) (spelled entry) (bytes_in main') (lengths_in main') counts kept.main_known (spelled_some entry) put put_lengths (room_some (bytes_in main) (spelled entry)) in
-    let segments : bytes_in main' ≡ with_bytes (cut entries) (spelled entry) = put ∙ ap (λ (s : List (List ℕ)). with_bytes s (spelled entry)) kept.cut_is in
+    let grown = grew (bytes_in main) (lengths_in main) (spelled entry) (bytes_in main') (lengths_in main') counts consistent.main_known (spelled_some entry) put put_lengths (room_some (bytes_in main) (spelled entry)) in
+    let segments : bytes_in main' ≡ with_bytes (cut entries) (spelled entry) = put ∙ ap (λ (s : List (List ℕ)). with_bytes s (spelled entry)) consistent.cut_is in
     record {
       cut_is = segments ∙ sym (cut_push [] entries entry);
-      places_are = (λ i. kept.places_are i ++ end_of (segments i) ∷ []) ∙ sym (ends_push [] entries entry);
-      count_is = kept.count_is ∙ stays grown ∙ sym (prefix_len_push_no (is_held_at (length cursors) (lengths_in main')) places (end_of (bytes_in main')) (unheld grown));
-      first_backup = kept.first_backup;
-      last_backup = kept.last_backup;
+      places_are = (λ i. consistent.places_are i ++ end_of (segments i) ∷ []) ∙ sym (ends_push [] entries entry);
+      count_is = consistent.count_is ∙ stays grown ∙ sym (prefix_len_push_no (is_held_at (length cursors) (lengths_in main')) places (end_of (bytes_in main')) (unheld grown));
+      first_backup = consistent.first_backup;
+      last_backup = consistent.last_backup;
       few_main = omega (arith, grown.at_most, length-map main' (λ (c : Copied). c.known), length-map main (λ (c : Copied). c.known));
-      few_sides = kept.few_sides;
+      few_sides = consistent.few_sides;
       main_known = grown.known;
-      sides_known = kept.sides_known;
-      sides_filled = kept.sides_filled;
-      cursors_are = λ backup d h. cursor_grew main main' sides backup (get_or cursors backup d) grown (kept.cursors_are backup d h);
+      sides_known = consistent.sides_known;
+      cursors_are = λ backup d h. cursor_grew main main' sides backup (get_or cursors backup d) grown (consistent.cursors_are backup d h);
     }
   where
     stays : Grew (bytes_in main) (lengths_in main) (bytes_in main') (lengths_in main') → prefix_len (is_held_at (length cursors) (lengths_in main)) places ≡ prefix_len (is_held_at (length cursors) (lengths_in main')) places
     stays grown =
         prefix_len_same (is_held_at (length cursors) (lengths_in main)) (is_held_at (length cursors) (lengths_in main')) places (λ k d h.
-        let at = places_within entries places count main sides cursors kept k d h in
+        let at = places_within entries places count main sides cursors consistent k d h in
         ap (λ (l : List ℕ). list_all (leb (get_or places k d).offset) (take (length cursors) l))
         (sym (grown.lengths_stay ((get_or places k d).segment - 1) (omega (arith, at.0, at.1, length-map main (λ (c : Copied). c.known))))))
 
     unheld : Grew (bytes_in main) (lengths_in main) (bytes_in main') (lengths_in main') → is_held_at (length cursors) (lengths_in main') (end_of (bytes_in main')) ≡ false
     unheld grown =
-        list_all_small (length (last_of (bytes_in main'))) (length cursors) (get_or (lengths_in main') (length (bytes_in main') - 1) []) kept.first_backup
+        list_all_small (length (last_of (bytes_in main'))) (length cursors) (get_or (lengths_in main') (length (bytes_in main') - 1) []) consistent.first_backup
         (omega (arith, (grown.known (length (bytes_in main') - 1) (omega (arith, grown.same_count, grown.some))).each)) grown.unheld
 
 -- ---- one more side segment
 
-pub kept_side : (entries : List Entry) (places : List EntryEnd) (count : ℕ) (main sides : List Copied) (cursors : List Cursor) (side : Copied)
-    → IsKept entries places count main sides cursors → side.known ≡ none_known → 0 < length side.segment.bytes → FIRST_SIDE_SEGMENT + (length sides + 1) ≤ 2 ^ 32
-    → IsKept entries places count main (sides ++ side ∷ []) cursors
-kept_side entries places count main sides cursors side kept unknown filled few =
+pub consistent_side : (entries : List Entry) (places : List EntryEnd) (count : ℕ) (main sides : List Copied) (cursors : List Cursor) (side : Copied)
+    → IsConsistent entries places count main sides cursors → side.known ≡ none_known → FIRST_SIDE_SEGMENT + (length sides + 1) ≤ 2 ^ 32
+    → IsConsistent entries places count main (sides ++ side ∷ []) cursors
+consistent_side entries places count main sides cursors side consistent unknown few =
     let counts : length (bytes_in sides) ≡ length (lengths_in sides) = length-map sides (λ (c : Copied). c.segment.bytes) ∙ sym (length-map sides (λ (c : Copied). c.known)) in
     let all_bytes : bytes_in (sides ++ side ∷ []) ≡ bytes_in sides ++ side.segment.bytes ∷ [] = map_push (λ (c : Copied). c.segment.bytes) sides side in
     let all_lengths : lengths_in (sides ++ side ∷ []) ≡ lengths_in sides ++ none_known ∷ [] = map_push (λ (c : Copied). c.known) sides side ∙ ap (λ (l : List ℕ). lengths_in sides ++ l ∷ []) unknown in
     record {
-      cut_is = kept.cut_is;
-      places_are = kept.places_are;
-      count_is = kept.count_is;
-      first_backup = kept.first_backup;
-      last_backup = kept.last_backup;
-      few_main = kept.few_main;
+      cut_is = consistent.cut_is;
+      places_are = consistent.places_are;
+      count_is = consistent.count_is;
+      first_backup = consistent.first_backup;
+      last_backup = consistent.last_backup;
+      few_main = consistent.few_main;
       few_sides = omega (arith, length-append sides (side ∷ []));
-      main_known = kept.main_known;
+      main_known = consistent.main_known;
       sides_known =
           subst (λ (b : List (List ℕ)). AreKnown b (lengths_in (sides ++ side ∷ []))) (sym all_bytes)
-          (subst (AreKnown (bytes_in sides ++ side.segment.bytes ∷ [])) (sym all_lengths) (known_push (bytes_in sides) (lengths_in sides) side.segment.bytes counts kept.sides_known));
-      sides_filled = subst (λ (b : List (List ℕ)). (k : ℕ) → k < length b → 0 < length (get_or b k [])) (sym all_bytes) filled_more;
+          (subst (AreKnown (bytes_in sides ++ side.segment.bytes ∷ [])) (sym all_lengths) (known_push (bytes_in sides) (lengths_in sides) side.segment.bytes counts consistent.sides_known));
       cursors_are = λ backup d h.
-          let old = kept.cursors_are backup d h in
+          let old = consistent.cursors_are backup d h in
           record {
             main_whole = old.main_whole;
             main_last = old.main_last;
@@ -124,14 +122,6 @@ kept_side entries places count main sides cursors side kept unknown filled few =
             sides_within = omega (arith, old.sides_within, length-append sides (side ∷ []));
           };
     }
-  where
-    filled_more : (k : ℕ) → k < length (bytes_in sides ++ side.segment.bytes ∷ []) → 0 < length (get_or (bytes_in sides ++ side.segment.bytes ∷ []) k [])
-    filled_more k h =
-        ⊎_elim
-        (λ (before : k < length (bytes_in sides)). omega (arith, ap length (get_or_append_left (bytes_in sides) (side.segment.bytes ∷ []) [] k before), kept.sides_filled k before))
-        (λ (last : length (bytes_in sides) ≤ k).
-        omega (arith, ap length (get_or_push (bytes_in sides) side.segment.bytes [] k (omega (arith, length-append (bytes_in sides) (side.segment.bytes ∷ []))))))
-        (cases_lt k (length (bytes_in sides)))
 
 -- ---- what a backup told
 
@@ -155,55 +145,54 @@ whole_rose segments segments' backup k d same rose h whole =
     whole_by segments' k d backup (omega arith)
     ∙ le-leb _ _ (omega (arith, ap (λ (b : List (List ℕ)). length (get_or b k [])) same, rose.more k backup))
 
-pub cursor_rose : (main main' sides sides' : List Copied) (backup : ℕ) (cursor : Cursor) → bytes_in main' ≡ bytes_in main → Rose (lengths_in main) (lengths_in main') → bytes_in sides' ≡ bytes_in sides → Rose (lengths_in sides) (lengths_in sides')
-    → IsCursor backup main sides cursor → IsCursor backup main' sides' cursor
-cursor_rose main main' sides sides' backup cursor same rose same_sides rose_sides old =
-    let counts : length (bytes_in main') ≡ length (bytes_in main) = ap length same in
-    let counts_sides : length (bytes_in sides') ≡ length (bytes_in sides) = ap length same_sides in
+pub cursor_raised : (main main' sides sides' : List Copied) (number teller size backup : ℕ) (cursor : Cursor)
+    → Raised FIRST_SEGMENT number teller size main main' → Raised FIRST_SIDE_SEGMENT number teller size sides sides' → IsCursor backup main sides cursor → IsCursor backup main' sides' cursor
+cursor_raised main main' sides sides' number teller size backup cursor raised raised_sides old =
+    let rose_main = rose_in FIRST_SEGMENT number teller size main main' raised in
+    let rose_sides = rose_in FIRST_SIDE_SEGMENT number teller size sides sides' raised_sides in
+    let counts : length (bytes_in main') ≡ length (bytes_in main) = ap length raised.bytes in
+    let counts_sides : length (bytes_in sides') ≡ length (bytes_in sides) = ap length raised_sides.bytes in
     record {
-      main_whole = λ k d h. whole_rose main main' backup k d same rose (omega (arith, old.main_last)) (old.main_whole k d h);
+      main_whole = λ k d h. whole_rose main main' backup k d raised.bytes rose_main (omega (arith, old.main_last)) (old.main_whole k d h);
       main_last = omega (arith, old.main_last, length-map main' (λ (c : Copied). c.segment.bytes), length-map main (λ (c : Copied). c.segment.bytes));
-      sides_whole = λ k d h. whole_rose sides sides' backup k d same_sides rose_sides (omega (arith, old.sides_within)) (old.sides_whole k d h);
+      sides_whole = λ k d h. whole_rose sides sides' backup k d raised_sides.bytes rose_sides (omega (arith, old.sides_within)) (old.sides_whole k d h);
       sides_within = omega (arith, old.sides_within, length-map sides' (λ (c : Copied). c.segment.bytes), length-map sides (λ (c : Copied). c.segment.bytes));
     }
 
-pub kept_told : (entries : List Entry) (places : List EntryEnd) (count : ℕ) (main sides : List Copied) (cursors : List Cursor) (main' sides' : List Copied) (number backup size : ℕ) (cursor : Cursor)
-    → IsKept entries places count main sides cursors → backup < length cursors
-    → bytes_in main' ≡ bytes_in main → lengths_in main' ≡ with_length FIRST_SEGMENT number backup size (lengths_in main)
-    → bytes_in sides' ≡ bytes_in sides → lengths_in sides' ≡ with_length FIRST_SIDE_SEGMENT number backup size (lengths_in sides)
+pub consistent_told : (entries : List Entry) (places : List EntryEnd) (count : ℕ) (main sides : List Copied) (cursors : List Cursor) (main' sides' : List Copied) (number backup size : ℕ) (cursor : Cursor)
+    → IsConsistent entries places count main sides cursors → backup < length cursors
+    → Raised FIRST_SEGMENT number backup size main main' → Raised FIRST_SIDE_SEGMENT number backup size sides sides'
     → size ≤ length (bytes_among number main sides) → cursor ≡ cursor_at backup main' sides'
-    → IsKept entries places (count + prefix_len (is_held_at (length cursors) (lengths_in main')) (drop count places)) main' sides' (set cursors backup cursor)
-kept_told entries places count main sides cursors main' sides' number backup size cursor kept within same told same_sides told_sides enough furthest =
-    let rose_main : Rose (lengths_in main) (lengths_in main') = subst (Rose (lengths_in main)) (sym told) (rose FIRST_SEGMENT number backup size (lengths_in main)) in
-    let rose_sides : Rose (lengths_in sides) (lengths_in sides') = subst (Rose (lengths_in sides)) (sym told_sides) (rose FIRST_SIDE_SEGMENT number backup size (lengths_in sides)) in
-    let counts : length (bytes_in main') ≡ length (bytes_in main) = ap length same in
-    let counts_sides : length (bytes_in sides') ≡ length (bytes_in sides) = ap length same_sides in
-    let few : length main < FIRST_SIDE_SEGMENT = kept.few_main in
+    → IsConsistent entries places (count + prefix_len (is_held_at (length cursors) (lengths_in main')) (drop count places)) main' sides' (set cursors backup cursor)
+consistent_told entries places count main sides cursors main' sides' number backup size cursor consistent within raised raised_sides enough furthest =
+    let rose_main = rose_in FIRST_SEGMENT number backup size main main' raised in
+    let counts : length (bytes_in main') ≡ length (bytes_in main) = ap length raised.bytes in
+    let counts_sides : length (bytes_in sides') ≡ length (bytes_in sides) = ap length raised_sides.bytes in
+    let few : length main < FIRST_SIDE_SEGMENT = consistent.few_main in
     let backups : length cursors ≡ length (set cursors backup cursor) = sym (length-set cursors backup cursor) in
     record {
-      cut_is = same ∙ kept.cut_is;
-      places_are = kept.places_are;
+      cut_is = raised.bytes ∙ consistent.cut_is;
+      places_are = consistent.places_are;
       count_is =
-          sym (pass_then (is_held_at (length cursors) (lengths_in main')) places count (count_within entries places count main sides cursors kept) (λ k d h.
+          sym (pass_then (is_held_at (length cursors) (lengths_in main')) places count (count_within entries places count main sides cursors consistent) (λ k d h.
           list_all_greater (get_or places k d).offset (length cursors) (get_or (lengths_in main) ((get_or places k d).segment - 1) []) (get_or (lengths_in main') ((get_or places k d).segment - 1) [])
           (sym (rose_main.each ((get_or places k d).segment - 1))) (rose_main.more ((get_or places k d).segment - 1))
-          (prefix_len_passes (is_held_at (length cursors) (lengths_in main)) places k d (omega (arith, kept.count_is)))))
+          (prefix_len_passes (is_held_at (length cursors) (lengths_in main)) places k d (omega (arith, consistent.count_is)))))
           ∙ ap (λ (n : ℕ). prefix_len (is_held_at n (lengths_in main')) places) backups;
-      first_backup = omega (arith, kept.first_backup);
-      last_backup = omega (arith, kept.last_backup);
+      first_backup = omega (arith, consistent.first_backup);
+      last_backup = omega (arith, consistent.last_backup);
       few_main = omega (arith, length-map main' (λ (c : Copied). c.segment.bytes), length-map main (λ (c : Copied). c.segment.bytes));
-      few_sides = omega (arith, kept.few_sides, length-map sides' (λ (c : Copied). c.segment.bytes), length-map sides (λ (c : Copied). c.segment.bytes));
+      few_sides = omega (arith, consistent.few_sides, length-map sides' (λ (c : Copied). c.segment.bytes), length-map sides (λ (c : Copied). c.segment.bytes));
       main_known =
-          subst (λ (b : List (List ℕ)). AreKnown b (lengths_in main')) (sym same)
-          (subst (AreKnown (bytes_in main)) (sym told)
-          (known_told_lists FIRST_SEGMENT number backup size (bytes_in main) (lengths_in main) kept.main_known (λ k e h.
+          subst (λ (b : List (List ℕ)). AreKnown b (lengths_in main')) (sym raised.bytes)
+          (subst (AreKnown (bytes_in main)) (sym raised.lengths)
+          (known_told_lists FIRST_SEGMENT number backup size (bytes_in main) (lengths_in main) consistent.main_known (λ k e h.
           omega (arith, ap length (among_main_is number k main sides e (omega (arith, length-map main (λ (c : Copied). c.known))))))));
       sides_known =
-          subst (λ (b : List (List ℕ)). AreKnown b (lengths_in sides')) (sym same_sides)
-          (subst (AreKnown (bytes_in sides)) (sym told_sides)
-          (known_told_lists FIRST_SIDE_SEGMENT number backup size (bytes_in sides) (lengths_in sides) kept.sides_known (λ k e h.
+          subst (λ (b : List (List ℕ)). AreKnown b (lengths_in sides')) (sym raised_sides.bytes)
+          (subst (AreKnown (bytes_in sides)) (sym raised_sides.lengths)
+          (known_told_lists FIRST_SIDE_SEGMENT number backup size (bytes_in sides) (lengths_in sides) consistent.sides_known (λ k e h.
           omega (arith, ap length (among_sides_is number k main sides e few)))));
-      sides_filled = subst (λ (b : List (List ℕ)). (k : ℕ) → k < length b → 0 < length (get_or b k [])) (sym same_sides) kept.sides_filled;
       cursors_are = λ other d h.
           ⊎_elim
           (λ (teller : other ≡ backup).
@@ -212,6 +201,6 @@ kept_told entries places count main sides cursors main' sides' number backup siz
           subst (IsCursor other main' sides') (sym at) (cursor_is other main' sides'))
           (λ (apart : other ≡ backup → ⊥).
           subst (IsCursor other main' sides') (sym (get_or-set_other cursors backup other cursor d apart))
-          (cursor_rose main main' sides sides' other (get_or cursors other d) same rose_main same_sides rose_sides (kept.cursors_are other d (omega arith))))
+          (cursor_raised main main' sides sides' number backup size other (get_or cursors other d) raised raised_sides (consistent.cursors_are other d (omega arith))))
           (cases_eq other backup);
     }

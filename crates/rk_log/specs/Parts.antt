@@ -114,8 +114,8 @@ cursor_at backup main sides =
       sides = prefix_len (is_whole_at backup) sides;
     }
 
--- what the parts of a log keep
-pub record IsKept (entries : List Entry) (places : List EntryEnd) (count : ℕ) (main sides : List Copied) (cursors : List Cursor) : Type 0 where
+-- the parts of a log tell the same of it
+pub record IsConsistent (entries : List Entry) (places : List EntryEnd) (count : ℕ) (main sides : List Copied) (cursors : List Cursor) : Type 0 where
   pub cut_is : bytes_in main ≡ cut entries
   pub places_are : places ≡ ends entries
   pub count_is : count ≡ prefix_len (is_held_at (length cursors) (lengths_in main)) places
@@ -125,10 +125,9 @@ pub record IsKept (entries : List Entry) (places : List EntryEnd) (count : ℕ) 
   pub few_sides : FIRST_SIDE_SEGMENT + length sides ≤ 2 ^ 32
   pub main_known : AreKnown (bytes_in main) (lengths_in main)
   pub sides_known : AreKnown (bytes_in sides) (lengths_in sides)
-  pub sides_filled : (k : ℕ) → k < length (bytes_in sides) → 0 < length (slice_index_or (bytes_in sides) k [])
   pub cursors_are : (backup : ℕ) (d : Cursor) → backup < length cursors → IsCursor backup main sides (slice_index_or cursors backup d)
 
 -- and the count of the bytes of all segments
 pub record IsCounted (entries : List Entry) (places : List EntryEnd) (count : ℕ) (main sides : List Copied) (cursors : List Cursor) (size : ℕ) : Type 0 where
-  pub kept : IsKept entries places count main sides cursors
+  pub consistent : IsConsistent entries places count main sides cursors
   pub size_is : size ≡ segment_bytes (log_of entries main sides cursors)
