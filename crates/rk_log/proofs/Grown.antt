@@ -158,7 +158,7 @@ told_rises (l ∷ lengths) zero size (suc x) = omega arith
 told_rises (l ∷ lengths) (suc backup) size zero = omega arith
 told_rises (l ∷ lengths) (suc backup) size (suc x) = told_rises lengths backup size x
 
--- the same of all segments, which keep as many lengths
+-- the same of all segments, which have as many lengths as before
 pub record Rose (lists lists' : List (List ℕ)) : Type 0 where
   pub same : length lists' ≡ length lists
   pub each : (k : ℕ) → length (get_or lists' k []) ≡ length (get_or lists k [])

@@ -13,11 +13,11 @@ use std::alloc::Global;
 /// Main segments are numbered from here on, side segments from [`FIRST_SIDE_SEGMENT`] on.
 pub(crate) const FIRST_SEGMENT: u32 = 1;
 
-/// The most backups that keep a log.
+/// The most backups that a log may have.
 pub const MOST_BACKUPS: usize = 4;
 
-/// A segment, and how many of its bytes each backup is known to hold. Its place among the others tells its number: the
-/// one that it was made with is not read.
+/// A segment, and how many of its bytes each backup is known to hold. Its place in its list tells its number: the one
+/// that it was made with is never read.
 #[derive(Debug, Drop)]
 pub(crate) struct Copied {
     pub(crate) segment: Segment,
@@ -79,8 +79,8 @@ fn put_in_last(main: &mut [Copied], bytes: &[u8]) -> bool
     main[count - 1].segment.append(bytes).is_ok()
 }
 
-/// Puts the bytes at the end of the last segment where they fit, and else into one more. After `NoMemory` nothing has
-/// changed. It takes memory only for a segment more.
+/// Puts the bytes at the end of the last segment where they fit, and else into a new one. After `NoMemory` nothing has
+/// changed. It takes memory only for a new segment.
 pub(crate) fn put_bytes(main: &mut Vec<Copied>, bytes: &[u8]) -> Result<(), NoMemory>
     requires { length bytes.now ≤ SEGMENT_BYTES }
     ensures bytes { OnOk result (bytes_in main.new.items ≡ with_bytes (bytes_in main.old.items) bytes.now) }
@@ -96,7 +96,7 @@ pub(crate) fn put_bytes(main: &mut Vec<Copied>, bytes: &[u8]) -> Result<(), NoMe
     Ok(())
 }
 
-/// The segment of this number among those that are numbered from `first` on.
+/// The segment of this number, among segments that are numbered from `first` on.
 pub(crate) fn find(segments: &[Copied], first: u32, number: u32) -> Option<&Copied>
     ensures { option_copied result ≡ copied_of first number segments.now }
 {
@@ -106,8 +106,8 @@ pub(crate) fn find(segments: &[Copied], first: u32, number: u32) -> Option<&Copi
     segments.get((number - first) as usize)
 }
 
-/// Keeps that a backup holds so many bytes of the segment of this number, where it is among those that are numbered
-/// from `first` on, and no more are known.
+/// Notes that a backup holds so many bytes of the segment of this number, unless more are known or the segment is not
+/// among these, which are numbered from `first` on.
 pub(crate) fn raise(segments: &mut [Copied], first: u32, number: u32, backup: usize, length: u32)
     requires { backup < MOST_BACKUPS }
     ensures bytes { bytes_in segments.new ≡ bytes_in segments.old }
@@ -123,8 +123,8 @@ pub(crate) fn raise(segments: &mut [Copied], first: u32, number: u32, backup: us
     }
 }
 
-/// The place of the first segment from `from` on that a backup is not known to hold whole. It takes a step for each
-/// segment before it.
+/// The place of the first segment, from `from` on, that a backup is not known to hold whole: the end of the list where
+/// there is none. It takes a step for each segment that it passes.
 pub(crate) fn lacking_from(segments: &[Copied], backup: usize, from: usize) -> usize
     requires backup { backup < MOST_BACKUPS }
     requires from { from ≤ length segments.now }
@@ -137,7 +137,7 @@ pub(crate) fn lacking_from(segments: &[Copied], backup: usize, from: usize) -> u
     at
 }
 
-/// The bytes of the segment of this number, none where it is among neither.
+/// The bytes of the segment of this number; none where there is no such segment.
 pub(crate) fn bytes_among<'a>(main: &'a [Copied], sides: &'a [Copied], number: u32) -> &'a [u8]
     ensures bytes { result.now ≡ bytes_among number main.now sides.now }
     ensures within { length result.now ≤ SEGMENT_BYTES }

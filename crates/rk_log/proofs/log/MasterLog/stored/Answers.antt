@@ -4,17 +4,17 @@ use Rattle.std.specs.Vec.{with_items}
 use Rattle.rk_entry.specs.declared.lists.TheConstants.{FIRST_SIDE_SEGMENT}
 use Rattle.rk_log.specs.declared.copied.Copied.{Copied}
 use Rattle.rk_log.specs.declared.copied.TheConstants.{FIRST_SEGMENT}
-use Rattle.rk_log.specs.Parts.{lengths_in, bytes_among, is_held_at, AreWithin, IsCursor, cursor_at, IsConsistent}
+use Rattle.rk_log.specs.Parts.{Parts, parts_of, log_of, lengths_in, bytes_among, is_held_at, AreWithin, IsCursor, cursor_at, IsCounted}
 use Rattle.rk_log.proofs.Grown.{Raised, raised, raised_count}
-use Rattle.rk_log.proofs.Consistency.{places_within, count_within, cursor_raised, consistent_told}
+use Rattle.rk_log.proofs.Consistency.{places_within, count_within, told_in, cursor_raised, consistent_told}
 use Rattle.rk_log.proofs.Views.{backup_at}
 use Rattle.rk_log.proofs.Changes.{size_told, told_shown, told_enough}
 use Rattle.rk_log.proofs.log.MasterLog.stored.Goals as goal
-use Rattle.rk_log.proofs.log.MasterLog.stored.Goals.{After-bytes, After-raise, After-raise-2}
+use Rattle.rk_log.proofs.log.MasterLog.stored.Goals.{After-bytes, After-raise, After-raise-2, After-held_from-self-inside}
 
 -- the backup has a place
 within : (c : After-bytes) → c.args.backup - 1 < length c.self.inside.cursors.items
-within c = backup_at c.self.inside.entries.items c.self.inside.main.items c.self.inside.sides.items c.self.inside.cursors.items c.args.self.now c.args.backup c.self.view_is c.requires
+within c = backup_at (parts_of c.self.inside) c.args.self.now c.args.backup c.self.view_is c.requires
 
 -- the main segments once it told the length
 main_raised : (c : After-raise)
@@ -62,44 +62,65 @@ held_from-self-inside-requires-clause-within c =
     ∙ raised_count FIRST_SEGMENT c.args.segment (c.args.backup - 1) c.args.length c.self.inside.main.items (with_items c.self.inside.main c.raise.new.segments).items (main_raised (goal.at.held_from-self-inside-requires-clause-within c).After-raise)) in
     subst (AreWithin (length c.as_slice-4.result.now)) (sym c.as_slice-3.ensures.value)
     (subst (λ (n : ℕ). AreWithin n c.self.inside.ends.items) count
-    (places_within c.self.inside.entries.items c.self.inside.ends.items c.self.inside.committed c.self.inside.main.items c.self.inside.sides.items c.self.inside.cursors.items c.self.invariant.consistent))
+    (places_within (parts_of c.self.inside) c.self.invariant.consistent))
 
 pub held_from-self-inside-requires-clause-from : goal.held_from-self-inside-requires-clause-from
 held_from-self-inside-requires-clause-from c =
     omega (
       arith,
-      count_within c.self.inside.entries.items c.self.inside.ends.items c.self.inside.committed c.self.inside.main.items c.self.inside.sides.items c.self.inside.cursors.items c.self.invariant.consistent,
+      count_within (parts_of c.self.inside) c.self.invariant.consistent,
       ap length c.as_slice-3.ensures.value,
     )
 
 -- it told no more than there is
 enough : (c : After-bytes) → c.args.length ≤ length c.bytes.result.now → c.args.length ≤ length (bytes_among c.args.segment c.self.inside.main.items c.self.inside.sides.items)
 enough c le =
-    told_enough c.self.inside.entries.items c.self.inside.ends.items c.self.inside.committed c.self.inside.main.items c.self.inside.sides.items c.self.inside.cursors.items
+    told_enough (parts_of c.self.inside)
     c.args.self.now c.args.segment c.args.length c.self.invariant.consistent c.self.view_is (omega (arith, le, ap length c.bytes.ensures.bytes))
+
+-- the parts once the length is told
+parts_now : (c : After-held_from-self-inside)
+    → told_in (parts_of c.self.inside) (with_items c.self.inside.main c.raise.new.segments).items (with_items c.self.inside.sides c.raise-2.new.segments).items (c.args.backup - 1) c.advanced.result
+    ≡ record {
+      entries = c.self.inside.entries.items;
+      ends = c.self.inside.ends.items;
+      committed = c.held_from-self-inside.result;
+      main = (with_items c.self.inside.main c.raise.new.segments).items;
+      sides = (with_items c.self.inside.sides c.raise-2.new.segments).items;
+      cursors = set c.self.inside.cursors.items (c.args.backup - 1) c.advanced.result;
+    }
+parts_now c =
+    let held : c.held_from-self-inside.result
+    ≡ c.self.inside.committed + prefix_len (is_held_at (length c.self.inside.cursors.items) (lengths_in (with_items c.self.inside.main c.raise.new.segments).items)) (drop c.self.inside.committed c.self.inside.ends.items) =
+    c.held_from-self-inside.ensures
+    ∙ (λ i. c.self.inside.committed + prefix_len (is_held_at ((c.len-backups.ensures ∙ c.self.inside.cursors.ok.0) i) (lengths_in (c.as_slice-4.ensures.value i))) (drop c.self.inside.committed (c.as_slice-3.ensures.value i))) in
+    λ i. record {
+      entries = c.self.inside.entries.items;
+      ends = c.self.inside.ends.items;
+      committed = sym held i;
+      main = (with_items c.self.inside.main c.raise.new.segments).items;
+      sides = (with_items c.self.inside.sides c.raise-2.new.segments).items;
+      cursors = set c.self.inside.cursors.items (c.args.backup - 1) c.advanced.result;
+    }
 
 pub invariant_of-self : goal.invariant_of-self
 invariant_of-self c =
     let furthest : c.advanced.result ≡ cursor_at (c.args.backup - 1) (with_items c.self.inside.main c.raise.new.segments).items (with_items c.self.inside.sides c.raise-2.new.segments).items =
     c.advanced.ensures ∙ (λ i. cursor_at (c.args.backup - 1) (c.as_slice.ensures.value i) (c.as_slice-2.ensures.value i)) in
-    let held : c.held_from-self-inside.result
-    ≡ c.self.inside.committed + prefix_len (is_held_at (length c.self.inside.cursors.items) (lengths_in (with_items c.self.inside.main c.raise.new.segments).items)) (drop c.self.inside.committed c.self.inside.ends.items) =
-    c.held_from-self-inside.ensures
-    ∙ (λ i. c.self.inside.committed + prefix_len (is_held_at ((c.len-backups.ensures ∙ c.self.inside.cursors.ok.0) i) (lengths_in (c.as_slice-4.ensures.value i))) (drop c.self.inside.committed (c.as_slice-3.ensures.value i))) in
-    record {
+    let sides = sides_raised (goal.at.invariant_of-self c).After-raise-2 in
+    subst (λ (parts : Parts). IsCounted parts c.self.inside.size) (parts_now (goal.at.invariant_of-self c).After-held_from-self-inside) (record {
       consistent =
-          subst (λ (n : ℕ). IsConsistent c.self.inside.entries.items c.self.inside.ends.items n (with_items c.self.inside.main c.raise.new.segments).items
-          (with_items c.self.inside.sides c.raise-2.new.segments).items (set c.self.inside.cursors.items (c.args.backup - 1) c.advanced.result)) (sym held)
-          (consistent_told c.self.inside.entries.items c.self.inside.ends.items c.self.inside.committed c.self.inside.main.items c.self.inside.sides.items c.self.inside.cursors.items
-          (with_items c.self.inside.main c.raise.new.segments).items (with_items c.self.inside.sides c.raise-2.new.segments).items c.args.segment (c.args.backup - 1) c.args.length c.advanced.result
-          c.self.invariant.consistent (within (goal.at.invariant_of-self c).After-bytes) (main_raised (goal.at.invariant_of-self c).After-raise) (sides_raised (goal.at.invariant_of-self c).After-raise-2) (enough (goal.at.invariant_of-self c).After-bytes (omega arith)) furthest);
+          consistent_told (parts_of c.self.inside) (with_items c.self.inside.main c.raise.new.segments).items (with_items c.self.inside.sides c.raise-2.new.segments).items
+          c.args.segment (c.args.backup - 1) c.args.length c.advanced.result c.self.invariant.consistent (within (goal.at.invariant_of-self c).After-bytes)
+          (main_raised (goal.at.invariant_of-self c).After-raise) sides (enough (goal.at.invariant_of-self c).After-bytes (omega arith)) furthest;
       size_is =
-          size_told c.self.inside.entries.items c.self.inside.main.items c.self.inside.sides.items c.self.inside.cursors.items (with_items c.self.inside.main c.raise.new.segments).items
-          (with_items c.self.inside.sides c.raise-2.new.segments).items (set c.self.inside.cursors.items (c.args.backup - 1) c.advanced.result) c.self.inside.size c.self.invariant.size_is (sides_raised (goal.at.invariant_of-self c).After-raise-2).bytes;
-    }
+          size_told (parts_of c.self.inside) (with_items c.self.inside.main c.raise.new.segments).items (with_items c.self.inside.sides c.raise-2.new.segments).items
+          (c.args.backup - 1) c.advanced.result c.self.inside.size c.self.invariant.size_is sides.bytes;
+    })
 
 pub returns-clause-ok : goal.returns-clause-ok
 returns-clause-ok c =
-    told_shown c.self.inside.entries.items c.self.inside.ends.items c.self.inside.committed c.self.inside.main.items c.self.inside.sides.items c.self.inside.cursors.items
-    (with_items c.self.inside.main c.raise.new.segments).items (with_items c.self.inside.sides c.raise-2.new.segments).items c.args.self.now c.args.segment c.args.backup c.args.length c.advanced.result
-    c.self.invariant.consistent c.self.view_is (within (goal.at.returns-clause-ok c).After-bytes) (main_raised (goal.at.returns-clause-ok c).After-raise) (sides_raised (goal.at.returns-clause-ok c).After-raise-2) (enough (goal.at.returns-clause-ok c).After-bytes (omega arith))
+    sym (ap log_of (parts_now (goal.at.returns-clause-ok c).After-held_from-self-inside))
+    ∙ told_shown (parts_of c.self.inside) (with_items c.self.inside.main c.raise.new.segments).items (with_items c.self.inside.sides c.raise-2.new.segments).items
+    c.args.self.now c.args.segment c.args.backup c.args.length c.advanced.result c.self.invariant.consistent c.self.view_is (within (goal.at.returns-clause-ok c).After-bytes)
+    (main_raised (goal.at.returns-clause-ok c).After-raise) (sides_raised (goal.at.returns-clause-ok c).After-raise-2) (enough (goal.at.returns-clause-ok c).After-bytes (omega arith))
