@@ -107,7 +107,7 @@ pub record IsKnown (bytes lengths : List ℕ) : Type 0 where
   pub each : length lengths ≡ MOST_BACKUPS
   pub within : (backup : ℕ) → slice_index lengths backup ≤ length bytes
 
--- each of these segments has
+-- so it is with each of these segments
 abbrev pub AreKnown : List (List ℕ) → List (List ℕ) → Type 0
 AreKnown bytes lengths = (k : ℕ) → k < length lengths → IsKnown (slice_index_or bytes k []) (slice_index_or lengths k [])
 

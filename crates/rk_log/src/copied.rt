@@ -53,7 +53,7 @@ impl Copied {
     }
 }
 
-// A new segment with these bytes, of which nothing is known to be held.
+// A new segment with these bytes, of which nothing is known to be held. Its number is not read.
 fn begun(alloc: Global, bytes: &[u8]) -> Result<Copied, NoMemory>
     requires { length bytes.now ≤ SEGMENT_BYTES }
     ensures bytes { IfOk result (λ copied. copied.segment.bytes ≡ bytes.now) }

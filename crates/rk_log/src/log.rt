@@ -95,7 +95,7 @@ impl MasterLog {
     /// with. After `NoMemory`, which also comes where no number is left for another one, nothing has changed. It takes a
     /// constant time on average.
     pub fn add_side(&mut self, segment: Segment) -> Result<u32, NoMemory>
-        requires { segment_bytes self.old < 2 ^ 63 }
+        requires { segment_bytes self.old + length segment.bytes < 2 ^ 64 }
         ensures number { IfOk result (λ number. number ≡ FIRST_SIDE_SEGMENT + length self.old.sides) }
         ensures ok { OnOk result (self.new ≡ with_side self.old segment.bytes) }
         ensures err { OnErr result (self.new ≡ self.old) }
