@@ -1,5 +1,5 @@
 -- What contracts see of each change, and the bounds that it needs.
-use Rattle.std.proofs.Common.{◌≡◌, ℕ, ◌+◌, ◌-◌, ◌<◌, ◌≤◌, ◌^◌, Bool, true, false, cond, List, [], ◌∷◌, ◌++◌, ◌⊎◌, length, get_or, set, map, None, refl, sym, ap, subst, ◌∙◌, ⊎_elim, arith, length-set, length-append}
+use Rattle.std.proofs.Common.{◌≡◌, ℕ, ◌+◌, ◌-◌, ◌<◌, ◌≤◌, ◌^◌, Bool, true, false, cond, List, [], ◌∷◌, ◌++◌, ◌⊎◌, length, get_or, map, None, refl, sym, ap, subst, ◌∙◌, ⊎_elim, arith, length-set, length-append}
 use Rattle.std.specs.List.{sum_by, range_with_len}
 use Rattle.rk_log.specs.Known.{nothing}
 use Rattle.std.proofs.lemmas.Bool.{cond_both}
@@ -11,31 +11,24 @@ use Rattle.rk_entry.specs.declared.lists.TheConstants.{FIRST_SIDE_SEGMENT}
 use Rattle.rk_log.specs.declared.copied.Copied.{Copied}
 use Rattle.rk_log.specs.declared.copied.TheConstants.{FIRST_SEGMENT, MOST_BACKUPS}
 use Rattle.rk_log.specs.declared.cursor.Cursor.{Cursor}
-use Rattle.rk_log.specs.declared.ends.EntryEnd.{EntryEnd}
 use Rattle.rk_log.specs.Cut.{last_of, has_room, in_last, with_bytes, cut}
 use Rattle.rk_log.specs.Log.{Log, bytes_of, segment_bytes, with_entry, with_side, with_told}
-use Rattle.rk_log.specs.Kept.{bytes_in, lengths_in, none_known, copied_of, bytes_among, with_length, known_from, known_by, log_of, AreKnown, IsKept}
+use Rattle.rk_log.specs.Parts.{Parts, bytes_in, lengths_in, none_known, copied_of, bytes_among, known_from, known_by, log_of, AreKnown, IsConsistent}
 use Rattle.rk_log.proofs.Cuts.{cut_filled, length-le-bytes, cut_push, room_some}
 use Rattle.rk_log.proofs.KnownLaws.{known_from_push}
 use Rattle.rk_log.proofs.Lookups.{copied_before, copied_past, known_told}
-use Rattle.rk_log.proofs.Grown.{zeros_at, among_none_is}
+use Rattle.rk_log.proofs.Grown.{zeros_at, Raised, among_none_is}
+use Rattle.rk_log.proofs.Consistency.{with_entry_in, with_side_in, told_in}
 use Rattle.rk_log.proofs.Views.{bytes_of_is}
 
 -- ---- bounds
 
 -- a log with room has numbers left for main segments
-pub main_few : (entries : List Entry) (places : List EntryEnd) (count : ℕ) (main sides : List Copied) (cursors : List Cursor) (log : Log) → IsKept entries places count main sides cursors
-    → log_of entries main sides cursors ≡ log → segment_bytes log < 2 ^ 31 → length main + 1 < FIRST_SIDE_SEGMENT
-main_few entries places count main sides cursors log kept is room =
-    let own : segment_bytes (log_of entries main sides cursors) < 2 ^ 31 = subst (λ (l : Log). segment_bytes l < 2 ^ 31) (sym is) room in
-    omega (arith, own, length-le-bytes (cut entries) (cut_filled [] entries (λ k h. absurd (omega arith))), ap length kept.cut_is, length-map main (λ (c : Copied). c.segment.bytes))
-
--- and for side segments
-pub sides_few : (entries : List Entry) (places : List EntryEnd) (count : ℕ) (main sides : List Copied) (cursors : List Cursor) (log : Log) (more : ℕ) → IsKept entries places count main sides cursors
-    → log_of entries main sides cursors ≡ log → 0 < more → segment_bytes log + more < 2 ^ 31 → FIRST_SIDE_SEGMENT + (length sides + 1) ≤ 2 ^ 32
-sides_few entries places count main sides cursors log more kept is some room =
-    let own : segment_bytes (log_of entries main sides cursors) + more < 2 ^ 31 = subst (λ (l : Log). segment_bytes l + more < 2 ^ 31) (sym is) room in
-    omega (arith, own, length-le-bytes (bytes_in sides) kept.sides_filled, length-map sides (λ (c : Copied). c.segment.bytes))
+pub main_few : (parts : Parts) (log : Log) → IsConsistent parts
+    → log_of parts ≡ log → segment_bytes log < 2 ^ 31 → length parts.main + 1 < FIRST_SIDE_SEGMENT
+main_few parts log consistent is room =
+    let own : segment_bytes (log_of parts) < 2 ^ 31 = subst (λ (l : Log). segment_bytes l < 2 ^ 31) (sym is) room in
+    omega (arith, own, length-le-bytes (cut parts.entries) (cut_filled [] parts.entries (λ k h. absurd (omega arith))), ap length consistent.cut_is, length-map parts.main (λ (c : Copied). c.segment.bytes))
 
 -- bytes begin one segment at most
 pub put_few : (main main' : List Copied) (room : Bool) → lengths_in main' ≡ cond room (lengths_in main) (lengths_in main ++ none_known ∷ []) → length main' ≤ length main + 1
@@ -60,55 +53,54 @@ known_by_sides backups main sides =
     λ i. map (λ backup. known_from backup FIRST_SEGMENT main (known_from_push backup FIRST_SIDE_SEGMENT sides none_known nothing (zeros_at MOST_BACKUPS backup) i)) (range_with_len 0 backups)
 
 -- one more entry
-pub entry_shown : (entries : List Entry) (main sides : List Copied) (cursors : List Cursor) (main' : List Copied) (room : Bool) (entry : Entry) (log : Log) → log_of entries main sides cursors ≡ log
-    → lengths_in main' ≡ cond room (lengths_in main) (lengths_in main ++ none_known ∷ []) → log_of (entries ++ entry ∷ []) main' sides cursors ≡ with_entry log entry
-entry_shown entries main sides cursors main' room entry log is put =
+pub entry_shown : (parts : Parts) (main' : List Copied) (room : Bool) (entry : Entry) (log : Log) → log_of parts ≡ log
+    → lengths_in main' ≡ cond room (lengths_in parts.main) (lengths_in parts.main ++ none_known ∷ []) → log_of (with_entry_in parts main' entry) ≡ with_entry log entry
+entry_shown parts main' room entry log is put =
     (λ i. record {
-      entries = entries ++ entry ∷ [];
-      sides = bytes_in sides;
-      known = (ap (λ (l : List (List ℕ)). known_by (length cursors) l (lengths_in sides)) put ∙ known_by_main (length cursors) room (lengths_in main) (lengths_in sides)) i;
+      entries = parts.entries ++ entry ∷ [];
+      sides = bytes_in parts.sides;
+      known = (ap (λ (l : List (List ℕ)). known_by (length parts.cursors) l (lengths_in parts.sides)) put ∙ known_by_main (length parts.cursors) room (lengths_in parts.main) (lengths_in parts.sides)) i;
     })
     ∙ ap (λ (l : Log). with_entry l entry) is
 
 -- one more side segment
-pub side_shown : (entries : List Entry) (main sides : List Copied) (cursors : List Cursor) (side : Copied) (bytes : List ℕ) (log : Log) → log_of entries main sides cursors ≡ log
-    → side.segment.bytes ≡ bytes → side.known ≡ none_known → log_of entries main (sides ++ side ∷ []) cursors ≡ with_side log bytes
-side_shown entries main sides cursors side bytes log is same unknown =
+pub side_shown : (parts : Parts) (side : Copied) (bytes : List ℕ) (log : Log) → log_of parts ≡ log
+    → side.segment.bytes ≡ bytes → side.known ≡ none_known → log_of (with_side_in parts side) ≡ with_side log bytes
+side_shown parts side bytes log is same unknown =
     (λ i. record {
-      entries = entries;
-      sides = (map_push (λ (c : Copied). c.segment.bytes) sides side ∙ ap (λ (b : List ℕ). bytes_in sides ++ b ∷ []) same) i;
+      entries = parts.entries;
+      sides = (map_push (λ (c : Copied). c.segment.bytes) parts.sides side ∙ ap (λ (b : List ℕ). bytes_in parts.sides ++ b ∷ []) same) i;
       known =
-          (ap (known_by (length cursors) (lengths_in main)) (map_push (λ (c : Copied). c.known) sides side ∙ ap (λ (l : List ℕ). lengths_in sides ++ l ∷ []) unknown)
-          ∙ known_by_sides (length cursors) (lengths_in main) (lengths_in sides)) i;
+          (ap (known_by (length parts.cursors) (lengths_in parts.main)) (map_push (λ (c : Copied). c.known) parts.sides side ∙ ap (λ (l : List ℕ). lengths_in parts.sides ++ l ∷ []) unknown)
+          ∙ known_by_sides (length parts.cursors) (lengths_in parts.main) (lengths_in parts.sides)) i;
     })
     ∙ ap (λ (l : Log). with_side l bytes) is
 
 -- a length that a backup told
-pub told_shown : (entries : List Entry) (places : List EntryEnd) (count : ℕ) (main sides : List Copied) (cursors : List Cursor) (main' sides' : List Copied) (log : Log) (number backup size : ℕ) (cursor : Cursor)
-    → IsKept entries places count main sides cursors → log_of entries main sides cursors ≡ log → backup - 1 < length cursors
-    → lengths_in main' ≡ with_length FIRST_SEGMENT number (backup - 1) size (lengths_in main)
-    → bytes_in sides' ≡ bytes_in sides → lengths_in sides' ≡ with_length FIRST_SIDE_SEGMENT number (backup - 1) size (lengths_in sides)
-    → size ≤ length (bytes_among number main sides)
-    → log_of entries main' sides' (set cursors (backup - 1) cursor) ≡ with_told log backup number size
-told_shown entries places count main sides cursors main' sides' log number backup size cursor kept is within told_main same_sides told_sides enough =
+pub told_shown : (parts : Parts) (main' sides' : List Copied) (log : Log) (number backup size : ℕ) (cursor : Cursor)
+    → IsConsistent parts → log_of parts ≡ log → backup - 1 < length parts.cursors
+    → Raised FIRST_SEGMENT number (backup - 1) size parts.main main' → Raised FIRST_SIDE_SEGMENT number (backup - 1) size parts.sides sides'
+    → size ≤ length (bytes_among number parts.main parts.sides)
+    → log_of (told_in parts main' sides' (backup - 1) cursor) ≡ with_told log backup number size
+told_shown parts main' sides' log number backup size cursor consistent is within raised raised_sides enough =
     (λ i. record {
-      entries = entries;
-      sides = same_sides i;
+      entries = parts.entries;
+      sides = raised_sides.bytes i;
       known =
-          ((λ j. known_by (length-set cursors (backup - 1) cursor j) (told_main j) (told_sides j))
-          ∙ known_told (length cursors) (lengths_in main) (lengths_in sides) number (backup - 1) size within (omega (arith, counts, kept.few_main))
-          (wide (bytes_in main) (lengths_in main) kept.main_known) (wide (bytes_in sides) (lengths_in sides) kept.sides_known) nowhere) i;
+          ((λ j. known_by (length-set parts.cursors (backup - 1) cursor j) (raised.lengths j) (raised_sides.lengths j))
+          ∙ known_told (length parts.cursors) (lengths_in parts.main) (lengths_in parts.sides) number (backup - 1) size within (omega (arith, counts, consistent.few_main))
+          (wide (bytes_in parts.main) (lengths_in parts.main) consistent.main_known) (wide (bytes_in parts.sides) (lengths_in parts.sides) consistent.sides_known) nowhere) i;
     })
     ∙ ap (λ (l : Log). with_told l backup number size) is
   where
-    counts : length (lengths_in main) ≡ length main
-    counts = length-map main (λ (c : Copied). c.known)
+    counts : length (lengths_in parts.main) ≡ length parts.main
+    counts = length-map parts.main (λ (c : Copied). c.known)
 
     wide : (bytes lengths : List (List ℕ)) → AreKnown bytes lengths → (k : ℕ) → k < length lengths → backup - 1 < length (get_or lengths k [])
-    wide bytes lengths known k h = omega (arith, (known k h).each, kept.last_backup)
+    wide bytes lengths known k h = omega (arith, (known k h).each, consistent.last_backup)
 
-    nowhere : (number < FIRST_SEGMENT) ⊎ (FIRST_SEGMENT + length (lengths_in main) ≤ number) → (number < FIRST_SIDE_SEGMENT) ⊎ (FIRST_SIDE_SEGMENT + length (lengths_in sides) ≤ number) → size ≡ 0
-    nowhere a b = omega (arith, ap length (among_none_is number main sides (none FIRST_SEGMENT main a) (none FIRST_SIDE_SEGMENT sides b)))
+    nowhere : (number < FIRST_SEGMENT) ⊎ (FIRST_SEGMENT + length (lengths_in parts.main) ≤ number) → (number < FIRST_SIDE_SEGMENT) ⊎ (FIRST_SIDE_SEGMENT + length (lengths_in parts.sides) ≤ number) → size ≡ 0
+    nowhere a b = omega (arith, ap length (among_none_is number parts.main parts.sides (none FIRST_SEGMENT parts.main a) (none FIRST_SIDE_SEGMENT parts.sides b)))
       where
         none : (first : ℕ) (segments : List Copied) → (number < first) ⊎ (first + length (lengths_in segments) ≤ number) → copied_of first number segments ≡ None
         none first segments apart =
@@ -118,10 +110,10 @@ told_shown entries places count main sides cursors main' sides' log number backu
             apart
 
 -- a backup tells no more than there is
-pub told_enough : (entries : List Entry) (places : List EntryEnd) (count : ℕ) (main sides : List Copied) (cursors : List Cursor) (log : Log) (number size : ℕ) → IsKept entries places count main sides cursors
-    → log_of entries main sides cursors ≡ log → size ≤ length (bytes_of log number) → size ≤ length (bytes_among number main sides)
-told_enough entries places count main sides cursors log number size kept is le =
-    omega (arith, ap (λ (l : Log). length (bytes_of l number)) is, ap length (bytes_of_is entries places count main sides cursors number kept))
+pub told_enough : (parts : Parts) (log : Log) (number size : ℕ) → IsConsistent parts
+    → log_of parts ≡ log → size ≤ length (bytes_of log number) → size ≤ length (bytes_among number parts.main parts.sides)
+told_enough parts log number size consistent is le =
+    omega (arith, ap (λ (l : Log). length (bytes_of l number)) is, ap length (bytes_of_is parts number consistent))
 
 -- ---- the count of bytes
 
@@ -139,29 +131,28 @@ bytes_with segments more =
     (λ e. sum_by_push (λ (b : List ℕ). length b) segments more)
 
 -- of an entry
-pub size_entry : (entries : List Entry) (main sides : List Copied) (cursors : List Cursor) (main' : List Copied) (entries' : List Entry) (entry : Entry) (size count : ℕ)
-    → size ≡ segment_bytes (log_of entries main sides cursors) → count ≡ length (spelled entry) → entries' ≡ entries ++ entry ∷ [] → size + count ≡ segment_bytes (log_of entries' main' sides cursors)
-size_entry entries main sides cursors main' entries' entry size count is counted now =
-    let more : sum_by (λ (b : List ℕ). length b) (cut (entries ++ entry ∷ [])) ≡ sum_by (λ (b : List ℕ). length b) (cut entries) + length (spelled entry) =
-    ap (sum_by (λ (b : List ℕ). length b)) (cut_push [] entries entry) ∙ bytes_with (cut entries) (spelled entry) in
-    omega (arith, is, counted, more, ap (λ (l : List Entry). sum_by (λ (b : List ℕ). length b) (cut l)) now)
+pub size_entry : (parts : Parts) (main' : List Copied) (entry : Entry) (size count : ℕ)
+    → size ≡ segment_bytes (log_of parts) → count ≡ length (spelled entry) → size + count ≡ segment_bytes (log_of (with_entry_in parts main' entry))
+size_entry parts main' entry size count is counted =
+    let more : sum_by (λ (b : List ℕ). length b) (cut (parts.entries ++ entry ∷ [])) ≡ sum_by (λ (b : List ℕ). length b) (cut parts.entries) + length (spelled entry) =
+    ap (sum_by (λ (b : List ℕ). length b)) (cut_push [] parts.entries entry) ∙ bytes_with (cut parts.entries) (spelled entry) in
+    omega (arith, is, counted, more)
 
 -- of a side segment
-pub size_side : (entries : List Entry) (main sides : List Copied) (cursors : List Cursor) (sides' : List Copied) (side : Copied) (bytes : List ℕ) (size count : ℕ)
-    → size ≡ segment_bytes (log_of entries main sides cursors) → sides' ≡ sides ++ side ∷ [] → side.segment.bytes ≡ bytes → count ≡ length bytes → size + count ≡ segment_bytes (log_of entries main sides' cursors)
-size_side entries main sides cursors sides' side bytes size count is now same counted =
+pub size_side : (parts : Parts) (side : Copied) (bytes : List ℕ) (size count : ℕ)
+    → size ≡ segment_bytes (log_of parts) → side.segment.bytes ≡ bytes → count ≡ length bytes → size + count ≡ segment_bytes (log_of (with_side_in parts side))
+size_side parts side bytes size count is same counted =
     omega (
       arith,
       is,
       counted,
       ap length same,
-      ap (λ (s : List Copied). sum_by (λ (b : List ℕ). length b) (bytes_in s)) now,
-      ap (sum_by (λ (b : List ℕ). length b)) (map_push (λ (c : Copied). c.segment.bytes) sides side),
-      sum_by_push (λ (b : List ℕ). length b) (bytes_in sides) side.segment.bytes,
+      ap (sum_by (λ (b : List ℕ). length b)) (map_push (λ (c : Copied). c.segment.bytes) parts.sides side),
+      sum_by_push (λ (b : List ℕ). length b) (bytes_in parts.sides) side.segment.bytes,
     )
 
 -- a told length changes none
-pub size_told : (entries : List Entry) (main sides : List Copied) (cursors : List Cursor) (main' sides' : List Copied) (cursors' : List Cursor) (size : ℕ)
-    → size ≡ segment_bytes (log_of entries main sides cursors) → bytes_in sides' ≡ bytes_in sides → size ≡ segment_bytes (log_of entries main' sides' cursors')
-size_told entries main sides cursors main' sides' cursors' size is same =
-    is ∙ ap (λ (s : List (List ℕ)). sum_by (λ (b : List ℕ). length b) (cut entries) + sum_by (λ (b : List ℕ). length b) s) (sym same)
+pub size_told : (parts : Parts) (main' sides' : List Copied) (backup : ℕ) (cursor : Cursor) (size : ℕ)
+    → size ≡ segment_bytes (log_of parts) → bytes_in sides' ≡ bytes_in parts.sides → size ≡ segment_bytes (log_of (told_in parts main' sides' backup cursor))
+size_told parts main' sides' backup cursor size is same =
+    is ∙ ap (λ (s : List (List ℕ)). sum_by (λ (b : List ℕ). length b) (cut parts.entries) + sum_by (λ (b : List ℕ). length b) s) (sym same)

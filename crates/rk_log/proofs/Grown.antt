@@ -2,13 +2,15 @@
 use Rattle.std.proofs.Common.{◌≡◌, ℕ, zero, suc, ◌+◌, ◌-◌, ◌<◌, ◌≤◌, max, true, false, cond, List, [], ◌∷◌, ◌++◌, length, get_or, set, replicate, Option, None, refl, sym, ap, subst, ◌∙◌, ⊎_elim, arith, length-set, length-append, get_or-set_same, get_or-set_other}
 use Rattle.std.specs.Prelude.{slice_get}
 use Rattle.std.specs.Option.{option_map_or, option_or}
+use Rattle.std.specs.Global.{Vec}
+use Rattle.std.specs.Vec.{with_items}
 use Rattle.std.proofs.lemmas.Bool.{cases_lt, cases_eq, cases_Bool, cond-true, cond-false}
-use Rattle.std.proofs.lemmas.List.{get_or_append_left, get_or_push}
+use Rattle.std.proofs.lemmas.List.{length-map, get_or_append_left, get_or_push, with_items_is}
 use Rattle.rk_entry.specs.declared.lists.TheConstants.{FIRST_SIDE_SEGMENT}
 use Rattle.rk_log.specs.declared.copied.Copied.{Copied}
 use Rattle.rk_log.specs.declared.copied.TheConstants.{FIRST_SEGMENT, MOST_BACKUPS}
 use Rattle.rk_log.specs.Cut.{last_of, has_room, in_last, with_bytes}
-use Rattle.rk_log.specs.Kept.{bytes_in, none_known, copied_of, bytes_among, with_told_length, with_length, IsKnown, AreKnown}
+use Rattle.rk_log.specs.Parts.{bytes_in, lengths_in, none_known, copied_of, bytes_among, with_told_length, with_length, IsKnown, AreKnown}
 use Rattle.rk_log.proofs.Lookups.{copied_at, copied_past, with_length_before, with_length_at}
 
 -- nothing is known at any backup
@@ -156,7 +158,7 @@ told_rises (l ∷ lengths) zero size (suc x) = omega arith
 told_rises (l ∷ lengths) (suc backup) size zero = omega arith
 told_rises (l ∷ lengths) (suc backup) size (suc x) = told_rises lengths backup size x
 
--- the same of all segments, which keep as many lengths
+-- the same of all segments, which have as many lengths as before
 pub record Rose (lists lists' : List (List ℕ)) : Type 0 where
   pub same : length lists' ≡ length lists
   pub each : (k : ℕ) → length (get_or lists' k []) ≡ length (get_or lists k [])
@@ -196,6 +198,32 @@ rose first number backup size lists =
     (λ (h : number < first). subst (Rose lists) (sym (with_length_before first number backup size lists h)) (rose_not lists))
     (λ (h : first ≤ number). subst (Rose lists) (sym (with_length_at first number backup size (number - first) lists (omega arith))) (rose_at lists (number - first) backup size))
     (cases_lt number first)
+
+-- segments once a backup told a length: their bytes stay, and it is known of one of them
+pub record Raised (first number backup size : ℕ) (segments segments' : List Copied) : Type 0 where
+  pub bytes : bytes_in segments' ≡ bytes_in segments
+  pub lengths : lengths_in segments' ≡ with_length first number backup size (lengths_in segments)
+
+-- so it is in a vector that lent them
+pub raised : (first number backup size : ℕ) (segments : Vec Copied) (lent told : List Copied) → lent ≡ segments.items → length told ≡ segments.len
+    → bytes_in told ≡ bytes_in lent → lengths_in told ≡ with_length first number backup size (lengths_in lent)
+    → Raised first number backup size segments.items (with_items segments told).items
+raised first number backup size segments lent told value count bytes lengths =
+    let written : (with_items segments told).items ≡ told = with_items_is segments told count in
+    record {
+      bytes = ap bytes_in written ∙ bytes ∙ ap bytes_in value;
+      lengths = ap lengths_in written ∙ lengths ∙ ap (λ (s : List Copied). with_length first number backup size (lengths_in s)) value;
+    }
+
+-- then there are as many
+pub raised_count : (first number backup size : ℕ) (segments segments' : List Copied) → Raised first number backup size segments segments' → length segments' ≡ length segments
+raised_count first number backup size segments segments' raised =
+    sym (length-map segments' (λ (c : Copied). c.segment.bytes)) ∙ ap length raised.bytes ∙ length-map segments (λ (c : Copied). c.segment.bytes)
+
+-- and no length is lower
+pub rose_in : (first number backup size : ℕ) (segments segments' : List Copied) → Raised first number backup size segments segments' → Rose (lengths_in segments) (lengths_in segments')
+rose_in first number backup size segments segments' raised =
+    subst (Rose (lengths_in segments)) (sym raised.lengths) (rose first number backup size (lengths_in segments))
 
 -- where it tells no more than there is, no known length is above the segment's
 pub known_told_lists : (first number backup size : ℕ) (bytes lengths : List (List ℕ)) → AreKnown bytes lengths → ((k : ℕ) → first + k ≡ number → k < length lengths → size ≤ length (get_or bytes k []))

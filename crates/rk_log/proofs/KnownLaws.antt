@@ -1,15 +1,11 @@
 -- The laws of what a backup is known to hold.
 use Rattle.std.proofs.Common.{◌≡◌, ℕ, zero, suc, ◌+◌, ◌<◌, ◌≤◌, max, Bool, true, false, cond, ltb, eqb, List, [], ◌∷◌, ◌++◌, length, get_or, set, Option, Some, refl, sym, ap, subst, ◌∙◌, ⊎_elim, arith, get_or-set_same, get_or-set_other}
 use Rattle.std.specs.Prelude.{unwrap_or}
-use Rattle.std.specs.Ordering.{nat_cmp}
-use Rattle.std.specs.Cmp.{unsigned_tied}
-use Rattle.std.proofs.lemmas.Cmp.{nat_cmp_total}
-use Rattle.std.specs.FinMap.{nat_cmp-IsAntisymmetric}
-use Rattle.std.specs.FinMap.Entries.{find-put, same_entries}
-use Rattle.std.proofs.lemmas.Bool.{ltb-true, ltb-false, lt-ltb, le-ltb, le-leb, leb-true, eq-eqb, ne_eqb, eqb-true, cases_lt, cases_eq, cases_Bool, cond-true, cond-false, cond_both}
-use Rattle.rk_log.specs.declared.ends.EntryEnd.{EntryEnd}
-use Rattle.rk_log.specs.Known.{Known, known_length, length_at, with_length_at, same_lengths, told, reaches}
-use Rattle.rk_log.specs.Kept.{known_from, with_told_length, with_length}
+use Rattle.std.proofs.lemmas.Bool.{ltb-true, ltb-false, lt-ltb, le-ltb, eq-eqb, ne_eqb, cases_lt, cases_eq, cond-true, cond-false, cond_both}
+use Rattle.rk_types.specs.NumberMap.{get, insert, IsInOrder}
+use Rattle.rk_types.proofs.NumberMaps.{get_insert, in_order_insert, same_map}
+use Rattle.rk_log.specs.Known.{Known, known_length, told}
+use Rattle.rk_log.specs.Parts.{known_from, with_told_length}
 
 -- a number that is there, or a greater one
 abbrev pub greater_of : Option ℕ → ℕ → Option ℕ
@@ -50,43 +46,43 @@ greater_length o l =
     (cases_lt (unwrap_or o 0) l)
 
 -- what is known of a segment once a length was told
-pub get_told : (known : Known) (segment length q : ℕ) → length_at (told known segment length) q ≡ cond (eqb q segment) (greater_of (length_at known q) length) (length_at known q)
+pub get_told : (known : Known) (segment length q : ℕ) → get (told known segment length) q ≡ cond (eqb q segment) (greater_of (get known q) length) (get known q)
 get_told known segment length q =
-    cond_both (ltb (known_length known segment) length) (with_length_at known segment length) known
-    (λ k. length_at k q ≡ cond (eqb q segment) (greater_of (length_at known q) length) (length_at known q))
+    cond_both (ltb (known_length known segment) length) (insert known segment length) known
+    (λ k. get k q ≡ cond (eqb q segment) (greater_of (get known q) length) (get known q))
     (λ e.
-    find-put nat_cmp nat_cmp_total q segment length known.lengths
-    ∙ ap (λ (b : Bool). cond b (Some length) (length_at known q)) (unsigned_tied q segment)
-    ∙ at_segment e)
+    get_insert known segment length q ∙ at_segment e)
     (λ e. sym (untold e))
   where
-    at_segment : ltb (known_length known segment) length ≡ true → cond (eqb q segment) (Some length) (length_at known q) ≡ cond (eqb q segment) (greater_of (length_at known q) length) (length_at known q)
+    at_segment : ltb (known_length known segment) length ≡ true → cond (eqb q segment) (Some length) (get known q) ≡ cond (eqb q segment) (greater_of (get known q) length) (get known q)
     at_segment e =
         ⊎_elim
         (λ (same : q ≡ segment).
         let less : known_length known q < length = subst (λ (s : ℕ). known_length known s < length) (sym same) (ltb-true _ _ e) in
-        ap (λ (o : Option ℕ). cond (eqb q segment) o (length_at known q)) (sym (greater_less (length_at known q) length less)))
+        ap (λ (o : Option ℕ). cond (eqb q segment) o (get known q)) (sym (greater_less (get known q) length less)))
         (λ (other : q ≡ segment → ⊥). cond-false _ _ _ (ne_eqb q segment other) ∙ sym (cond-false _ _ _ (ne_eqb q segment other)))
         (cases_eq q segment)
 
-    untold : ltb (known_length known segment) length ≡ false → cond (eqb q segment) (greater_of (length_at known q) length) (length_at known q) ≡ length_at known q
+    untold : ltb (known_length known segment) length ≡ false → cond (eqb q segment) (greater_of (get known q) length) (get known q) ≡ get known q
     untold e =
         ⊎_elim
         (λ (same : q ≡ segment).
         let more : length ≤ known_length known q = subst (λ (s : ℕ). length ≤ known_length known s) (sym same) (ltb-false _ _ e) in
-        cond-true _ _ _ (eq-eqb q segment same) ∙ greater_more (length_at known q) length more)
+        cond-true _ _ _ (eq-eqb q segment same) ∙ greater_more (get known q) length more)
         (λ (other : q ≡ segment → ⊥). cond-false _ _ _ (ne_eqb q segment other))
         (cases_eq q segment)
 
--- two maps that answer alike are one
-same_known : (a b : Known) → ((q : ℕ) → length_at a q ≡ length_at b q) → a ≡ b
-same_known a b is = same_lengths a b (same_entries nat_cmp nat_cmp_total nat_cmp-IsAntisymmetric a.lengths b.lengths a.rising b.rising is)
+-- and the numbers stay in order
+pub told_in_order : (known : Known) (segment length : ℕ) → IsInOrder known → IsInOrder (told known segment length)
+told_in_order known segment length order =
+    cond_both (ltb (known_length known segment) length) (insert known segment length) known IsInOrder
+    (λ e. in_order_insert known segment length order) (λ e. order)
 
 -- the length that is known of the segment that was told of is the greater
 pub told_length : (known : Known) (segment length q : ℕ) → q ≡ segment → known_length (told known segment length) q ≡ max (known_length known q) length
 told_length known segment length q same =
     ap (λ (o : Option ℕ). unwrap_or o 0) (get_told known segment length q ∙ cond-true _ _ _ (eq-eqb q segment same))
-    ∙ greater_length (length_at known q) length
+    ∙ greater_length (get known q) length
 
 -- and of every other it stays
 pub told_other : (known : Known) (segment length q : ℕ) → (q ≡ segment → ⊥) → known_length (told known segment length) q ≡ known_length known q
@@ -103,15 +99,16 @@ told_more known segment length q =
 
 -- no bytes tell nothing
 pub told_none : (known : Known) (segment : ℕ) → told known segment 0 ≡ known
-told_none known segment = cond-false (ltb (known_length known segment) 0) (with_length_at known segment 0) known (le-ltb _ _ (omega arith))
+told_none known segment = cond-false (ltb (known_length known segment) 0) (insert known segment 0) known (le-ltb _ _ (omega arith))
 
 -- two lengths of one segment tell the greater
-pub told_twice : (known : Known) (segment x y : ℕ) → told (told known segment x) segment y ≡ told known segment (max x y)
-told_twice known segment x y =
-    same_known _ _ (λ q.
+pub told_twice : (known : Known) (segment x y : ℕ) → IsInOrder known → told (told known segment x) segment y ≡ told known segment (max x y)
+told_twice known segment x y order =
+    same_map (told (told known segment x) segment y) (told known segment (max x y))
+    (told_in_order (told known segment x) segment y (told_in_order known segment x order)) (told_in_order known segment (max x y) order) (λ q.
     get_told (told known segment x) segment y q
     ∙ ap (λ (o : Option ℕ). cond (eqb q segment) (greater_of o y) o) (get_told known segment x q)
-    ∙ both (eqb q segment) (length_at known q)
+    ∙ both (eqb q segment) (get known q)
     ∙ sym (get_told known segment (max x y) q))
   where
     both : (b : Bool) (o : Option ℕ) → cond b (greater_of (cond b (greater_of o x) o) y) (cond b (greater_of o x) o) ≡ cond b (greater_of o (max x y)) o
@@ -119,12 +116,13 @@ told_twice known segment x y =
     both false o = refl
 
 -- the order of what is told does not matter
-pub told_comm : (known : Known) (a x b y : ℕ) → told (told known a x) b y ≡ told (told known b y) a x
-told_comm known a x b y =
-    same_known _ _ (λ q.
+pub told_comm : (known : Known) (a x b y : ℕ) → IsInOrder known → told (told known a x) b y ≡ told (told known b y) a x
+told_comm known a x b y order =
+    same_map (told (told known a x) b y) (told (told known b y) a x)
+    (told_in_order (told known a x) b y (told_in_order known a x order)) (told_in_order (told known b y) a x (told_in_order known b y order)) (λ q.
     get_told (told known a x) b y q
     ∙ ap (λ (o : Option ℕ). cond (eqb q b) (greater_of o y) o) (get_told known a x q)
-    ∙ swapped (eqb q a) (eqb q b) (length_at known q)
+    ∙ swapped (eqb q a) (eqb q b) (get known q)
     ∙ ap (λ (o : Option ℕ). cond (eqb q a) (greater_of o x) o) (sym (get_told known b y q))
     ∙ sym (get_told (told known b y) a x q))
   where
@@ -140,6 +138,12 @@ told_comm known a x b y =
     swapped false false o = refl
 
 -- ---- what is known of segments one after the other
+
+-- its numbers are in order
+pub known_in_order : (backup first : ℕ) (lists : List (List ℕ)) (others : Known) → IsInOrder others → IsInOrder (known_from backup first lists others)
+known_in_order backup first [] others order = order
+known_in_order backup first (l ∷ lists) others order =
+    told_in_order (known_from backup (suc first) lists others) first (get_or l backup 0) (known_in_order backup (suc first) lists others order)
 
 -- nothing of those before them
 pub known_before : (backup first : ℕ) (lists : List (List ℕ)) (others : Known) (q : ℕ) → q < first → known_length (known_from backup first lists others) q ≡ known_length others q
@@ -165,11 +169,12 @@ known_within backup first (l ∷ lists) others (suc k) q e h none =
     ∙ known_within backup (suc first) lists others k q (omega arith) (omega arith) none
 
 -- what is told of others beside them
-pub known_from_told : (backup first : ℕ) (lists : List (List ℕ)) (others : Known) (q length : ℕ) → known_from backup first lists (told others q length) ≡ told (known_from backup first lists others) q length
-known_from_told backup first [] others q length = refl
-known_from_told backup first (l ∷ lists) others q length =
-    ap (λ (known : Known). told known first (get_or l backup 0)) (known_from_told backup (suc first) lists others q length)
-    ∙ told_comm (known_from backup (suc first) lists others) q length first (get_or l backup 0)
+pub known_from_told : (backup first : ℕ) (lists : List (List ℕ)) (others : Known) (q length : ℕ) → IsInOrder others
+    → known_from backup first lists (told others q length) ≡ told (known_from backup first lists others) q length
+known_from_told backup first [] others q length order = refl
+known_from_told backup first (l ∷ lists) others q length order =
+    ap (λ (known : Known). told known first (get_or l backup 0)) (known_from_told backup (suc first) lists others q length order)
+    ∙ told_comm (known_from backup (suc first) lists others) q length first (get_or l backup 0) (known_in_order backup (suc first) lists others order)
 
 -- one more segment of which nothing is known
 pub known_from_push : (backup first : ℕ) (lists : List (List ℕ)) (l : List ℕ) (others : Known) → get_or l backup 0 ≡ 0 → known_from backup first (lists ++ l ∷ []) others ≡ known_from backup first lists others
@@ -178,17 +183,17 @@ known_from_push backup first (x ∷ lists) l others none = ap (λ (known : Known
 
 -- what a backup tells of one of them
 pub known_from_set : (backup first : ℕ) (lists : List (List ℕ)) (others : Known) (k q size : ℕ) → first + k ≡ q → k < length lists
-    → backup < length (get_or lists k [])
+    → backup < length (get_or lists k []) → IsInOrder others
     → known_from backup first (set lists k (with_told_length backup size (get_or lists k []))) others ≡ told (known_from backup first lists others) q size
-known_from_set backup first [] others k q size e h w = absurd (omega arith)
-known_from_set backup first (l ∷ lists) others zero q size e h w =
+known_from_set backup first [] others k q size e h w order = absurd (omega arith)
+known_from_set backup first (l ∷ lists) others zero q size e h w order =
     let at : first ≡ q = omega arith in
     ap (told (known_from backup (suc first) lists others) first) (get_or-set_same l backup (max (get_or l backup 0) size) 0 w)
-    ∙ sym (told_twice (known_from backup (suc first) lists others) first (get_or l backup 0) size)
+    ∙ sym (told_twice (known_from backup (suc first) lists others) first (get_or l backup 0) size (known_in_order backup (suc first) lists others order))
     ∙ ap (λ (n : ℕ). told (told (known_from backup (suc first) lists others) first (get_or l backup 0)) n size) at
-known_from_set backup first (l ∷ lists) others (suc k) q size e h w =
-    ap (λ (known : Known). told known first (get_or l backup 0)) (known_from_set backup (suc first) lists others k q size (omega arith) (omega arith) w)
-    ∙ told_comm (known_from backup (suc first) lists others) q size first (get_or l backup 0)
+known_from_set backup first (l ∷ lists) others (suc k) q size e h w order =
+    ap (λ (known : Known). told known first (get_or l backup 0)) (known_from_set backup (suc first) lists others k q size (omega arith) (omega arith) w order)
+    ∙ told_comm (known_from backup (suc first) lists others) q size first (get_or l backup 0) (known_in_order backup (suc first) lists others order)
 
 -- what another backup tells changes nothing
 pub known_from_other : (backup teller first : ℕ) (lists : List (List ℕ)) (others : Known) (k size : ℕ) → (backup ≡ teller → ⊥)

@@ -3,7 +3,7 @@ pub mod Cuts
 pub mod KnownLaws
 pub mod Lookups
 pub mod Grown
-pub mod Keeping
+pub mod Consistency
 pub mod Views
 pub mod Changes
 pub mod LogLaws

@@ -1,9 +1,8 @@
 -- What contracts see of a log, by the parts that stand for it.
 use Rattle.std.proofs.Common.{◌≡◌, ℕ, zero, suc, ◌+◌, ◌-◌, ◌<◌, ◌≤◌, Bool, true, false, cond, not, leb, ltb, eqb, List, [], ◌∷◌, ◌++◌, ◌⊎◌, length, get_or, set, take, drop, Option, Some, None, refl, sym, ap, ◌∙◌, ⊎_elim, inl, inr, arith, length-set, get_or-set_same, get_or-set_other}
-use Rattle.std.specs.Prelude.{slice_get, unwrap_or}
+use Rattle.std.specs.Prelude.{slice_get}
 use Rattle.std.specs.List.{find, list_all, prefix_len, range_with_len}
 use Rattle.std.specs.Option.{option_map, option_map_or, option_or}
-use Rattle.std.specs.Ordering.{nat_cmp}
 use Rattle.rk_log.specs.Known.{nothing}
 use Rattle.std.proofs.lemmas.Bool.{lt-ltb, le-ltb, eq-eqb, ne_eqb, cases_lt, cases_eq, cond-true, cond-false}
 use Rattle.std.proofs.lemmas.List.{set_past, same_lists}
@@ -15,11 +14,12 @@ use Rattle.rk_segment.specs.Segment.{NumberedBytes}
 use Rattle.rk_log.specs.declared.copied.Copied.{Copied}
 use Rattle.rk_log.specs.declared.copied.TheConstants.{FIRST_SEGMENT}
 use Rattle.rk_log.specs.declared.ends.EntryEnd.{EntryEnd}
+use Rattle.rk_types.specs.NumberMap.{IsInOrder}
 use Rattle.rk_log.specs.Known.{Known, known_length, told, is_whole}
 use Rattle.rk_log.specs.Log.{numbered, segment_of, is_held, missing}
-use Rattle.rk_log.specs.Kept.{bytes_in, lengths_in, copied_of, bytes_among, with_told_length, with_length, known_from, known_at, known_by, is_whole_at, is_held_at, AreWithin, piece_at, lacking_at}
+use Rattle.rk_log.specs.Parts.{bytes_in, lengths_in, copied_of, bytes_among, with_told_length, with_length, known_from, known_at, known_by, is_whole_at, is_held_at, AreWithin, piece_at, lacking_at}
 use Rattle.rk_log.proofs.Prefixes.{prefix_len_same, list_all_front}
-use Rattle.rk_log.proofs.KnownLaws.{told_none, known_before, known_behind, known_within, known_from_told, known_from_set, known_from_other}
+use Rattle.rk_log.proofs.KnownLaws.{told_none, known_in_order, known_before, known_behind, known_within, known_from_told, known_from_set, known_from_other}
 
 -- ---- segments by their numbers
 
@@ -179,11 +179,11 @@ with_length_at first number backup size k lists e =
     ∙ ap (λ (n : ℕ). set lists n (with_told_length backup size (get_or lists n []))) place
 
 -- what it tells of these segments
-pub known_from_with_length : (first number backup size : ℕ) (lists : List (List ℕ)) (others : Known) (k : ℕ) → first + k ≡ number → k < length lists → backup < length (get_or lists k [])
+pub known_from_with_length : (first number backup size : ℕ) (lists : List (List ℕ)) (others : Known) (k : ℕ) → first + k ≡ number → k < length lists → backup < length (get_or lists k []) → IsInOrder others
     → known_from backup first (with_length first number backup size lists) others ≡ told (known_from backup first lists others) number size
-known_from_with_length first number backup size lists others k e h w =
+known_from_with_length first number backup size lists others k e h w order =
     ap (λ (l : List (List ℕ)). known_from backup first l others) (with_length_at first number backup size k lists e)
-    ∙ known_from_set backup first lists others k number size e h w
+    ∙ known_from_set backup first lists others k number size e h w order
 
 -- what it tells changes nothing at another backup
 pub known_from_teller : (first number backup teller size : ℕ) (lists : List (List ℕ)) (others : Known) → (backup ≡ teller → ⊥)
@@ -236,11 +236,11 @@ told_at : (main sides : List (List ℕ)) (number backup size : ℕ) → length m
     → known_at (with_length FIRST_SEGMENT number backup size main) (with_length FIRST_SIDE_SEGMENT number backup size sides) backup ≡ told (known_at main sides backup) number size
 told_at main sides number backup size few wide_main wide_sides (among_main k e h) none =
     ap (λ (s : List (List ℕ)). known_at (with_length FIRST_SEGMENT number backup size main) s backup) (with_length_before FIRST_SIDE_SEGMENT number backup size sides (omega arith))
-    ∙ known_from_with_length FIRST_SEGMENT number backup size main (known_from backup FIRST_SIDE_SEGMENT sides nothing) k e h (wide_main k h)
+    ∙ known_from_with_length FIRST_SEGMENT number backup size main (known_from backup FIRST_SIDE_SEGMENT sides nothing) k e h (wide_main k h) (known_in_order backup FIRST_SIDE_SEGMENT sides nothing tt)
 told_at main sides number backup size few wide_main wide_sides (among_sides k e h) none =
     ap (λ (m : List (List ℕ)). known_at m (with_length FIRST_SIDE_SEGMENT number backup size sides) backup) (with_length_past FIRST_SEGMENT number backup size main (omega arith))
-    ∙ ap (known_from backup FIRST_SEGMENT main) (known_from_with_length FIRST_SIDE_SEGMENT number backup size sides nothing k e h (wide_sides k h))
-    ∙ known_from_told backup FIRST_SEGMENT main (known_from backup FIRST_SIDE_SEGMENT sides nothing) number size
+    ∙ ap (known_from backup FIRST_SEGMENT main) (known_from_with_length FIRST_SIDE_SEGMENT number backup size sides nothing k e h (wide_sides k h) tt)
+    ∙ known_from_told backup FIRST_SEGMENT main (known_from backup FIRST_SIDE_SEGMENT sides nothing) number size (known_in_order backup FIRST_SIDE_SEGMENT sides nothing tt)
 told_at main sides number backup size few wide_main wide_sides (nowhere a b) none =
     (λ i. known_at (with_length_apart FIRST_SEGMENT number backup size main a i) (with_length_apart FIRST_SIDE_SEGMENT number backup size sides b i) backup)
     ∙ sym (told_none (known_at main sides backup) number)
@@ -253,8 +253,10 @@ pub known_told : (backups : ℕ) (main sides : List (List ℕ)) (number backup s
     → known_by backups (with_length FIRST_SEGMENT number backup size main) (with_length FIRST_SIDE_SEGMENT number backup size sides)
     ≡ set (known_by backups main sides) backup (told (get_or (known_by backups main sides) backup nothing) number size)
 known_told backups main sides number backup size within few wide_main wide_sides none =
+    let now : Known = told (get_or (known_by backups main sides) backup nothing) number size in
     same_lists _ _
-    (length-known_by backups (with_length FIRST_SEGMENT number backup size main) (with_length FIRST_SIDE_SEGMENT number backup size sides) ∙ sym (length-set (known_by backups main sides) backup (told (get_or (known_by backups main sides) backup nothing) number size) ∙ length-known_by backups main sides))
+    (length-known_by backups (with_length FIRST_SEGMENT number backup size main) (with_length FIRST_SIDE_SEGMENT number backup size sides)
+    ∙ sym (length-set (known_by backups main sides) backup now ∙ length-known_by backups main sides))
     (λ k d h.
     let below : k < backups = omega (arith, length-known_by backups (with_length FIRST_SEGMENT number backup size main) (with_length FIRST_SIDE_SEGMENT number backup size sides)) in
     known_of_backup backups (with_length FIRST_SEGMENT number backup size main) (with_length FIRST_SIDE_SEGMENT number backup size sides) k d below
@@ -263,9 +265,10 @@ known_told backups main sides number backup size within few wide_main wide_sides
     ap (known_at (with_length FIRST_SEGMENT number backup size main) (with_length FIRST_SIDE_SEGMENT number backup size sides)) same
     ∙ told_at main sides number backup size few wide_main wide_sides (place_of (length main) (length sides) number few) none
     ∙ ap (λ (m : Known). told m number size) (sym (known_of_backup backups main sides backup nothing within))
-    ∙ sym (ap (λ (n : ℕ). get_or (set (known_by backups main sides) backup (told (get_or (known_by backups main sides) backup nothing) number size)) n d) same ∙ get_or-set_same (known_by backups main sides) backup (told (get_or (known_by backups main sides) backup nothing) number size) d (omega (arith, length-known_by backups main sides))))
+    ∙ sym (ap (λ (n : ℕ). get_or (set (known_by backups main sides) backup now) n d) same
+    ∙ get_or-set_same (known_by backups main sides) backup now d (omega (arith, length-known_by backups main sides))))
     (λ (other : k ≡ backup → ⊥).
     ap (λ (m : Known). known_from k FIRST_SEGMENT (with_length FIRST_SEGMENT number backup size main) m) (known_from_teller FIRST_SIDE_SEGMENT number k backup size sides nothing other)
     ∙ known_from_teller FIRST_SEGMENT number k backup size main (known_from k FIRST_SIDE_SEGMENT sides nothing) other
-    ∙ sym (get_or-set_other (known_by backups main sides) backup k (told (get_or (known_by backups main sides) backup nothing) number size) d other ∙ known_of_backup backups main sides k d below))
+    ∙ sym (get_or-set_other (known_by backups main sides) backup k now d other ∙ known_of_backup backups main sides k d below))
     (cases_eq k backup))

@@ -9,21 +9,19 @@ use Rattle.std.proofs.lemmas.Bool.{cases_lt}
 use Rattle.std.proofs.lemmas.List.{length-map, get_or-map, map-set}
 use Rattle.std.proofs.lemmas.List.Folds.{find-append}
 use Rattle.std.proofs.lemmas.Option.{slice_get-map, slice_get_within, get_or_from_slice_get}
-use Rattle.rk_entry.specs.declared.entry.Entry.{Entry}
 use Rattle.rk_entry.specs.declared.lists.TheConstants.{FIRST_SIDE_SEGMENT}
 use Rattle.rk_segment.specs.Segment.{NumberedBytes}
 use Rattle.rk_log.specs.declared.copied.Copied.{Copied}
 use Rattle.rk_log.specs.declared.copied.TheConstants.{FIRST_SEGMENT}
 use Rattle.rk_log.specs.declared.cursor.Cursor.{Cursor}
-use Rattle.rk_log.specs.declared.ends.EntryEnd.{EntryEnd}
 use Rattle.rk_log.specs.Cut.{in_last}
 use Rattle.rk_log.specs.Known.{Known, known_length, is_whole}
 use Rattle.rk_log.specs.Log.{Log, numbered, segment_of, segments, bytes_of, IsBackup, is_held, committed, missing, pending, is_side_stored}
-use Rattle.rk_log.specs.Kept.{bytes_in, lengths_in, copied_of, bytes_among, known_at, known_by, log_of, is_whole_at, AreWithin, lacking_at, IsCursor, IsKept}
+use Rattle.rk_log.specs.Parts.{Parts, bytes_in, lengths_in, copied_of, bytes_among, known_at, known_by, log_of, is_whole_at, AreWithin, lacking_at, IsCursor, IsConsistent}
 use Rattle.rk_log.proofs.Prefixes.{pass_then}
 use Rattle.rk_log.proofs.Cuts.{length-ends}
 use Rattle.rk_log.proofs.Lookups.{copied_before, copied_at, shown, find_numbered, bytes_are, lacking_is, main_length, side_length, known_of_backup, length-known_by, all_reach, committed_is}
-use Rattle.rk_log.proofs.Keeping.{places_within, count_within}
+use Rattle.rk_log.proofs.Consistency.{places_within, count_within}
 
 -- what follows where a call succeeds
 pub on_true : {A E : Type 0} (b : Bool) (r : Result A E) (P Q : Type 0) → b ≡ is_ok r → OnOk r P → (P → Q) → OnTrue b Q
@@ -49,37 +47,37 @@ nothing_by backups = every backups 0
     every (suc n) from = ap (λ (more : List Known). nothing ∷ more) (every n (from + 1))
 
 -- a backup has a place
-pub backup_at : (entries : List Entry) (main sides : List Copied) (cursors : List Cursor) (log : Log) (backup : ℕ) → log_of entries main sides cursors ≡ log → IsBackup log backup → backup - 1 < length cursors
-backup_at entries main sides cursors log backup is numbered =
-    let own : IsBackup (log_of entries main sides cursors) backup = subst (λ (l : Log). IsBackup l backup) (sym is) numbered in
-    omega (arith, own.first, own.last, length-known_by (length cursors) (lengths_in main) (lengths_in sides))
+pub backup_at : (parts : Parts) (log : Log) (backup : ℕ) → log_of parts ≡ log → IsBackup log backup → backup - 1 < length parts.cursors
+backup_at parts log backup is numbered =
+    let own : IsBackup (log_of parts) backup = subst (λ (l : Log). IsBackup l backup) (sym is) numbered in
+    omega (arith, own.first, own.last, length-known_by (length parts.cursors) (lengths_in parts.main) (lengths_in parts.sides))
 
 -- the bytes of a segment
-pub bytes_of_is : (entries : List Entry) (places : List EntryEnd) (count : ℕ) (main sides : List Copied) (cursors : List Cursor) (number : ℕ) → IsKept entries places count main sides cursors
-    → bytes_of (log_of entries main sides cursors) number ≡ bytes_among number main sides
-bytes_of_is entries places count main sides cursors number kept =
-    ap (λ (s : List (List ℕ)). option_map_or (λ (segment : NumberedBytes). segment.bytes) (segment_of number (numbered FIRST_SEGMENT s ++ numbered FIRST_SIDE_SEGMENT (bytes_in sides))) []) (sym kept.cut_is)
-    ∙ bytes_are number main sides
+pub bytes_of_is : (parts : Parts) (number : ℕ) → IsConsistent parts
+    → bytes_of (log_of parts) number ≡ bytes_among number parts.main parts.sides
+bytes_of_is parts number consistent =
+    ap (λ (s : List (List ℕ)). option_map_or (λ (segment : NumberedBytes). segment.bytes) (segment_of number (numbered FIRST_SEGMENT s ++ numbered FIRST_SIDE_SEGMENT (bytes_in parts.sides))) []) (sym consistent.cut_is)
+    ∙ bytes_are number parts.main parts.sides
 
 -- how many entries are committed
-pub committed_of_is : (entries : List Entry) (places : List EntryEnd) (count : ℕ) (main sides : List Copied) (cursors : List Cursor) → IsKept entries places count main sides cursors
-    → committed (log_of entries main sides cursors) ≡ count
-committed_of_is entries places count main sides cursors kept =
-    ap (prefix_len (is_held (known_by (length cursors) (lengths_in main) (lengths_in sides)))) (sym kept.places_are)
-    ∙ committed_is (length cursors) (lengths_in main) (lengths_in sides) places within (omega (arith, counts, kept.few_main))
-    (λ k h. omega (arith, (kept.main_known k h).each, kept.last_backup))
-    ∙ sym kept.count_is
+pub committed_of_is : (parts : Parts) → IsConsistent parts
+    → committed (log_of parts) ≡ parts.committed
+committed_of_is parts consistent =
+    ap (prefix_len (is_held (log_of parts).known)) (sym consistent.places_are)
+    ∙ committed_is (length parts.cursors) (lengths_in parts.main) (lengths_in parts.sides) parts.ends within (omega (arith, counts, consistent.few_main))
+    (λ k h. omega (arith, (consistent.main_known k h).each, consistent.last_backup))
+    ∙ sym consistent.count_is
   where
-    counts : length (lengths_in main) ≡ length main
-    counts = length-map main (λ (c : Copied). c.known)
+    counts : length (lengths_in parts.main) ≡ length parts.main
+    counts = length-map parts.main (λ (c : Copied). c.known)
 
-    within : AreWithin (length (lengths_in main)) places
-    within = subst (λ (n : ℕ). AreWithin n places) (sym counts) (places_within entries places count main sides cursors kept)
+    within : AreWithin (length (lengths_in parts.main)) parts.ends
+    within = subst (λ (n : ℕ). AreWithin n parts.ends) (sym counts) (places_within parts consistent)
 
 -- no more than there are
-pub committed_within : (entries : List Entry) (places : List EntryEnd) (count : ℕ) (main sides : List Copied) (cursors : List Cursor) → IsKept entries places count main sides cursors → count ≤ length entries
-committed_within entries places count main sides cursors kept =
-    omega (arith, count_within entries places count main sides cursors kept, ap length kept.places_are, length-ends [] entries)
+pub committed_within : (parts : Parts) → IsConsistent parts → parts.committed ≤ length parts.entries
+committed_within parts consistent =
+    omega (arith, count_within parts consistent, ap length consistent.places_are, length-ends [] parts.entries)
 
 -- whether a segment lacks bytes
 abbrev lacks : Known → NumberedBytes → Bool
@@ -104,51 +102,57 @@ pending_among known backup main sides of_main of_sides =
     either (Some x) b = refl
     either None b = refl
 
+-- what the parts tell of one backup
+abbrev own_known : Parts → ℕ → Known
+own_known parts backup = known_at (lengths_in parts.main) (lengths_in parts.sides) (backup - 1)
+
 -- what a backup is to be sent
-pub pending_is : (entries : List Entry) (places : List EntryEnd) (count : ℕ) (main sides : List Copied) (cursors : List Cursor) (log : Log) (backup : ℕ) (cursor : Cursor)
-    → IsKept entries places count main sides cursors → log_of entries main sides cursors ≡ log → IsBackup log backup → IsCursor (backup - 1) main sides cursor
+pub pending_is : (parts : Parts) (log : Log) (backup : ℕ) (cursor : Cursor)
+    → IsConsistent parts → log_of parts ≡ log → IsBackup log backup → IsCursor (backup - 1) parts.main parts.sides cursor
     → pending log backup
-    ≡ option_or (lacking_at (backup - 1) FIRST_SEGMENT main (cursor.main + prefix_len (is_whole_at (backup - 1)) (drop cursor.main main)))
-    (lacking_at (backup - 1) FIRST_SIDE_SEGMENT sides (cursor.sides + prefix_len (is_whole_at (backup - 1)) (drop cursor.sides sides)))
-pending_is entries places count main sides cursors log backup cursor kept is numbered_from at =
+    ≡ option_or (lacking_at (backup - 1) FIRST_SEGMENT parts.main (cursor.main + prefix_len (is_whole_at (backup - 1)) (drop cursor.main parts.main)))
+    (lacking_at (backup - 1) FIRST_SIDE_SEGMENT parts.sides (cursor.sides + prefix_len (is_whole_at (backup - 1)) (drop cursor.sides parts.sides)))
+pending_is parts log backup cursor consistent is numbered_from at =
     ap (λ (l : Log). pending l backup) (sym is)
-    ∙ ap (λ (known : Known). option_map (missing known) (find (lacks known) (segments (log_of entries main sides cursors))))
-    (known_of_backup (length cursors) (lengths_in main) (lengths_in sides) (backup - 1) nothing (backup_at entries main sides cursors log backup is numbered_from))
-    ∙ ap (λ (s : List (List ℕ)). option_map (missing (known_at (lengths_in main) (lengths_in sides) (backup - 1))) (find (lacks (known_at (lengths_in main) (lengths_in sides) (backup - 1))) (numbered FIRST_SEGMENT s ++ numbered FIRST_SIDE_SEGMENT (bytes_in sides)))) (sym kept.cut_is)
-    ∙ pending_among (known_at (lengths_in main) (lengths_in sides) (backup - 1)) (backup - 1) main sides
-    (λ k q e h. main_length (lengths_in main) (lengths_in sides) (backup - 1) k q e (omega (arith, length-map main (λ (c : Copied). c.known))) few)
-    (λ k q e h. side_length (lengths_in main) (lengths_in sides) (backup - 1) k q e (omega (arith, length-map sides (λ (c : Copied). c.known))) few)
+    ∙ ap (λ (known : Known). option_map (missing known) (find (lacks known) (segments (log_of parts))))
+    (known_of_backup (length parts.cursors) (lengths_in parts.main) (lengths_in parts.sides) (backup - 1) nothing (backup_at parts log backup is numbered_from))
+    ∙ ap (λ (s : List (List ℕ)). option_map (missing (own_known parts backup)) (find (lacks (own_known parts backup)) (numbered FIRST_SEGMENT s ++ numbered FIRST_SIDE_SEGMENT (bytes_in parts.sides)))) (sym consistent.cut_is)
+    ∙ pending_among (own_known parts backup) (backup - 1) parts.main parts.sides
+    (λ k q e h. main_length (lengths_in parts.main) (lengths_in parts.sides) (backup - 1) k q e (omega (arith, length-map parts.main (λ (c : Copied). c.known))) few)
+    (λ k q e h. side_length (lengths_in parts.main) (lengths_in parts.sides) (backup - 1) k q e (omega (arith, length-map parts.sides (λ (c : Copied). c.known))) few)
     ∙ (λ i. option_or
-    (lacking_at (backup - 1) FIRST_SEGMENT main (pass_then (is_whole_at (backup - 1)) main cursor.main (omega (arith, at.main_last)) at.main_whole i))
-    (lacking_at (backup - 1) FIRST_SIDE_SEGMENT sides (pass_then (is_whole_at (backup - 1)) sides cursor.sides at.sides_within at.sides_whole i)))
+    (lacking_at (backup - 1) FIRST_SEGMENT parts.main (pass_then (is_whole_at (backup - 1)) parts.main cursor.main (omega (arith, at.main_last)) at.main_whole i))
+    (lacking_at (backup - 1) FIRST_SIDE_SEGMENT parts.sides (pass_then (is_whole_at (backup - 1)) parts.sides cursor.sides at.sides_within at.sides_whole i)))
   where
-    few : length (lengths_in main) < FIRST_SIDE_SEGMENT
-    few = omega (arith, length-map main (λ (c : Copied). c.known), kept.few_main)
+    few : length (lengths_in parts.main) < FIRST_SIDE_SEGMENT
+    few = omega (arith, length-map parts.main (λ (c : Copied). c.known), consistent.few_main)
 
 -- whether all backups hold a side segment
-pub side_stored_is : (entries : List Entry) (places : List EntryEnd) (count : ℕ) (main sides : List Copied) (cursors : List Cursor) (number : ℕ) (o : Option Copied) → IsKept entries places count main sides cursors
-    → copied_of FIRST_SIDE_SEGMENT number sides ≡ o
-    → is_side_stored (log_of entries main sides cursors) number ≡ option_map_or (λ (c : Copied). list_all (leb (length c.segment.bytes)) (take (length cursors) c.known)) o false
-side_stored_is entries places count main sides cursors number o kept found =
-    ap (λ (s : Option NumberedBytes). option_map_or (stored_by (known_by (length cursors) (lengths_in main) (lengths_in sides))) s false) (find_numbered number FIRST_SIDE_SEGMENT sides ∙ ap (option_map (shown number)) found)
+pub side_stored_is : (parts : Parts) (number : ℕ) (o : Option Copied) → IsConsistent parts
+    → copied_of FIRST_SIDE_SEGMENT number parts.sides ≡ o
+    → is_side_stored (log_of parts) number ≡ option_map_or (λ (c : Copied). list_all (leb (length c.segment.bytes)) (take (length parts.cursors) c.known)) o false
+side_stored_is parts number o consistent found =
+    ap (λ (s : Option NumberedBytes). option_map_or (stored_by (log_of parts).known) s false) (find_numbered number FIRST_SIDE_SEGMENT parts.sides ∙ ap (option_map (shown number)) found)
     ∙ by_case o found
   where
-    few : length (lengths_in main) < FIRST_SIDE_SEGMENT
-    few = omega (arith, length-map main (λ (c : Copied). c.known), kept.few_main)
+    few : length (lengths_in parts.main) < FIRST_SIDE_SEGMENT
+    few = omega (arith, length-map parts.main (λ (c : Copied). c.known), consistent.few_main)
 
-    at_place : (c : Copied) (k : ℕ) → FIRST_SIDE_SEGMENT + k ≡ number → slice_get sides k ≡ Some c → (stored_by (known_by (length cursors) (lengths_in main) (lengths_in sides))) (shown number c) ≡ list_all (leb (length c.segment.bytes)) (take (length cursors) c.known)
+    at_place : (c : Copied) (k : ℕ) → FIRST_SIDE_SEGMENT + k ≡ number → slice_get parts.sides k ≡ Some c → (stored_by (log_of parts).known) (shown number c) ≡ list_all (leb (length c.segment.bytes)) (take (length parts.cursors) c.known)
     at_place c k e there =
-        let lengths : get_or (lengths_in sides) k [] ≡ c.known = get_or_from_slice_get (lengths_in sides) k c.known [] (slice_get-map (λ (x : Copied). x.known) sides k ∙ ap (option_map (λ (x : Copied). x.known)) there) in
-        let within : k < length (lengths_in sides) = omega (arith, slice_get_within sides k c there, length-map sides (λ (x : Copied). x.known)) in
-        all_reach (length cursors) (lengths_in main) (lengths_in sides) number (length c.segment.bytes) c.known
-        (omega (arith, ap length lengths, (kept.sides_known k within).each, kept.last_backup))
-        (λ backup. side_length (lengths_in main) (lengths_in sides) backup k number e within few ∙ ap (λ (l : List ℕ). get_or l backup 0) lengths)
+        let lengths : get_or (lengths_in parts.sides) k [] ≡ c.known = get_or_from_slice_get (lengths_in parts.sides) k c.known [] (slice_get-map (λ (x : Copied). x.known) parts.sides k ∙ ap (option_map (λ (x : Copied). x.known)) there) in
+        let within : k < length (lengths_in parts.sides) = omega (arith, slice_get_within parts.sides k c there, length-map parts.sides (λ (x : Copied). x.known)) in
+        all_reach (length parts.cursors) (lengths_in parts.main) (lengths_in parts.sides) number (length c.segment.bytes) c.known
+        (omega (arith, ap length lengths, (consistent.sides_known k within).each, consistent.last_backup))
+        (λ backup. side_length (lengths_in parts.main) (lengths_in parts.sides) backup k number e within few ∙ ap (λ (l : List ℕ). get_or l backup 0) lengths)
 
-    by_case : (o : Option Copied) → copied_of FIRST_SIDE_SEGMENT number sides ≡ o → option_map_or (stored_by (known_by (length cursors) (lengths_in main) (lengths_in sides))) (option_map (shown number) o) false ≡ option_map_or (λ (c : Copied). list_all (leb (length c.segment.bytes)) (take (length cursors) c.known)) o false
+    by_case : (o : Option Copied) → copied_of FIRST_SIDE_SEGMENT number parts.sides ≡ o
+        → option_map_or (stored_by (log_of parts).known) (option_map (shown number) o) false
+        ≡ option_map_or (λ (c : Copied). list_all (leb (length c.segment.bytes)) (take (length parts.cursors) c.known)) o false
     by_case None e = refl
     by_case (Some c) e =
         ⊎_elim
-        (λ (h : number < FIRST_SIDE_SEGMENT). let none : None ≡ Some c = sym (copied_before FIRST_SIDE_SEGMENT number sides h) ∙ e in absurd (cc))
+        (λ (h : number < FIRST_SIDE_SEGMENT). let none : None ≡ Some c = sym (copied_before FIRST_SIDE_SEGMENT number parts.sides h) ∙ e in absurd (cc))
         (λ (h : FIRST_SIDE_SEGMENT ≤ number).
-        at_place c (number - FIRST_SIDE_SEGMENT) (omega arith) (sym (copied_at FIRST_SIDE_SEGMENT number sides (number - FIRST_SIDE_SEGMENT) (omega arith)) ∙ e))
+        at_place c (number - FIRST_SIDE_SEGMENT) (omega arith) (sym (copied_at FIRST_SIDE_SEGMENT number parts.sides (number - FIRST_SIDE_SEGMENT) (omega arith)) ∙ e))
         (cases_lt number FIRST_SIDE_SEGMENT)

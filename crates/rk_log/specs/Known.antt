@@ -1,5 +1,5 @@
 -- What a backup is known to hold of the segments of a log.
-use Rattle.std.specs.Prelude.{ℕ, Bool, nat_lt, nat_le, if◌then◌else◌, length, [], Option}
+use Rattle.std.specs.Prelude.{ℕ, Bool, nat_lt, nat_le, if◌then◌else◌, length, []}
 use Rattle.rk_types.specs.NumberMap.{NumberMap, get_or, insert}
 use Rattle.rk_segment.specs.Segment.{NumberedBytes}
 use Rattle.rk_log.specs.declared.ends.EntryEnd.{EntryEnd}

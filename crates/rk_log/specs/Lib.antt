@@ -2,5 +2,5 @@ pub mod Piece
 pub mod Cut
 pub mod Known
 pub mod Log
-pub mod Kept
+pub mod Parts
 pub mod Stored

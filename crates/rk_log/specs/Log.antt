@@ -89,7 +89,7 @@ overreach log segment size =
 abbrev pub is_held : List Known → EntryEnd → Bool
 is_held known end = list_all (λ backup. reaches backup end) known
 
--- how many first entries every backup is known to hold
+-- how many entries, counted from the first, every backup is known to hold
 abbrev pub committed : Log → ℕ
 committed log = prefix_len (is_held log.known) (ends log.entries)
 

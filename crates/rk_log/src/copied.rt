@@ -3,7 +3,7 @@ ghost use Rattle.std.specs.List.{list_all, prefix_len};
 ghost use Rattle.std.specs.Option.{option_copied};
 ghost use Rattle.std.specs.Bool.{OnTrue, OnFalse};
 ghost use Rattle.rk_log.specs.Cut.{has_room, in_last, with_bytes};
-ghost use Rattle.rk_log.specs.Kept.{none_known, bytes_in, lengths_in, is_whole_at, with_length, copied_of, bytes_among};
+ghost use Rattle.rk_log.specs.Parts.{none_known, bytes_in, lengths_in, is_whole_at, with_length, copied_of, bytes_among};
 
 use rk_entry::FIRST_SIDE_SEGMENT;
 use rk_segment::Segment;
@@ -13,10 +13,11 @@ use std::alloc::Global;
 /// Main segments are numbered from here on, side segments from [`FIRST_SIDE_SEGMENT`] on.
 pub(crate) const FIRST_SEGMENT: u32 = 1;
 
-/// The most backups that keep a log.
+/// The most backups that a log may have.
 pub const MOST_BACKUPS: usize = 4;
 
-/// A segment, and how many of its bytes each backup is known to hold.
+/// A segment, and how many of its bytes each backup is known to hold. Its place in its list tells its number: the one
+/// that it was made with is never read.
 #[derive(Debug, Drop)]
 pub(crate) struct Copied {
     pub(crate) segment: Segment,
@@ -52,13 +53,13 @@ impl Copied {
     }
 }
 
-// A new segment with these bytes, of which nothing is known to be held.
-fn begun(alloc: Global, number: u32, bytes: &[u8]) -> Result<Copied, NoMemory>
+// A new segment with these bytes, of which nothing is known to be held. Its number is not read.
+fn begun(alloc: Global, bytes: &[u8]) -> Result<Copied, NoMemory>
     requires { length bytes.now ≤ SEGMENT_BYTES }
     ensures bytes { IfOk result (λ copied. copied.segment.bytes ≡ bytes.now) }
     ensures known { IfOk result (λ copied. copied.known ≡ none_known) }
 {
-    let mut segment = Segment::new(alloc, number)?;
+    let mut segment = Segment::new(alloc, FIRST_SEGMENT)?;
     segment.append(bytes).unwrap();
     Ok(Copied::new(segment))
 }
@@ -78,11 +79,10 @@ fn put_in_last(main: &mut [Copied], bytes: &[u8]) -> bool
     main[count - 1].segment.append(bytes).is_ok()
 }
 
-/// Puts the bytes at the end of the last segment where they fit, and else into one more. After `NoMemory` nothing has
-/// changed. It takes memory only for a segment more.
+/// Puts the bytes at the end of the last segment where they fit, and else into a new one. After `NoMemory` nothing has
+/// changed. It takes memory only for a new segment.
 pub(crate) fn put_bytes(main: &mut Vec<Copied>, bytes: &[u8]) -> Result<(), NoMemory>
-    requires fits { length bytes.now ≤ SEGMENT_BYTES }
-    requires few { length main.old.items + 1 < FIRST_SIDE_SEGMENT }
+    requires { length bytes.now ≤ SEGMENT_BYTES }
     ensures bytes { OnOk result (bytes_in main.new.items ≡ with_bytes (bytes_in main.old.items) bytes.now) }
     ensures known { OnOk result (lengths_in main.new.items ≡ (if has_room (bytes_in main.old.items) bytes.now
         then lengths_in main.old.items else lengths_in main.old.items ++ none_known ∷ [])) }
@@ -91,12 +91,12 @@ pub(crate) fn put_bytes(main: &mut Vec<Copied>, bytes: &[u8]) -> Result<(), NoMe
     if put_in_last(main.as_mut_slice(), bytes) {
         return Ok(());
     }
-    let next = begun(*main.allocator(), main.len() as u32 + 1, bytes)?;
+    let next = begun(*main.allocator(), bytes)?;
     main.push(next)?;
     Ok(())
 }
 
-/// The segment of this number among those that are numbered from `first` on.
+/// The segment of this number, among segments that are numbered from `first` on.
 pub(crate) fn find(segments: &[Copied], first: u32, number: u32) -> Option<&Copied>
     ensures { option_copied result ≡ copied_of first number segments.now }
 {
@@ -106,8 +106,8 @@ pub(crate) fn find(segments: &[Copied], first: u32, number: u32) -> Option<&Copi
     segments.get((number - first) as usize)
 }
 
-/// Keeps that a backup holds so many bytes of the segment of this number, where it is among those that are numbered
-/// from `first` on, and no more are known.
+/// Notes that a backup holds so many bytes of the segment of this number, unless more are known or the segment is not
+/// among these, which are numbered from `first` on.
 pub(crate) fn raise(segments: &mut [Copied], first: u32, number: u32, backup: usize, length: u32)
     requires { backup < MOST_BACKUPS }
     ensures bytes { bytes_in segments.new ≡ bytes_in segments.old }
@@ -123,8 +123,8 @@ pub(crate) fn raise(segments: &mut [Copied], first: u32, number: u32, backup: us
     }
 }
 
-/// The place of the first segment from `from` on that a backup is not known to hold whole. It takes a step for each
-/// segment before it.
+/// The place of the first segment, from `from` on, that a backup is not known to hold whole: the end of the list where
+/// there is none. It takes a step for each segment that it passes.
 pub(crate) fn lacking_from(segments: &[Copied], backup: usize, from: usize) -> usize
     requires backup { backup < MOST_BACKUPS }
     requires from { from ≤ length segments.now }
@@ -137,7 +137,7 @@ pub(crate) fn lacking_from(segments: &[Copied], backup: usize, from: usize) -> u
     at
 }
 
-/// The bytes of the segment of this number, none where it is among neither.
+/// The bytes of the segment of this number; none where there is no such segment.
 pub(crate) fn bytes_among<'a>(main: &'a [Copied], sides: &'a [Copied], number: u32) -> &'a [u8]
     ensures bytes { result.now ≡ bytes_among number main.now sides.now }
     ensures within { length result.now ≤ SEGMENT_BYTES }

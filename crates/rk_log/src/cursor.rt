@@ -1,16 +1,17 @@
 ghost use Rattle.std.specs.Prelude.{◌≡◌, ◌<◌};
-ghost use Rattle.rk_log.specs.Kept.{IsCursor, cursor_at};
+ghost use Rattle.rk_log.specs.Parts.{IsCursor, cursor_at};
 
 use crate::copied::{Copied, MOST_BACKUPS, lacking_from};
 
-/// How many first segments a backup is known to hold whole; of the main ones never the last, which may still grow.
+/// A backup is known to hold so many segments whole, counted from the first; the last main segment, which may still
+/// grow, is never counted.
 #[derive(Clone, Copy, Debug, PartialEq, Eq)]
 pub(crate) struct Cursor {
     pub(crate) main: usize,
     pub(crate) sides: usize,
 }
 
-/// The furthest cursor of a backup that has come to this one. It takes a step for each segment between them.
+/// The furthest cursor of a backup, found from an earlier one. It takes a step for each segment between them.
 pub(crate) fn advanced(main: &[Copied], sides: &[Copied], backup: usize, cursor: Cursor) -> Cursor
     requires backup { backup < MOST_BACKUPS }
     requires cursor { IsCursor backup main.now sides.now cursor }

@@ -1,19 +1,19 @@
 ghost use Rattle.std.specs.Prelude.{◌≡◌, ◌+◌, ◌<◌, ◌≤◌, length, drop};
 ghost use Rattle.std.specs.List.{prefix_len};
 ghost use Rattle.rk_log.specs.Cut.{end_of};
-ghost use Rattle.rk_log.specs.Kept.{bytes_in, lengths_in, is_held_at, AreWithin};
+ghost use Rattle.rk_log.specs.Parts.{bytes_in, lengths_in, is_held_at, AreWithin};
 
 use crate::copied::{Copied, MOST_BACKUPS};
 use rk_entry::FIRST_SIDE_SEGMENT;
 
-/// Where the spelling of an entry ends: behind the byte `offset` of a main segment.
+/// Where the spelling of an entry ends: after the first `offset` bytes of a main segment.
 #[derive(Clone, Copy, Debug, PartialEq, Eq)]
 pub(crate) struct EntryEnd {
     pub(crate) segment: u32,
     pub(crate) offset: u32,
 }
 
-/// Where the last entry of these segments ends, of which there is one.
+/// Where the last entry of these segments ends. There is at least one segment.
 pub(crate) fn end_of(main: &[Copied]) -> EntryEnd
     requires some { 0 < length main.now }
     requires few { length main.now < FIRST_SIDE_SEGMENT }
@@ -35,8 +35,8 @@ fn is_held(main: &[Copied], backups: usize, end: EntryEnd) -> bool
     main[end.segment as usize - 1].is_held_to(end.offset, backups)
 }
 
-/// How many first entries each of the first backups is known to hold, where it is at least `from`. It takes a step for
-/// each entry more.
+/// How many entries, counted from the first, each of the first backups is known to hold, where it holds the first
+/// `from` of them. It takes a step for each entry beyond those.
 pub(crate) fn held_from(ends: &[EntryEnd], main: &[Copied], backups: usize, from: usize) -> usize
     requires backups { backups ≤ MOST_BACKUPS }
     requires within { AreWithin (length main.now) ends.now }

@@ -9,7 +9,8 @@ ghost use Rattle.rk_log.specs.Known.{known_length};
 ghost use Rattle.rk_log.specs.Log.{Log, IsBackup, HoldsEntry, committed, known_of, with_entry, with_side, with_told};
 ghost use Rattle.rk_log.specs.Stored.{spelled_in, stored_entries};
 
-/// Every backup is known to hold each committed entry, and no greater number of first entries is held so.
+/// Every backup is known to hold each committed entry; and where every backup is known to hold so many entries, counted
+/// from the first, at least as many are committed.
 pub fn committed_is_held_by_all()
     ensures held { (log : Log) (place backup : ℕ)
         → place < committed log → IsBackup log backup → HoldsEntry log backup place }
@@ -26,7 +27,7 @@ pub fn committed_stays()
         → committed log ≤ committed (with_told log backup segment told) }
 {}
 
-/// What a backup tells of a segment lowers no known length, and raises that one alone.
+/// What a backup tells of a segment lowers no known length, and raises none but that of this segment at this backup.
 pub fn known_lengths_never_fall()
     ensures greater { (log : Log) (backup segment told : ℕ) → IsBackup log backup
         → known_length (known_of (with_told log backup segment told) backup) segment
@@ -39,8 +40,8 @@ pub fn known_lengths_never_fall()
         → known_of (with_told log backup segment told) other ≡ known_of log other }
 {}
 
-/// The segments of entries are those of the first ones, filled up by the others; together they are the spellings of
-/// all, one after the other; and lawful entries are read again from them, also from where they are stored.
+/// Entries that are put behind others go on from the segments of those; all segments together are the spellings of the
+/// entries, one after the other; and lawful entries are read back from them, also from where they are stored.
 pub fn entries_fill_segments()
     ensures filled { (entries more : List Entry) → cut (entries ++ more) ≡ cut_after (cut entries) more }
     ensures whole { (entries : List Entry) → concat (cut entries) ≡ spelled_all entries }

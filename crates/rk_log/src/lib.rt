@@ -1,10 +1,10 @@
 //! The log of one master in one lane: entries cut into main segments, side segments beside them, and how much of each
-//! segment every backup is known to hold.
+//! segment each backup is known to hold.
 //!
 //! It stands on `rk_types`, `rk_entry` and `rk_segment`. What it promises: contracts see [`MasterLog`] as its entries,
-//! its side segments and the known lengths; main segments hold the spellings of the entries, each in the last segment
-//! where it fits; an entry is committed exactly where every backup is known to hold it and all before it, and stays so;
-//! a refusal and want of memory change nothing.
+//! its side segments and the known lengths; main segments hold the spellings of the entries, and an entry that does not
+//! fit into the last one begins the next; an entry is committed exactly when every backup is known to hold it and all
+//! before it, and stays so; a refusal and want of memory change nothing.
 #![tactic(auto)]
 
 pub use copied::MOST_BACKUPS;

@@ -21,7 +21,7 @@ pub struct MasterLog {
     entries: Vec<Entry>,
     // Where each entry ends.
     ends: Vec<EntryEnd>,
-    // How many first entries every backup is known to hold.
+    // Every backup is known to hold so many entries, counted from the first.
     committed: usize,
     main: Vec<Copied>,
     sides: Vec<Copied>,
@@ -29,26 +29,26 @@ pub struct MasterLog {
     cursors: Vec<Cursor>,
     // How many bytes all segments have.
     size: u64,
-    // The spelling of the last entry, kept for its memory.
+    // Where an entry is spelled before it goes into a segment; its memory is used again.
     spelling: Vec<u8>,
 }
 
 impl Model for MasterLog {
     ghost use Rattle.rk_log.specs.Log.{Log, log_code};
-    ghost use Rattle.rk_log.specs.Kept.{IsCounted, log_of};
 
     ghost Value = { Log };
 
     ghost coded = { log_code };
 
-    ghost view = { λ a. log_of a.entries.items a.main.items a.sides.items a.cursors.items };
+    ghost use Rattle.rk_log.specs.Parts.{IsCounted, log_of, parts_of};
 
-    ghost invariant = { λ a.
-        IsCounted a.entries.items a.ends.items a.committed a.main.items a.sides.items a.cursors.items a.size };
+    ghost view = { λ log. log_of (parts_of log) };
+
+    ghost invariant = { λ log. IsCounted (parts_of log) log.size };
 }
 
 impl MasterLog {
-    /// The log of no entries, kept at so many backups, which are numbered from 1.
+    /// The log of no entries, with so many backups, which are numbered from 1.
     pub fn new(alloc: Global, backups: u8) -> Result<MasterLog, NoMemory>
         requires first { 1 ≤ backups }
         requires last { backups ≤ MOST_BACKUPS }
@@ -69,7 +69,7 @@ impl MasterLog {
 
     /// Puts an entry at the end, and answers its place, which counts from 0. It goes into the last main segment where
     /// it fits, and else begins the next one, which takes the memory of a whole segment. After `NoMemory` nothing has
-    /// changed. It takes the time to spell the entry, and beside it a constant one on average.
+    /// changed. It takes the time to spell the entry, and a constant time besides, on average.
     pub fn append(&mut self, entry: Entry) -> Result<u64, NoMemory>
         requires lawful { IsLawfulEntry entry }
         requires fits { length (spelled entry) ≤ SEGMENT_BYTES }
@@ -92,15 +92,17 @@ impl MasterLog {
     }
 
     /// Puts a side segment beside the log, and answers the number that it has from now on, whatever number it was made
-    /// with. After `NoMemory` nothing has changed. It takes a constant time on average.
+    /// with. After `NoMemory`, which also comes where no number is left for another one, nothing has changed. It takes a
+    /// constant time on average.
     pub fn add_side(&mut self, segment: Segment) -> Result<u32, NoMemory>
-        requires filled { 0 < length segment.bytes }
-        requires room { segment_bytes self.old + length segment.bytes < 2 ^ 31 }
+        requires { segment_bytes self.old + length segment.bytes < 2 ^ 64 }
         ensures number { IfOk result (λ number. number ≡ FIRST_SIDE_SEGMENT + length self.old.sides) }
         ensures ok { OnOk result (self.new ≡ with_side self.old segment.bytes) }
         ensures err { OnErr result (self.new ≡ self.old) }
     {
-        let number = FIRST_SIDE_SEGMENT + self.sides.len() as u32;
+        let number = FIRST_SIDE_SEGMENT
+            .checked_add(self.sides.len() as u32)
+            .ok_or(NoMemory)?;
         let count = segment.length() as u64;
         self.sides.push(Copied::new(segment))?;
         self.size += count;
@@ -108,8 +110,8 @@ impl MasterLog {
     }
 
     /// The bytes that a backup is to be sent next: those of the first segment that it is not known to hold whole, main
-    /// segments first, from the known length on. None where it holds all. It takes the time to copy the bytes: it
-    /// begins at the backup's cursor, at most one segment behind which is held whole.
+    /// segments first, from the known length on. None where it holds all. It takes the time to copy the bytes: the
+    /// search begins at the backup's cursor, and passes at most one main segment, and side segments without bytes.
     pub fn pending(&self, backup: u8) -> Result<Option<Piece>, NoMemory>
         requires { IsBackup self.now backup }
         ensures { IfOk result (λ piece. piece ≡ pending self.now backup) }
@@ -125,9 +127,9 @@ impl MasterLog {
         pending_in(alloc, sides, FIRST_SIDE_SEGMENT, backup, cursor.sides)
     }
 
-    /// Keeps that a backup holds so many bytes of a segment, where no more are known. `Overreach` comes exactly where
-    /// the segment has fewer; one that there is not has none. Then nothing changes. It takes no memory, and a step for
-    /// each entry that it commits and each segment that the backup is now known to hold whole.
+    /// Notes that a backup holds so many bytes of a segment, unless more are known. `Overreach` comes exactly when the
+    /// segment has fewer, and then nothing changes; a segment that does not exist has none. It takes no memory, and a
+    /// step for each entry that it commits and each segment that the backup is now known to hold whole.
     pub fn stored(&mut self, backup: u8, segment: u32, length: u32) -> Result<(), Overreach>
         requires { IsBackup self.old backup }
         ensures ok { OnOk result (self.new ≡ with_told self.old backup segment length) }
@@ -186,7 +188,7 @@ impl MasterLog {
         self.size
     }
 
-    /// How many first entries every backup is known to hold, in constant time.
+    /// How many entries, counted from the first, every backup is known to hold, in constant time.
     pub fn committed(&self) -> u64
         ensures held { result ≡ committed self.now }
         ensures within { result ≤ length self.now.entries }
@@ -194,7 +196,7 @@ impl MasterLog {
         self.committed as u64
     }
 
-    /// Whether every backup is known to hold all of the side segment of this number; false where there is none, also for
+    /// Whether every backup is known to hold all of the side segment of this number; false where there is none, as for
     /// the number of a main segment. It takes a step for each backup.
     pub fn side_stored(&self, segment: u32) -> bool
         ensures { result ≡ is_side_stored self.now segment }

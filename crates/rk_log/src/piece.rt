@@ -1,13 +1,13 @@
 ghost use Rattle.std.specs.Prelude.{◌≡◌, ◌+◌, ◌<◌, ◌≤◌, ◌^◌, length, drop, slice_index, IfOk};
 ghost use Rattle.std.specs.List.{prefix_len};
-ghost use Rattle.rk_log.specs.Kept.{AreKnown, bytes_in, lengths_in, is_whole_at, lacking_at, piece_at};
+ghost use Rattle.rk_log.specs.Parts.{AreKnown, bytes_in, lengths_in, is_whole_at, lacking_at, piece_at};
 
 use crate::copied::{Copied, MOST_BACKUPS, lacking_from};
 use rk_types::NoMemory;
 use std::alloc::Global;
 use std::marker::Model;
 
-/// Bytes of a segment for a backup: those from the byte `at` on.
+/// Bytes of a segment that are to be sent to a backup: those from the byte `at` on, counted from 0.
 #[derive(Debug, Drop)]
 pub struct Piece {
     pub segment: u32,
@@ -38,8 +38,8 @@ fn missing(alloc: Global, number: u32, copied: &Copied, backup: usize) -> Result
     })
 }
 
-/// What a backup is not known to hold of the first segment that it does not hold whole, among those that are numbered
-/// from `first` on. It holds the first `from` of them whole.
+/// What a backup is not known to hold of the first segment that it does not hold whole, among segments that are numbered
+/// from `first` on, past the first `from` of them. None where it holds all of those.
 pub(crate) fn pending_in(
     alloc: Global,
     segments: &[Copied],

@@ -1,6 +1,6 @@
 use Rattle.std.proofs.Common.{◌≡◌, ◌+◌, ◌-◌, ◌≤◌, length, drop}
 use Rattle.std.specs.List.{prefix_len}
-use Rattle.rk_log.specs.Kept.{is_whole_at}
+use Rattle.rk_log.specs.Parts.{is_whole_at}
 use Rattle.rk_log.proofs.copied.lacking_from.Given as goal
 
 abbrev pub invariant-whole : goal.invariant-whole

@@ -2,7 +2,7 @@ use Rattle.std.proofs.Common.{◌≡◌, ◌∙◌, ◌-◌, ℕ, List, [], max,
 use Rattle.std.proofs.Math.Seq.{map-set_same}
 use Rattle.std.proofs.lemmas.List.{map-set, get_or-map}
 use Rattle.rk_log.specs.declared.copied.Copied.{Copied}
-use Rattle.rk_log.specs.Kept.{lengths_in}
+use Rattle.rk_log.specs.Parts.{lengths_in}
 use Rattle.rk_log.proofs.Lookups.{with_length_at}
 use Rattle.rk_log.proofs.copied.raise.Goals as goal
 

@@ -1,7 +1,7 @@
 use Rattle.std.proofs.Common.{◌≡◌, ◌∙◌, sym, arith}
 use Rattle.std.specs.Prelude.{min}
 use Rattle.std.specs.List.{prefix_len}
-use Rattle.rk_log.specs.Kept.{is_whole_at}
+use Rattle.rk_log.specs.Parts.{is_whole_at}
 use Rattle.rk_log.proofs.Prefixes.{pass_then}
 use Rattle.rk_log.proofs.cursor.advanced.Goals as goal
 

@@ -1,6 +1,6 @@
 use Rattle.std.proofs.Common.{◌≡◌, ◌+◌, ◌-◌, ◌≤◌, length, drop}
 use Rattle.std.specs.List.{prefix_len}
-use Rattle.rk_log.specs.Kept.{is_held_at, lengths_in}
+use Rattle.rk_log.specs.Parts.{is_held_at, lengths_in}
 use Rattle.rk_log.proofs.ends.held_from.Given as goal
 
 abbrev pub invariant-held : goal.invariant-held

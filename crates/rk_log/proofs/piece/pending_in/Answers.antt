@@ -5,7 +5,7 @@ use Rattle.std.proofs.lemmas.Option.{slice_get-get_or, slice_get_past}
 use Rattle.std.specs.Prelude.{slice_get}
 use Rattle.std.specs.Option.{option_map}
 use Rattle.rk_log.specs.declared.copied.Copied.{Copied}
-use Rattle.rk_log.specs.Kept.{piece_at, lacking_at}
+use Rattle.rk_log.specs.Parts.{piece_at, lacking_at}
 use Rattle.rk_log.proofs.piece.pending_in.Goals as goal
 
 pub missing-requires-clause-within : goal.missing-requires-clause-within

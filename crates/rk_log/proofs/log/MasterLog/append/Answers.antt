@@ -4,21 +4,16 @@ use Rattle.std.proofs.lemmas.Bool.{cond-true}
 use Rattle.rk_entry.specs.declared.entry.Entry.{Entry}
 use Rattle.rk_entry.specs.Spelling.{spelled}
 use Rattle.rk_log.specs.declared.copied.Copied.{Copied}
-use Rattle.rk_log.specs.declared.ends.EntryEnd.{EntryEnd}
 use Rattle.rk_log.specs.Cut.{end_of, has_room, with_bytes}
 use Rattle.rk_log.specs.Log.{segment_bytes}
-use Rattle.rk_log.specs.Kept.{bytes_in, lengths_in, none_known, log_of, IsKept}
-use Rattle.rk_log.proofs.Keeping.{kept_entry}
+use Rattle.rk_log.specs.Parts.{Parts, parts_of, bytes_in, lengths_in, none_known, log_of, IsConsistent, IsCounted}
+use Rattle.rk_log.proofs.Consistency.{with_entry_in, consistent_entry}
 use Rattle.rk_log.proofs.Changes.{size_entry, main_few, put_few, entry_shown}
 use Rattle.rk_log.proofs.log.MasterLog.append.Goals as goal
 
-pub put_bytes-requires-clause-few : goal.put_bytes-requires-clause-few
-put_bytes-requires-clause-few c =
-    main_few c.self.inside.entries.items c.self.inside.ends.items c.self.inside.committed c.self.inside.main.items c.self.inside.sides.items c.self.inside.cursors.items c.args.self.now c.self.invariant.kept c.self.view_is c.requires.room
-
 pub end_of-requires-clause-few : goal.end_of-requires-clause-few
 end_of-requires-clause-few c =
-    let few = main_few c.self.inside.entries.items c.self.inside.ends.items c.self.inside.committed c.self.inside.main.items c.self.inside.sides.items c.self.inside.cursors.items c.args.self.now c.self.invariant.kept c.self.view_is c.requires.room in
+    let few = main_few (parts_of c.self.inside) c.args.self.now c.self.invariant.consistent c.self.view_is c.requires.room in
     omega (arith, few, put_few c.self.inside.main.items c.put_bytes.new.main.items _ c.in_ok-put_bytes.ensures.known, ap length c.as_slice-2.ensures.value)
 
 -- the bytes that were put are those of the entry
@@ -38,28 +33,39 @@ ends_now c =
     c.push.ensures.items ∙ cond-true (is_ok c.push.result) _ _ stored
     ∙ (λ i. c.reserve-2.ensures.items i ++ (c.end_of.ensures ∙ ap (λ (m : List Copied). end_of (bytes_in m)) c.as_slice-2.ensures.value) i ∷ [])
 
-kept_now : (c : goal.After-self-1) → IsKept c.push-2.new.self.items c.push.new.self.items c.self.inside.committed c.put_bytes.new.main.items c.self.inside.sides.items c.self.inside.cursors.items
-kept_now c =
-    let few = main_few c.self.inside.entries.items c.self.inside.ends.items c.self.inside.committed c.self.inside.main.items c.self.inside.sides.items c.self.inside.cursors.items c.args.self.now c.self.invariant.kept c.self.view_is c.requires.room in
-    subst (λ (l : List Entry). IsKept l c.push.new.self.items c.self.inside.committed c.put_bytes.new.main.items c.self.inside.sides.items c.self.inside.cursors.items) (sym (entries_now c))
-    (subst (λ (l : List EntryEnd). IsKept (c.self.inside.entries.items ++ c.args.entry ∷ []) l c.self.inside.committed c.put_bytes.new.main.items c.self.inside.sides.items c.self.inside.cursors.items) (sym (ends_now c))
-    (kept_entry c.self.inside.entries.items c.self.inside.ends.items c.self.inside.committed c.self.inside.main.items c.self.inside.sides.items c.self.inside.cursors.items c.put_bytes.new.main.items c.args.entry c.self.invariant.kept
+-- the parts with it
+parts_now : (c : goal.After-self-1)
+    → with_entry_in (parts_of c.self.inside) c.put_bytes.new.main.items c.args.entry
+    ≡ record {
+      entries = c.push-2.new.self.items;
+      ends = c.push.new.self.items;
+      committed = c.self.inside.committed;
+      main = c.put_bytes.new.main.items;
+      sides = c.self.inside.sides.items;
+      cursors = c.self.inside.cursors.items;
+    }
+parts_now c = λ i. record (with_entry_in (parts_of c.self.inside) c.put_bytes.new.main.items c.args.entry) { entries = sym (entries_now c) i; ends = sym (ends_now c) i }
+
+consistent_now : (c : goal.After-self-1) → IsConsistent (with_entry_in (parts_of c.self.inside) c.put_bytes.new.main.items c.args.entry)
+consistent_now c =
+    consistent_entry (parts_of c.self.inside) c.put_bytes.new.main.items c.args.entry c.self.invariant.consistent
     (c.in_ok-put_bytes.ensures.bytes ∙ ap (with_bytes (bytes_in c.self.inside.main.items)) (spelling c))
     (subst
     (λ (l : List ℕ). lengths_in c.put_bytes.new.main.items ≡ cond (has_room (bytes_in c.self.inside.main.items) l) (lengths_in c.self.inside.main.items) (lengths_in c.self.inside.main.items ++ none_known ∷ []))
     (spelling c) c.in_ok-put_bytes.ensures.known)
-    few))
+    (main_few (parts_of c.self.inside) c.args.self.now c.self.invariant.consistent c.self.view_is c.requires.room)
 
 -- its bytes are counted
-size_now : (c : goal.After-self-1) → c.self.inside.size + c.len-count.result ≡ segment_bytes (log_of c.push-2.new.self.items c.put_bytes.new.main.items c.self.inside.sides.items c.self.inside.cursors.items)
+size_now : (c : goal.After-self-1) → c.self.inside.size + c.len-count.result ≡ segment_bytes (log_of (with_entry_in (parts_of c.self.inside) c.put_bytes.new.main.items c.args.entry))
 size_now c =
     let count : c.len-count.result ≡ length (spelled c.args.entry) = c.len-count.ensures ∙ c.encode.new.into.ok.0 ∙ ap length (c.in_ok-encode.ensures.ok ∙ ap (λ (l : List ℕ). l ++ spelled c.args.entry) c.clear.ensures.items) in
-    size_entry c.self.inside.entries.items c.self.inside.main.items c.self.inside.sides.items c.self.inside.cursors.items c.put_bytes.new.main.items c.push-2.new.self.items c.args.entry c.self.inside.size c.len-count.result c.self.invariant.size_is count (entries_now c)
+    size_entry (parts_of c.self.inside) c.put_bytes.new.main.items c.args.entry c.self.inside.size c.len-count.result c.self.invariant.size_is count
 
 pub invariant_of-self-2 : goal.invariant_of-self-2
-invariant_of-self-2 c = record { kept = kept_now c; size_is = size_now c }
+invariant_of-self-2 c =
+    subst (λ (parts : Parts). IsCounted parts (c.self.inside.size + c.len-count.result)) (parts_now c) (record { consistent = consistent_now c; size_is = size_now c })
 
 pub returns-clause-ok : goal.returns-clause-ok
 returns-clause-ok c =
-    ap (λ (l : List Entry). log_of l c.put_bytes.new.main.items c.self.inside.sides.items c.self.inside.cursors.items) (entries_now c)
-    ∙ entry_shown c.self.inside.entries.items c.self.inside.main.items c.self.inside.sides.items c.self.inside.cursors.items c.put_bytes.new.main.items _ c.args.entry c.args.self.now c.self.view_is c.in_ok-put_bytes.ensures.known
+    sym (ap log_of (parts_now c))
+    ∙ entry_shown (parts_of c.self.inside) c.put_bytes.new.main.items _ c.args.entry c.args.self.now c.self.view_is c.in_ok-put_bytes.ensures.known

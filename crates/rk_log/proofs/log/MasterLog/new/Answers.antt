@@ -1,5 +1,5 @@
 use Rattle.std.proofs.Common.{◌≡◌, ◌∙◌, length, sym}
-use Rattle.rk_log.specs.Kept.{bytes_in, lengths_in, known_by}
+use Rattle.rk_log.specs.Parts.{bytes_in, lengths_in, known_by}
 use Rattle.rk_log.proofs.Views.{nothing_by}
 use Rattle.rk_log.proofs.log.MasterLog.new.Goals as goal
 

@@ -8,6 +8,7 @@ use Rattle.rk_log.specs.declared.copied.Copied.{Copied}
 use Rattle.rk_log.specs.declared.copied.TheConstants.{FIRST_SEGMENT, MOST_BACKUPS}
 use Rattle.rk_log.specs.declared.cursor.Cursor.{Cursor}
 use Rattle.rk_log.specs.declared.ends.EntryEnd.{EntryEnd}
+use Rattle.rk_log.specs.declared.log.MasterLog.TheInside.{Inside}
 use Rattle.rk_log.specs.Piece.{PlacedBytes}
 use Rattle.rk_log.specs.Cut.{cut, ends}
 use Rattle.rk_log.specs.Log.{Log, segment_bytes}
@@ -58,13 +59,34 @@ known_at main sides backup = known_from backup FIRST_SEGMENT main (known_from ba
 abbrev pub known_by : ℕ → List (List ℕ) → List (List ℕ) → List Known
 known_by backups main sides = map (known_at main sides) (range_with_len 0 backups)
 
--- the log that these parts stand for
-abbrev pub log_of : List Entry → List Copied → List Copied → List Cursor → Log
-log_of entries main sides cursors =
+-- the parts of a log
+pub record Parts : Type 0 where
+  pub entries : List Entry
+  pub ends : List EntryEnd
+  pub committed : ℕ
+  pub main : List Copied
+  pub sides : List Copied
+  pub cursors : List Cursor
+
+-- the parts of a log's struct
+abbrev pub parts_of : Inside → Parts
+parts_of log =
     record {
-      entries = entries;
-      sides = bytes_in sides;
-      known = known_by (length cursors) (lengths_in main) (lengths_in sides);
+      entries = log.entries.items;
+      ends = log.ends.items;
+      committed = log.committed;
+      main = log.main.items;
+      sides = log.sides.items;
+      cursors = log.cursors.items;
+    }
+
+-- the log that these parts stand for
+abbrev pub log_of : Parts → Log
+log_of parts =
+    record {
+      entries = parts.entries;
+      sides = bytes_in parts.sides;
+      known = known_by (length parts.cursors) (lengths_in parts.main) (lengths_in parts.sides);
     }
 
 -- whether a backup is known to hold a segment whole
@@ -85,7 +107,7 @@ pub record IsKnown (bytes lengths : List ℕ) : Type 0 where
   pub each : length lengths ≡ MOST_BACKUPS
   pub within : (backup : ℕ) → slice_index lengths backup ≤ length bytes
 
--- each of these segments has
+-- so it is with each of these segments
 abbrev pub AreKnown : List (List ℕ) → List (List ℕ) → Type 0
 AreKnown bytes lengths = (k : ℕ) → k < length lengths → IsKnown (slice_index_or bytes k []) (slice_index_or lengths k [])
 
@@ -114,21 +136,20 @@ cursor_at backup main sides =
       sides = prefix_len (is_whole_at backup) sides;
     }
 
--- what the parts of a log keep
-pub record IsKept (entries : List Entry) (places : List EntryEnd) (count : ℕ) (main sides : List Copied) (cursors : List Cursor) : Type 0 where
-  pub cut_is : bytes_in main ≡ cut entries
-  pub places_are : places ≡ ends entries
-  pub count_is : count ≡ prefix_len (is_held_at (length cursors) (lengths_in main)) places
-  pub first_backup : 1 ≤ length cursors
-  pub last_backup : length cursors ≤ MOST_BACKUPS
-  pub few_main : length main < FIRST_SIDE_SEGMENT
-  pub few_sides : FIRST_SIDE_SEGMENT + length sides ≤ 2 ^ 32
-  pub main_known : AreKnown (bytes_in main) (lengths_in main)
-  pub sides_known : AreKnown (bytes_in sides) (lengths_in sides)
-  pub sides_filled : (k : ℕ) → k < length (bytes_in sides) → 0 < length (slice_index_or (bytes_in sides) k [])
-  pub cursors_are : (backup : ℕ) (d : Cursor) → backup < length cursors → IsCursor backup main sides (slice_index_or cursors backup d)
+-- the parts of a log agree with one another
+pub record IsConsistent (parts : Parts) : Type 0 where
+  pub cut_is : bytes_in parts.main ≡ cut parts.entries
+  pub places_are : parts.ends ≡ ends parts.entries
+  pub count_is : parts.committed ≡ prefix_len (is_held_at (length parts.cursors) (lengths_in parts.main)) parts.ends
+  pub first_backup : 1 ≤ length parts.cursors
+  pub last_backup : length parts.cursors ≤ MOST_BACKUPS
+  pub few_main : length parts.main < FIRST_SIDE_SEGMENT
+  pub few_sides : FIRST_SIDE_SEGMENT + length parts.sides ≤ 2 ^ 32
+  pub main_known : AreKnown (bytes_in parts.main) (lengths_in parts.main)
+  pub sides_known : AreKnown (bytes_in parts.sides) (lengths_in parts.sides)
+  pub cursors_are : (backup : ℕ) (d : Cursor) → backup < length parts.cursors → IsCursor backup parts.main parts.sides (slice_index_or parts.cursors backup d)
 
--- and the count of the bytes of all segments
-pub record IsCounted (entries : List Entry) (places : List EntryEnd) (count : ℕ) (main sides : List Copied) (cursors : List Cursor) (size : ℕ) : Type 0 where
-  pub kept : IsKept entries places count main sides cursors
-  pub size_is : size ≡ segment_bytes (log_of entries main sides cursors)
+-- and the count is that of the bytes of all segments
+pub record IsCounted (parts : Parts) (size : ℕ) : Type 0 where
+  pub consistent : IsConsistent parts
+  pub size_is : size ≡ segment_bytes (log_of parts)
