@@ -10,6 +10,5 @@ pub mod HandoverLaws
 pub mod PullingLaws
 pub mod RebuildingLaws
 pub mod FrameLaws
-pub mod Numbers
 pub mod Sums
 pub mod Traffic
