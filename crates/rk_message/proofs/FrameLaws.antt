@@ -28,7 +28,7 @@ use Rattle.rk_message.specs.declared.fields.TheConstants.{NODES_BYTES, TENURE_BY
 use Rattle.rk_message.specs.declared.calls.TheConstants.{LOOKUP_BYTES, LOCATED_BYTES}
 use Rattle.rk_message.specs.declared.replication.TheConstants.{APPEND_BYTES, STORED_BYTES}
 use Rattle.rk_message.specs.declared.handover.TheConstants.{PREPARE_BYTES, READY_BYTES, TRANSFER_BYTES, GRANT_BYTES}
-use Rattle.rk_message.specs.declared.pulling.TheConstants.{PULL_BYTES, PULLED_BYTES, HASH_BYTES, WANT_BYTES, GOT_BYTES}
+use Rattle.rk_message.specs.declared.pulling.TheConstants.{PULL_BYTES, HASH_BYTES, WANT_BYTES}
 use Rattle.rk_message.specs.declared.rebuilding.TheConstants.{MEMBER_BYTES, REBUILD_BYTES, READ_SEGMENT_BYTES, COPY_BYTES, REBUILT_BYTES}
 use Rattle.rk_message.specs.Kinds.{kind_of, kind_number, kind_numbered}
 use Rattle.rk_message.specs.Fields.{node_bytes, read_node}
@@ -38,7 +38,7 @@ use Rattle.rk_message.proofs.FieldLaws.{number_codec, node_codec, tenure_codec}
 use Rattle.rk_message.proofs.CallLaws.{request_codec, reply_codec, lookup_codec, located_codec, request_size, reply_size}
 use Rattle.rk_message.proofs.ReplicationLaws.{append_codec, stored_codec}
 use Rattle.rk_message.proofs.HandoverLaws.{prepare_codec, ready_codec, transfer_codec, grant_codec}
-use Rattle.rk_message.proofs.PullingLaws.{pull_codec, pulled_codec, want_codec, got_codec}
+use Rattle.rk_message.proofs.PullingLaws.{pull_codec, pulled_codec, pulled_size, want_codec, got_codec, got_size}
 use Rattle.rk_message.proofs.RebuildingLaws.{rebuild_codec, read_segment_codec, copy_codec, rebuilt_codec}
 
 -- ---- fields
@@ -164,9 +164,9 @@ lawful_size (bodies.Close body) h within = refl
 lawful_size (bodies.Transfer body) h within = list_length TRANSFER_BYTES END_BYTES LONGEST_BODY (length body.ends) (fields_count (bodies.Transfer body)) (omega arith) refl within
 lawful_size (bodies.Grant body) h within = list_length GRANT_BYTES END_BYTES LONGEST_BODY (length body.ends) (fields_count (bodies.Grant body)) (omega arith) refl within
 lawful_size (bodies.Pull body) h within = refl
-lawful_size (bodies.Pulled body) h within = at_least PULLED_BYTES (fields_count (bodies.Pulled body)) (omega arith)
+lawful_size (bodies.Pulled body) h within = pulled_size body h
 lawful_size (bodies.Want body) h within = list_length WANT_BYTES HASH_BYTES LONGEST_BODY (length body.hashes) (fields_count (bodies.Want body)) (omega arith) refl within
-lawful_size (bodies.Got body) h within = at_least GOT_BYTES (fields_count (bodies.Got body)) (omega arith)
+lawful_size (bodies.Got body) h within = got_size body h within
 lawful_size (bodies.Joined body) h within = refl
 lawful_size (bodies.Own body) h within = refl
 lawful_size (bodies.Release body) h within = refl

@@ -7,6 +7,7 @@ pub mod TextLaws
 pub mod CallLaws
 pub mod ReplicationLaws
 pub mod HandoverLaws
+pub mod EntriesLaws
 pub mod PullingLaws
 pub mod RebuildingLaws
 pub mod FrameLaws

@@ -19,7 +19,7 @@ use Rattle.rk_message.specs.declared.fields.TheConstants.{NODES_BYTES, TENURE_BY
 use Rattle.rk_message.specs.declared.calls.TheConstants.{REQUEST_BYTES, REPLY_BYTES, LOOKUP_BYTES, LOCATED_BYTES}
 use Rattle.rk_message.specs.declared.replication.TheConstants.{APPEND_BYTES, STORED_BYTES}
 use Rattle.rk_message.specs.declared.handover.TheConstants.{PREPARE_BYTES, READY_BYTES, TRANSFER_BYTES, GRANT_BYTES}
-use Rattle.rk_message.specs.declared.pulling.TheConstants.{PULL_BYTES, PULLED_BYTES, HASH_BYTES, WANT_BYTES, GOT_BYTES}
+use Rattle.rk_message.specs.declared.pulling.TheConstants.{PULL_BYTES, PULLED_BYTES, HASH_BYTES, WANT_BYTES, GOT_BYTES, SHORTEST_ENTRY}
 use Rattle.rk_message.specs.declared.rebuilding.TheConstants.{MEMBER_BYTES, REBUILD_BYTES, READ_SEGMENT_BYTES, COPY_BYTES, REBUILT_BYTES}
 use Rattle.rk_message.specs.Kinds.{kind_of, kind_number, kind_numbered}
 use Rattle.rk_message.specs.Fields.{node_bytes, IsLawfulNode, read_node, tenure_bytes, IsLawfulTenure, read_tenure}
@@ -118,9 +118,9 @@ is_size Close size = size == TENURE_BYTES
 is_size Transfer size = is_list_length TRANSFER_BYTES END_BYTES LONGEST_BODY size
 is_size Grant size = is_list_length GRANT_BYTES END_BYTES LONGEST_BODY size
 is_size Pull size = size == PULL_BYTES
-is_size Pulled size = nat_le PULLED_BYTES size
+is_size Pulled size = (size == PULLED_BYTES) || nat_le (PULLED_BYTES + SHORTEST_ENTRY) size
 is_size Want size = is_list_length WANT_BYTES HASH_BYTES LONGEST_BODY size
-is_size Got size = nat_le GOT_BYTES size
+is_size Got size = is_list_length GOT_BYTES HASH_BYTES LONGEST_BODY size || nat_le (GOT_BYTES + SHORTEST_ENTRY) size
 is_size Joined size = size == TENURE_BYTES
 is_size Own size = size == TENURE_BYTES
 is_size Release size = size == TENURE_BYTES

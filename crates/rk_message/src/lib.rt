@@ -6,9 +6,9 @@
 //! left; no frame begins another; a duplicate equals what it was made from.
 //!
 //! A [`Wire`] numbers messages from 1, in the order in which they are sent, hands each out until it is forgotten, and
-//! counts the bytes of their frames without walking over them. Contracts see it as a map by number, from numbers to
-//! messages, and the number sent. What it promises: the next number is free, so each names one message; a message stays
-//! as it was sent; only [`Wire::forget`] takes it away; want of memory and a number without a message change nothing.
+//! counts the bytes of their frames without walking over them. Contracts see the messages by number, and how many
+//! were sent. What it promises: the next number is free, so each names one message; a message stays as it was sent; only
+//! [`Wire::forget`] takes it away; want of memory and a number without a message change nothing.
 #![tactic(auto)]
 
 pub use calls::{Located, Lookup, Reply, Request};

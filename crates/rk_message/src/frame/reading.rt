@@ -17,8 +17,8 @@ use crate::handover::{
 use crate::kind::Kind;
 use crate::message::{Body, Message};
 use crate::pulling::{
-    GOT_BYTES, HASH_BYTES, PULL_BYTES, PULLED_BYTES, WANT_BYTES, read_got, read_pull, read_pulled,
-    read_want,
+    GOT_BYTES, HASH_BYTES, PULL_BYTES, PULLED_BYTES, SHORTEST_ENTRY, WANT_BYTES, read_got,
+    read_pull, read_pulled, read_want,
 };
 use crate::rebuilding::{
     COPY_BYTES, MEMBER_BYTES, READ_SEGMENT_BYTES, REBUILD_BYTES, REBUILT_BYTES, read_copy,
@@ -66,9 +66,9 @@ fn is_size(kind: Kind, size: u32) -> bool
         Kind::Transfer => is_list(TRANSFER_BYTES, END_BYTES, size),
         Kind::Grant => is_list(GRANT_BYTES, END_BYTES, size),
         Kind::Pull => size == PULL_BYTES,
-        Kind::Pulled => size >= PULLED_BYTES,
+        Kind::Pulled => size == PULLED_BYTES || size >= PULLED_BYTES + SHORTEST_ENTRY,
         Kind::Want => is_list(WANT_BYTES, HASH_BYTES, size),
-        Kind::Got => size >= GOT_BYTES,
+        Kind::Got => { is_list(GOT_BYTES, HASH_BYTES, size) || size >= GOT_BYTES + SHORTEST_ENTRY }
         Kind::Rebuild => is_list(REBUILD_BYTES, MEMBER_BYTES, size),
         Kind::Read => size == READ_SEGMENT_BYTES,
         Kind::Copy => size >= COPY_BYTES,
