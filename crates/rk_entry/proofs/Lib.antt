@@ -2,6 +2,7 @@ pub mod Loops
 pub mod Counts
 pub mod Sizes
 pub mod Tools
+pub mod Readings
 pub mod NumberLaws
 pub mod TextLaws
 pub mod EndLaws

@@ -7,14 +7,12 @@ use Rattle.std.specs.List.{AllByRecursion, flat_map}
 use Rattle.std.proofs.lemmas.List.{append-nil, drop_at, drop-drop}
 use Rattle.std.proofs.lemmas.List.Concat.{flat_map-cons}
 use Rattle.rk_entry.specs.declared.error.DecodeError.{DecodeError}
-use Rattle.rk_entry.specs.declared.error.DecodeError.TheVariants.{Cut, Bad, NoMemory}
 use Rattle.rk_entry.specs.declared.entry.Entry.{Entry}
-use Rattle.rk_entry.specs.Steps.{Fails, Gives}
 use Rattle.rk_entry.specs.Spelling.{spelled}
 use Rattle.rk_entry.specs.Lawful.{IsLawfulEntry}
 use Rattle.rk_entry.specs.Reading.{read_entry}
 use Rattle.rk_entry.specs.Entries.{StandsFirst, spelled_all, StandsNone, Stand, before_others, entries_within, entries_of}
-use Rattle.rk_entry.proofs.Tools.{IsBytes, ok_is}
+use Rattle.rk_entry.proofs.Tools.{IsBytes}
 use Rattle.rk_entry.proofs.EntryLaws.{entry_takes, entry_again, entry_shorter}
 
 -- ---- one entry
@@ -128,27 +126,6 @@ none_stands bytes fault read entry after lawful is = not_both fault (entry, afte
   where
     not_both : (fault : DecodeError) (x : Entry × List ℕ) → Err fault ≡ Ok x → ⊥
     not_both fault x e = cc
-
--- ---- decode
-
--- code that fails finds no spelling, unless memory ran out
-pub fails_only : (fault : DecodeError) (bytes : List ℕ) (entry : Entry) (rest : List ℕ) → Fails fault (read_entry bytes) → IsLawfulEntry entry → bytes ≡ spelled entry ++ rest
-    → Gives (λ (x : Entry × ℕ). x) (Err fault) (Ok (entry, length (spelled entry)))
-fails_only Cut bytes entry rest failed lawful is = absurd (none_stands bytes Cut failed entry rest lawful is)
-fails_only (Bad code) bytes entry rest failed lawful is = absurd (none_stands bytes (Bad code) failed entry rest lawful is)
-fails_only NoMemory bytes entry rest failed lawful is = tt
-
--- what is read is what is spelled
-pub reads_only : (bytes : List ℕ) (read : Entry) (left : List ℕ) (entry : Entry) (rest : List ℕ) → read_entry bytes ≡ Ok (read, left) → IsLawfulEntry entry → bytes ≡ spelled entry ++ rest
-    → Gives (λ (x : Entry × ℕ). x) (Ok (read, length bytes - length left)) (Ok (entry, length (spelled entry)))
-reads_only bytes read left entry rest is_read lawful is =
-    let same = ok_is (read, left) (entry, rest) (sym is_read ∙ ap read_entry is ∙ entry_again entry rest lawful) in
-    let left_is : left ≡ rest = ap (λ (x : Entry × List ℕ). x.1) same in
-    let count : length bytes - length left ≡ length (spelled entry) = omega (arith, ap length is, length-append (spelled entry) rest, ap length left_is) in
-    answer read entry (length bytes - length left) (length (spelled entry)) (ap (λ (x : Entry × List ℕ). x.0) same) count
-  where
-    answer : (a b : Entry) (m n : ℕ) → a ≡ b → m ≡ n → Gives (λ (x : Entry × ℕ). x) (Ok (a, m)) (Ok (b, n))
-    answer a b m n p q = cc
 
 -- ---- the loop over entries
 

@@ -10,7 +10,10 @@ pub use entry::{Carried, Entry, Joined, Refused};
 pub use error::{
     BAD_BODY_LENGTH, BAD_CHOICE, BAD_KEY, BAD_KIND, BAD_MARK, BAD_NUMBER, BAD_VALUE, DecodeError,
 };
-pub use kind::{END_BYTES, HEAD_BYTES, Kind, LONGEST_BODY};
+pub use kind::{
+    CARRIED_BYTES, END_BYTES, HEAD_BYTES, JOINED_BYTES, Kind, LONGEST_BODY, OBJECT_BYTES,
+    REFUSED_BYTES, TOMBSTONE_BYTES,
+};
 pub use laws::{item_length, one_spelling, round_trip};
 pub use lists::FIRST_SIDE_SEGMENT;
 pub use reading::decode;

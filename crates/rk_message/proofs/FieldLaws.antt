@@ -15,7 +15,7 @@ use Rattle.rk_entry.specs.Ends.{range_bytes}
 use Rattle.rk_entry.proofs.Counts.{length-number_bytes}
 use Rattle.rk_entry.proofs.TextLaws.{is_in_range_of}
 use Rattle.rk_entry.proofs.NumberLaws.{IsWide, wide8, wide16, wide32, wide64, number_takes, number_again}
-use Rattle.rk_entry.proofs.EndLaws.{range_takes, range_again, chosen}
+use Rattle.rk_entry.proofs.EndLaws.{chosen}
 use Rattle.rk_entry.proofs.FieldLaws.{ok_or_ok}
 use Rattle.rk_entry.proofs.Tools.{bind_ok, unless_ok, ok_is, Takes, takes_both, takes_weaker}
 use Rattle.rk_message.specs.Fields.{node_kind, node_number, node_bytes, IsLawfulNode, node_of, read_node, tenure_bytes, IsLawfulTenure, read_tenure, token_bytes, IsLawfulToken, read_token, IsAnyRange, read_any_range}

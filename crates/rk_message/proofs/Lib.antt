@@ -7,9 +7,9 @@ pub mod TextLaws
 pub mod CallLaws
 pub mod ReplicationLaws
 pub mod HandoverLaws
+pub mod EntriesLaws
 pub mod PullingLaws
 pub mod RebuildingLaws
 pub mod FrameLaws
-pub mod Numbers
 pub mod Sums
 pub mod Traffic

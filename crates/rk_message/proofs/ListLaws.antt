@@ -96,7 +96,7 @@ unfolding elements_bytes
 elements_bytes-cons bytes x xs = flat_map-cons bytes x xs
 
 -- no elements are spelled by no bytes
-no_elements : {A : Type 0} (bytes : A → List ℕ) → elements_bytes bytes [] ≡ []
+pub no_elements : {A : Type 0} (bytes : A → List ℕ) → elements_bytes bytes [] ≡ []
 unfolding elements_bytes
 no_elements bytes = refl
 

@@ -1,79 +1,51 @@
 -- The laws of Pull, Pulled, Want and Got.
-use Rattle.std.proofs.Common.{◌≡◌, ℕ, ◌+◌, ◌*◌, ◌^◌, ◌<◌, ◌≤◌, List, length, Result, Ok, Err, refl, ap, subst, arith, ltb, false, [], ◌∷◌}
-use Rattle.std.specs.List.{AllByRecursion, sum_by}
+use Rattle.std.proofs.Common.{◌≡◌, ℕ, ◌+◌, ◌*◌, ◌^◌, ◌<◌, ◌≤◌, List, ◌++◌, length, refl, sym, ap, subst, ◌∙◌, append_assoc, arith, true, ltb, leb, eqb, false, eq-eqb, length-append, ⊎_elim}
+use Rattle.std.specs.Prelude.{◌||◌}
+use Rattle.std.specs.List.{sum_by}
 use Rattle.std.specs.Int.{w32, w64}
-use Rattle.std.proofs.lemmas.Bool.{ltb-false, le-ltb}
-use Rattle.std.proofs.lemmas.List.Sums.{sum_by-cons}
-use Rattle.rk_entry.specs.declared.entry.Entry.{Entry}
-use Rattle.rk_entry.specs.declared.error.DecodeError.{DecodeError}
-use Rattle.rk_entry.specs.declared.error.DecodeError.TheVariants.{Cut, Bad, NoMemory}
+use Rattle.std.proofs.lemmas.Bool.{ltb-false, le-ltb, le-leb, or_left, or_right}
 use Rattle.rk_entry.specs.declared.error.TheConstants.{BAD_BODY_LENGTH}
+use Rattle.rk_entry.specs.declared.kind.TheConstants.{LONGEST_BODY}
+use Rattle.rk_entry.specs.Kinds.{is_list_length}
 use Rattle.rk_entry.specs.Numbers.{number_bytes, IsNumber, read_number}
 use Rattle.rk_entry.specs.Spelling.{spelled}
-use Rattle.rk_entry.specs.Lawful.{IsLawfulEntry}
-use Rattle.rk_entry.specs.Reading.{read_entry}
-use Rattle.rk_entry.proofs.Tools.{bind_ok, unless_ok, Takes, takes_weaker}
+use Rattle.rk_entry.proofs.Tools.{bind_ok, unless_ok, ok_is, Takes, takes_both, takes_weaker}
 use Rattle.rk_entry.proofs.NumberLaws.{wide32, wide64}
-use Rattle.rk_entry.proofs.EntryLaws.{entry_takes, entry_again}
-use Rattle.rk_entry.proofs.Sizes.{spelled_count}
+use Rattle.rk_entry.proofs.EntryLaws.{list_length}
 use Rattle.rk_message.specs.declared.fields.TheConstants.{COUNT_BYTES}
+use Rattle.rk_message.specs.declared.pulling.Pulled.{Pulled}
 use Rattle.rk_message.specs.declared.pulling.Got.{Got}
-use Rattle.rk_message.specs.declared.pulling.TheConstants.{PULL_BYTES, HASH_BYTES, WANT_BYTES, GOT_BYTES}
-use Rattle.rk_message.specs.Fields.{list_bytes}
-use Rattle.rk_message.specs.Pulling.{pull_bytes, IsLawfulPull, read_pull, within_frame, read_entry_within, read_entries, entry_count, pulled_bytes, pulled_count, IsLawfulPulled, read_any_pulled, read_pulled, want_bytes, want_count, IsLawfulWant, read_want, got_bytes, got_count, IsLawfulGot, read_hash_count, read_hashes, read_any_got, read_got}
-use Rattle.rk_message.proofs.Codecs.{IsCodec, codec_as, fields2, fields3, fields4}
-use Rattle.rk_message.proofs.Chains.{then_codec, counted_list_codec, ending_codec}
+use Rattle.rk_message.specs.declared.pulling.TheConstants.{PULL_BYTES, PULLED_BYTES, HASH_BYTES, WANT_BYTES, GOT_BYTES, SHORTEST_ENTRY}
+use Rattle.rk_message.specs.Fields.{tenure_bytes, read_tenure, elements_bytes, list_bytes, read_list}
+use Rattle.rk_message.specs.Pulling.{pull_bytes, IsLawfulPull, read_pull, entry_count, read_last_entries, pulled_bytes, pulled_count, IsLawfulPulled, read_pulled, want_bytes, want_count, IsLawfulWant, read_want, got_bytes, got_count, IsLawfulGot, read_hash_count, read_got}
+use Rattle.rk_message.proofs.Codecs.{IsCodec, codec_as, fields2, fields4}
 use Rattle.rk_message.proofs.FieldLaws.{number_codec, tenure_codec, token_codec}
 use Rattle.rk_message.proofs.ListLaws.{list_codec, last_list_codec, sum_by_same}
+use Rattle.rk_message.proofs.EntriesLaws.{none_or_shortest, last_entries_codec}
 
 -- a Pull
 pub pull_codec : IsCodec pull_bytes (λ pull. PULL_BYTES) IsLawfulPull read_pull
 unfolding pull_bytes read_pull
 pull_codec = fields2 (λ p. record { tenure = p.0; token = p.1 }) (λ y. (y.tenure, y.token)) (λ p. refl) (λ y. refl) tenure_codec token_codec
 
--- ---- entries within a frame
-
--- what is read within a frame is what is read
-within_frame_ok : (read : Result (Entry × List ℕ) DecodeError) (x : Entry × List ℕ) → within_frame read ≡ Ok x → read ≡ Ok x
-within_frame_ok (Ok y) x e = e
-within_frame_ok (Err Cut) x e = absurd cc
-within_frame_ok (Err (Bad code)) x e = absurd cc
-within_frame_ok (Err NoMemory) x e = absurd cc
-
--- an entry within a frame
-pub entry_codec : IsCodec spelled entry_count IsLawfulEntry read_entry_within
-unfolding read_entry_within
-entry_codec = record {
-  takes = λ from x e. entry_takes from x (within_frame_ok (read_entry from) x e);
-  again = λ entry rest h. ap within_frame (entry_again entry rest h);
-  counted = λ entry. refl;
-}
-
--- entries after their count
-pub entries_codec : IsCodec (list_bytes spelled) (λ entries. COUNT_BYTES + sum_by entry_count entries) (λ entries. IsNumber w32 0 (length entries) × AllByRecursion IsLawfulEntry entries) read_entries
-unfolding read_entries
-entries_codec = counted_list_codec entry_codec
-
--- an entry takes a byte, so there are no more entries than bytes of them
-pub entries_few : (entries : List Entry) → length entries ≤ sum_by entry_count entries
-entries_few [] = omega arith
-entries_few (entry ∷ entries) = omega (arith, sum_by-cons entry_count entry entries, spelled_count entry, entries_few entries)
-
 -- ---- Pulled
-
--- a Pulled of any length
-pub any_pulled_codec : IsCodec pulled_bytes pulled_count (λ pulled. IsLawfulPulled pulled × IsNumber w32 0 (length pulled.entries)) read_any_pulled
-unfolding pulled_bytes read_any_pulled
-any_pulled_codec =
-    codec_as (λ pulled. omega arith) (λ pulled h. (record { tenure = h.0; token = h.1; next = h.2; entries = h.3.1 }, h.3.0)) (λ pulled h. (h.0.tenure, h.0.token, h.0.next, (h.1, h.0.entries)))
-    (fields4 (λ p. record { tenure = p.0; token = p.1; next = p.2; entries = p.3 }) (λ y. (y.tenure, y.token, y.next, y.entries)) (λ p. refl) (λ y. refl) tenure_codec token_codec token_codec entries_codec)
 
 -- a Pulled whose length is told
 pub pulled_codec : (size : ℕ) → size < 256 ^ 4 → IsCodec pulled_bytes pulled_count (λ pulled. IsLawfulPulled pulled × (size ≡ pulled_count pulled)) (read_pulled size)
-unfolding read_pulled
+unfolding pulled_bytes read_pulled
 pulled_codec size small =
-    codec_as (λ pulled. refl) (λ pulled h. (h.0.0, h.1)) (λ pulled h. ((h.0, record { least_is = omega arith; fits = omega (arith, h.1, small, entries_few pulled.entries) }), h.1))
-    (ending_codec size any_pulled_codec)
+    codec_as (λ pulled. omega arith) (λ pulled h. (record { tenure = h.0; token = h.1; next = h.2; entries = h.3.0 }, h.3.1)) (λ pulled h. (h.0.tenure, h.0.token, h.0.next, (h.0.entries, h.1)))
+    (fields4 (λ p. record { tenure = p.0; token = p.1; next = p.2; entries = p.3 }) (λ y. (y.tenure, y.token, y.next, y.entries)) (λ p. refl) (λ y. refl) tenure_codec token_codec token_codec
+    (last_entries_codec PULLED_BYTES size small))
+
+-- a lawful Pulled takes as many bytes as its kind allows
+pub pulled_size : (pulled : Pulled) → IsLawfulPulled pulled → (eqb (pulled_count pulled) PULLED_BYTES || leb (PULLED_BYTES + SHORTEST_ENTRY) (pulled_count pulled)) ≡ true
+pulled_size pulled h =
+    ⊎_elim
+    (λ (none : sum_by entry_count pulled.entries ≡ 0). or_left (eqb (pulled_count pulled) PULLED_BYTES) _ (eq-eqb (pulled_count pulled) PULLED_BYTES (omega (arith, none))))
+    (λ (some : SHORTEST_ENTRY ≤ sum_by entry_count pulled.entries).
+    or_right (eqb (pulled_count pulled) PULLED_BYTES) (leb (PULLED_BYTES + SHORTEST_ENTRY) (pulled_count pulled)) (le-leb (PULLED_BYTES + SHORTEST_ENTRY) (pulled_count pulled) (omega (arith, some))))
+    (none_or_shortest pulled.entries h.entries)
 
 -- ---- Want
 
@@ -103,33 +75,71 @@ hash_count_codec size =
       counted = number.counted;
     }
 
--- the hashes of a Got
-hashes_codec : (size : ℕ) → IsCodec (list_bytes (number_bytes w64)) (λ hashes. COUNT_BYTES + HASH_BYTES * length hashes)
-    (λ hashes. IsNumber w32 0 (length hashes) × (GOT_BYTES + HASH_BYTES * length hashes ≤ size) × AllByRecursion (IsNumber w64 0) hashes) (read_hashes size)
-unfolding list_bytes read_hashes
-hashes_codec size =
-    codec_as (λ hashes. ap (λ (n : ℕ). COUNT_BYTES + n) (sum_by_same HASH_BYTES hashes)) (λ hashes h. (h.0.0, h.0.1, h.1.0)) (λ hashes h. ((h.0, h.1), (h.2, refl)))
-    (then_codec length (hash_count_codec size) (λ n hashes h. h.1) (list_codec (number_codec w64 wide64)))
-
--- a Got up to its entries
-pub any_got_codec : (size : ℕ) → IsCodec got_bytes got_count
-    (λ got. IsLawfulGot got × IsNumber w32 0 (length got.hashes) × (GOT_BYTES + HASH_BYTES * length got.hashes ≤ size) × IsNumber w32 0 (length got.entries)) (read_any_got size)
-unfolding got_bytes read_any_got
-any_got_codec size =
-    codec_as (λ got. omega arith) (λ got h. (record { tenure = h.0; hashes = h.1.2; entries = h.2.1 }, h.1.0, h.1.1, h.2.0)) (λ got h. (h.0.tenure, (h.1, h.2, h.0.hashes), (h.3, h.0.entries)))
-    (fields3 (λ p. record { tenure = p.0; hashes = p.1; entries = p.2 }) (λ y. (y.tenure, y.hashes, y.entries)) (λ p. refl) (λ y. refl) tenure_codec (hashes_codec size) entries_codec)
-
 -- a Got whose length is told
 pub got_codec : (size : ℕ) → size < 256 ^ 4 → IsCodec got_bytes got_count (λ got. IsLawfulGot got × (size ≡ got_count got)) (read_got size)
-unfolding read_got
-got_codec size small =
-    codec_as (λ got. refl) (λ got h. (h.0.0, h.1)) (λ got h. (within got h.0 h.1, h.1))
-    (ending_codec size (any_got_codec size))
-  where
-    within : (got : Got) → IsLawfulGot got → size ≡ got_count got → IsLawfulGot got × IsNumber w32 0 (length got.hashes) × (GOT_BYTES + HASH_BYTES * length got.hashes ≤ size) × IsNumber w32 0 (length got.entries)
-    within got h is = (
-      h,
-      record { least_is = omega arith; fits = omega (arith, is, small) },
-      omega (arith, is),
-      record { least_is = omega arith; fits = omega (arith, is, small, entries_few got.entries) },
-    )
+unfolding got_bytes read_got list_bytes
+got_codec size small = record {
+  takes = λ from y e.
+      let t = bind_ok (read_tenure from) e in
+      let n = bind_ok (read_hash_count size t.0.1) t.2 in
+      let h = bind_ok (read_list (read_number w64) n.0.0 n.0.1) n.2 in
+      let first = GOT_BYTES + HASH_BYTES * n.0.0 in
+      let z = bind_ok (read_last_entries first size h.0.1) h.2 in
+      let got : Got = record { tenure = t.0.0; hashes = h.0.0; entries = z.0.0 } in
+      let hashes = takes_both ((hash_count_codec size).takes t.0.1 n.0 n.1) ((list_codec (number_codec w64 wide64) n.0.0).takes n.0.1 h.0 h.1) in
+      let all = takes_both (tenure_codec.takes from t.0 t.1) (takes_both hashes ((last_entries_codec first size small).takes h.0.1 z.0 z.1)) in
+      subst (λ (w : Got × List ℕ). Takes from (got_bytes w.0) w.1 (IsLawfulGot w.0 × (size ≡ got_count w.0))) (ok_is (got, z.0.1) y z.2) (record {
+        front = all.front;
+        split = all.split;
+        spelled = λ fits.
+            let p = all.spelled fits in
+            let count : length h.0.0 ≡ n.0.0 = p.2.1.0.1.1 in
+            let spells : ℕ → List ℕ = λ k. tenure_bytes t.0.0 ++ ((number_bytes w32 k ++ elements_bytes (number_bytes w64) h.0.0) ++ list_bytes spelled z.0.0) in (
+              p.0 ∙ ap spells (sym count),
+              p.1,
+              (record { tenure = p.2.0; hashes = p.2.1.0.1.0; entries = p.2.1.1.0 }, omega (arith, p.2.1.1.1, count)),
+            );
+      });
+  again = λ got rest h.
+      let tenure = tenure_bytes got.tenure in
+      let count = number_bytes w32 (length got.hashes) in
+      let hashes = elements_bytes (number_bytes w64) got.hashes in
+      let entries = list_bytes spelled got.entries in
+      rw (
+        append_assoc tenure ((count ++ hashes) ++ entries) rest,
+        append_assoc (count ++ hashes) entries rest,
+        append_assoc count hashes (entries ++ rest),
+        tenure_codec.again got.tenure (count ++ (hashes ++ (entries ++ rest))) h.0.tenure,
+        (hash_count_codec size).again (length got.hashes) (hashes ++ (entries ++ rest)) (record { least_is = omega arith; fits = omega (arith, h.1, small) }, omega (arith, h.1)),
+        (list_codec (number_codec w64 wide64) (length got.hashes)).again got.hashes (entries ++ rest) (h.0.hashes, refl),
+        (last_entries_codec (GOT_BYTES + HASH_BYTES * length got.hashes) size small).again got.entries rest (h.0.entries, h.1),
+      ) refl;
+  counted = λ got.
+      let count = number_bytes w32 (length got.hashes) in
+      let hashes = elements_bytes (number_bytes w64) got.hashes in
+      let entries = list_bytes spelled got.entries in
+      omega (
+        arith,
+        length-append (tenure_bytes got.tenure) ((count ++ hashes) ++ entries),
+        length-append (count ++ hashes) entries,
+        length-append count hashes,
+        tenure_codec.counted got.tenure,
+        (hash_count_codec size).counted (length got.hashes),
+        (list_codec (number_codec w64 wide64) 0).counted got.hashes,
+        sum_by_same HASH_BYTES got.hashes,
+        (last_entries_codec 0 size small).counted got.entries,
+      );
+}
+
+-- a lawful Got takes as many bytes as its kind allows
+pub got_size : (got : Got) → IsLawfulGot got → got_count got ≤ LONGEST_BODY
+    → (is_list_length GOT_BYTES HASH_BYTES LONGEST_BODY (got_count got) || leb (GOT_BYTES + SHORTEST_ENTRY) (got_count got)) ≡ true
+got_size got h within =
+    ⊎_elim
+    (λ (none : sum_by entry_count got.entries ≡ 0).
+    or_left (is_list_length GOT_BYTES HASH_BYTES LONGEST_BODY (got_count got)) _
+    (list_length GOT_BYTES HASH_BYTES LONGEST_BODY (length got.hashes) (got_count got) (omega arith) (omega (arith, none)) within))
+    (λ (some : SHORTEST_ENTRY ≤ sum_by entry_count got.entries).
+    or_right (is_list_length GOT_BYTES HASH_BYTES LONGEST_BODY (got_count got)) (leb (GOT_BYTES + SHORTEST_ENTRY) (got_count got))
+    (le-leb (GOT_BYTES + SHORTEST_ENTRY) (got_count got) (omega (arith, some))))
+    (none_or_shortest got.entries h.entries)

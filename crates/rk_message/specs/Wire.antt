@@ -6,7 +6,7 @@ use Rattle.rk_types.specs.declared.node.Node.{Node}
 use Rattle.rk_message.specs.declared.message.Message.{Message}
 use Rattle.rk_message.specs.contracts.message.Message as message
 use Rattle.rk_message.specs.declared.missing.NoMessage.{NoMessage}
-use Rattle.rk_message.specs.Kinds.{kind_number}
+use Rattle.rk_message.specs.Kinds.{kind_of, kind_number}
 use Rattle.rk_message.specs.Frames.{frame_len, IsLawfulMessage}
 
 -- what contracts see of a wire: the messages that are there, by number, and how many were sent
@@ -66,8 +66,8 @@ abbrev pub receiver_of : ℕ → Traffic → Option Node
 receiver_of n wire = option_map (λ message. message.to) (get wire.messages n)
 
 -- the number of the kind of the message of this number
-abbrev pub kind_of : ℕ → Traffic → Option ℕ
-kind_of n wire = option_map (λ message. kind_number message.body) (get wire.messages n)
+abbrev pub kind_number_of : ℕ → Traffic → Option ℕ
+kind_number_of n wire = option_map (λ message. kind_number (kind_of message.body)) (get wire.messages n)
 
 -- the number of the message at a place, the oldest at place 1
 abbrev pub number_at : ℕ → Traffic → Option ℕ

@@ -6,18 +6,18 @@
 //! left; no frame begins another; a duplicate equals what it was made from.
 //!
 //! A [`Wire`] numbers messages from 1, in the order in which they are sent, hands each out until it is forgotten, and
-//! counts the bytes of their frames without walking over them. Contracts see it as a finite map from numbers to
-//! messages and the number sent. What it promises: the next number is free, so each names one message; a message stays
-//! as it was sent; only [`Wire::forget`] takes it away; want of memory and a number without a message change nothing.
+//! counts the bytes of their frames without walking over them. Contracts see the messages by number, and how many
+//! were sent. What it promises: the next number is free, so each names one message; a message stays as it was sent; only
+//! [`Wire::forget`] takes it away; want of memory and a number without a message change nothing.
 #![tactic(auto)]
 
 pub use calls::{Located, Lookup, Reply, Request};
 pub use frame::{decode_frame, encode_frame, frame_len};
 pub use handover::{Grant, Prepare, Ready, Tenure, Transfer};
+pub use kind::Kind;
 pub use laws::{frame_round_trip, one_frame};
 pub use message::{Body, Message};
 pub use missing::NoMessage;
-pub use numbered::Numbered;
 pub use pulling::{Got, Pull, Pulled, Want};
 pub use rebuilding::{CopySegment, ReadSegment, Rebuild, Rebuilt};
 pub use replication::{Append, Stored};
@@ -29,10 +29,10 @@ mod calls;
 mod fields;
 mod frame;
 mod handover;
+mod kind;
 mod laws;
 mod message;
 mod missing;
-mod numbered;
 mod pulling;
 mod rebuilding;
 mod replication;

@@ -1,8 +1,9 @@
 ghost use Rattle.std.specs.Prelude.{◌≡◌, IfOk};
-ghost use Rattle.rk_message.specs.Kinds.{kind_number};
+ghost use Rattle.rk_message.specs.Kinds.{kind_of};
 
 use crate::calls::{Located, Lookup, Reply, Request};
 use crate::handover::{Grant, Prepare, Ready, Tenure, Transfer};
+use crate::kind::Kind;
 use crate::pulling::{Got, Pull, Pulled, Want};
 use crate::rebuilding::{CopySegment, ReadSegment, Rebuild, Rebuilt};
 use crate::replication::{Append, Stored};
@@ -79,33 +80,33 @@ impl Message {
 }
 
 impl Body {
-    /// The number of its kind, from 1 to 22 in the order above: what a frame begins with.
-    pub fn number(&self) -> u8
-        ensures { result ≡ kind_number self.now }
+    /// What the message is for.
+    pub fn kind(&self) -> Kind
+        ensures { result ≡ kind_of self.now }
     {
         match self {
-            Body::Request(_) => 1,
-            Body::Reply(_) => 2,
-            Body::Lookup(_) => 3,
-            Body::Located(_) => 4,
-            Body::Append(_) => 5,
-            Body::Stored(_) => 6,
-            Body::Prepare(_) => 7,
-            Body::Ready(_) => 8,
-            Body::Close(_) => 9,
-            Body::Transfer(_) => 10,
-            Body::Grant(_) => 11,
-            Body::Pull(_) => 12,
-            Body::Pulled(_) => 13,
-            Body::Want(_) => 14,
-            Body::Got(_) => 15,
-            Body::Joined(_) => 16,
-            Body::Own(_) => 17,
-            Body::Release(_) => 18,
-            Body::Rebuild(_) => 19,
-            Body::Read(_) => 20,
-            Body::Copy(_) => 21,
-            Body::Rebuilt(_) => 22,
+            Body::Request(_) => Kind::Request,
+            Body::Reply(_) => Kind::Reply,
+            Body::Lookup(_) => Kind::Lookup,
+            Body::Located(_) => Kind::Located,
+            Body::Append(_) => Kind::Append,
+            Body::Stored(_) => Kind::Stored,
+            Body::Prepare(_) => Kind::Prepare,
+            Body::Ready(_) => Kind::Ready,
+            Body::Close(_) => Kind::Close,
+            Body::Transfer(_) => Kind::Transfer,
+            Body::Grant(_) => Kind::Grant,
+            Body::Pull(_) => Kind::Pull,
+            Body::Pulled(_) => Kind::Pulled,
+            Body::Want(_) => Kind::Want,
+            Body::Got(_) => Kind::Got,
+            Body::Joined(_) => Kind::Joined,
+            Body::Own(_) => Kind::Own,
+            Body::Release(_) => Kind::Release,
+            Body::Rebuild(_) => Kind::Rebuild,
+            Body::Read(_) => Kind::Read,
+            Body::Copy(_) => Kind::Copy,
+            Body::Rebuilt(_) => Kind::Rebuilt,
         }
     }
 

@@ -4,12 +4,15 @@ pub use reading::{read_got, read_pull, read_pulled, read_want};
 pub use writing::{got_len, pulled_len, put_got, put_pull, put_pulled, put_want, want_len};
 
 mod elements;
+mod entries;
 mod reading;
+#[cfg(test)]
+mod tests;
 mod writing;
 
 use crate::fields::{COUNT_BYTES, TENURE_BYTES, TOKEN_BYTES};
 use crate::handover::Tenure;
-use rk_entry::Entry;
+use rk_entry::{Entry, HEAD_BYTES, TOMBSTONE_BYTES};
 use rk_types::{Listed, NoMemory, Token};
 
 /// Bytes of a Pull: the tenure and the token.
@@ -26,6 +29,9 @@ pub const WANT_BYTES: u32 = TENURE_BYTES + COUNT_BYTES;
 
 /// Bytes of a Got but for its hashes and its entries: the tenure and two counts.
 pub const GOT_BYTES: u32 = TENURE_BYTES + COUNT_BYTES + COUNT_BYTES;
+
+/// Bytes of the shortest entry: a tombstone whose key has one byte.
+pub const SHORTEST_ENTRY: u32 = HEAD_BYTES + TOMBSTONE_BYTES + 1;
 
 /// The target asks for the batch of records that begins at a token.
 #[derive(Clone, Copy, Debug, PartialEq, Eq)]

@@ -454,6 +454,15 @@ const NOT_YET_FAULTS: Rows = &[
     (41, 0x00, BAD_KEY),
 ];
 
+#[test]
+fn numbers_the_kinds(rt: HostRuntime) -> Result<(), Fail> {
+    assert_eq!(rt; Kind::Request.number(), 1);
+    assert_eq!(rt; Kind::numbered(22), Some(Kind::Rebuilt));
+    assert_eq!(rt; Kind::numbered(0), None);
+    assert_eq!(rt; Kind::numbered(23), None);
+    Ok(())
+}
+
 // Whether the frame is read and written again, whatever follows it, and is cut wherever it ends early.
 fn check_whole<R: Abort + AllocGlobal>(rt: &R, frame: &[u8]) -> Result<(), Fail> {
     let (message, count) = decode_frame(rt.alloc(), frame)?;

@@ -1,13 +1,12 @@
-ghost use Rattle.std.specs.Prelude.{◌≡◌, ◌+◌, ◌-◌, ◌^◌, ◌<◌, min, Some, None, IfOk, OnOk, IfErr, OnErr};
-ghost use Rattle.std.specs.FinMap.{get, len};
+ghost use Rattle.std.specs.Prelude.{◌≡◌, ◌+◌, ◌-◌, ◌^◌, ◌<◌, min, length, Some, None, IfOk, OnOk, IfErr, OnErr};
+ghost use Rattle.rk_types.specs.NumberMap.{IsInOrder, get};
 ghost use Rattle.rk_message.specs.Frames.{IsLawfulMessage};
-ghost use Rattle.rk_message.specs.Wire.{HasLawfulMessages, HasSentNumbers, bytes_on, kind_of, missing, number_at, receiver_of, silent, with_message, without_message};
+ghost use Rattle.rk_message.specs.Wire.{HasLawfulMessages, HasSentNumbers, bytes_on, kind_number_of, missing, number_at, receiver_of, silent, with_message, without_message};
 
 use crate::frame::frame_len;
 use crate::message::Message;
 use crate::missing::NoMessage;
-use crate::numbered::Numbered;
-use rk_types::{NoMemory, Node};
+use rk_types::{NoMemory, Node, Numbered};
 use std::alloc::Global;
 use std::marker::Model;
 
@@ -25,7 +24,7 @@ pub struct Wire {
 }
 
 impl Model for Wire {
-    ghost use Rattle.rk_message.specs.Wire.{Traffic, traffic_code, IsKept};
+    ghost use Rattle.rk_message.specs.Wire.{Traffic, traffic_code, IsConsistent};
 
     ghost Value = { Traffic };
 
@@ -33,7 +32,7 @@ impl Model for Wire {
 
     ghost view = { λ wire. record { messages = wire.messages; sent = wire.sent } };
 
-    ghost invariant = { λ wire. IsKept (record { messages = wire.messages; sent = wire.sent }) wire.bytes };
+    ghost invariant = { λ wire. IsConsistent (record { messages = wire.messages; sent = wire.sent }) wire.bytes };
 }
 
 impl Wire {
@@ -109,7 +108,8 @@ impl Wire {
 
     /// How many messages are there.
     pub fn count(&self) -> u64
-        ensures count { result ≡ len self.now.messages }
+        ensures count { result ≡ length self.now.messages }
+        ensures order { IsInOrder self.now.messages }
         ensures numbers { HasSentNumbers self.now }
     {
         self.messages.count()
@@ -131,12 +131,12 @@ impl Wire {
         Ok(self.message(n)?.to)
     }
 
-    /// The number of the kind of the message of this number, from 1 to 22. `NoMessage` comes exactly where it was
-    /// never sent or is forgotten. One search.
+    /// The number of the kind of the message of this number: the first byte of its frame. `NoMessage` comes exactly
+    /// where it was never sent or is forgotten. One search.
     pub fn kind(&self, n: u64) -> Result<u8, NoMessage>
-        ensures ok { IfOk result (λ kind. kind_of n self.now ≡ Some kind) }
+        ensures ok { IfOk result (λ number. kind_number_of n self.now ≡ Some number) }
         ensures err { IfErr result (λ e. missing n self.now ≡ Some e) }
     {
-        Ok(self.message(n)?.body.number())
+        Ok(self.message(n)?.body.kind().number())
     }
 }

@@ -10,15 +10,15 @@ use crate::calls::{
     read_request,
 };
 use crate::fields::{NODES_BYTES, TENURE_BYTES, read_node, read_tenure};
-use crate::frame::{FIRST_KIND, LAST_KIND};
 use crate::handover::{
     GRANT_BYTES, PREPARE_BYTES, READY_BYTES, TRANSFER_BYTES, read_grant, read_prepare, read_ready,
     read_transfer,
 };
+use crate::kind::Kind;
 use crate::message::{Body, Message};
 use crate::pulling::{
-    GOT_BYTES, HASH_BYTES, PULL_BYTES, PULLED_BYTES, WANT_BYTES, read_got, read_pull, read_pulled,
-    read_want,
+    GOT_BYTES, HASH_BYTES, PULL_BYTES, PULLED_BYTES, SHORTEST_ENTRY, WANT_BYTES, read_got,
+    read_pull, read_pulled, read_want,
 };
 use crate::rebuilding::{
     COPY_BYTES, MEMBER_BYTES, READ_SEGMENT_BYTES, REBUILD_BYTES, REBUILT_BYTES, read_copy,
@@ -47,49 +47,47 @@ fn is_list(first: u32, each: u32, number: u32) -> bool
 
 // Whether the fields of some lawful message of this kind take so many bytes, as far as their number alone tells.
 #[tactic(auto, unfolding(crate::specs::Frames::is_size))]
-fn is_size(kind: u8, size: u32) -> bool
+fn is_size(kind: Kind, size: u32) -> bool
     ensures { result ≡ is_size kind size }
 {
     let key = LONGEST_KEY as u32;
     let value = LONGEST_VALUE as u32;
     match kind {
-        1 => is_within(REQUEST_BYTES + 1, REQUEST_BYTES + key + 12 + value, size),
-        2 => size == REPLY_BYTES || is_within(REPLY_BYTES + 2, REPLY_BYTES + 12 + value, size),
-        3 => size == LOOKUP_BYTES,
-        4 => size == LOCATED_BYTES,
-        5 => size >= APPEND_BYTES,
-        6 => size == STORED_BYTES,
-        7 => size == PREPARE_BYTES,
-        8 => size == READY_BYTES,
-        9 | 16 | 17 | 18 => size == TENURE_BYTES,
-        10 => is_list(TRANSFER_BYTES, END_BYTES, size),
-        11 => is_list(GRANT_BYTES, END_BYTES, size),
-        12 => size == PULL_BYTES,
-        13 => size >= PULLED_BYTES,
-        14 => is_list(WANT_BYTES, HASH_BYTES, size),
-        15 => size >= GOT_BYTES,
-        19 => is_list(REBUILD_BYTES, MEMBER_BYTES, size),
-        20 => size == READ_SEGMENT_BYTES,
-        21 => size >= COPY_BYTES,
-        22 => is_list(REBUILT_BYTES, END_BYTES, size),
-        _ => false,
+        Kind::Request => is_within(REQUEST_BYTES + 1, REQUEST_BYTES + key + 12 + value, size),
+        Kind::Reply => size == REPLY_BYTES
+            || is_within(REPLY_BYTES + 2, REPLY_BYTES + 12 + value, size),
+        Kind::Lookup => size == LOOKUP_BYTES,
+        Kind::Located => size == LOCATED_BYTES,
+        Kind::Append => size >= APPEND_BYTES,
+        Kind::Stored => size == STORED_BYTES,
+        Kind::Prepare => size == PREPARE_BYTES,
+        Kind::Ready => size == READY_BYTES,
+        Kind::Close | Kind::Joined | Kind::Own | Kind::Release => size == TENURE_BYTES,
+        Kind::Transfer => is_list(TRANSFER_BYTES, END_BYTES, size),
+        Kind::Grant => is_list(GRANT_BYTES, END_BYTES, size),
+        Kind::Pull => size == PULL_BYTES,
+        Kind::Pulled => size == PULLED_BYTES || size >= PULLED_BYTES + SHORTEST_ENTRY,
+        Kind::Want => is_list(WANT_BYTES, HASH_BYTES, size),
+        Kind::Got => { is_list(GOT_BYTES, HASH_BYTES, size) || size >= GOT_BYTES + SHORTEST_ENTRY }
+        Kind::Rebuild => is_list(REBUILD_BYTES, MEMBER_BYTES, size),
+        Kind::Read => size == READ_SEGMENT_BYTES,
+        Kind::Copy => size >= COPY_BYTES,
+        Kind::Rebuilt => is_list(REBUILT_BYTES, END_BYTES, size),
     }
 }
 
-// The number of a kind.
+// The kind of a message.
 #[tactic(auto, unfolding(crate::specs::Frames::read_kind))]
-fn read_kind(bytes: &[u8]) -> Result<(u8, &[u8]), DecodeError>
+fn read_kind(bytes: &[u8]) -> Result<(Kind, &[u8]), DecodeError>
     ensures { Gives (λ x. (x.0, x.1.now)) result (read_kind bytes.now) }
 {
-    let (kind, rest) = read_u8(bytes)?;
-    if kind < FIRST_KIND || kind > LAST_KIND {
-        return Err(DecodeError::Bad(BAD_KIND));
-    }
+    let (number, rest) = read_u8(bytes)?;
+    let kind = Kind::numbered(number).ok_or(DecodeError::Bad(BAD_KIND))?;
     Ok((kind, rest))
 }
 
 // Whether some lawful message of this kind has a body of so many bytes, as far as their number alone tells.
-fn is_body_length(kind: u8, body: u32) -> bool
+fn is_body_length(kind: Kind, body: u32) -> bool
     ensures { result ≡ is_body_length kind body }
 {
     is_within(NODES_BYTES, LONGEST_BODY, body) && is_size(kind, body - NODES_BYTES)
@@ -97,7 +95,7 @@ fn is_body_length(kind: u8, body: u32) -> bool
 
 // How many bytes of a body of this kind are fields.
 #[tactic(auto, unfolding(crate::specs::Frames::read_size))]
-fn read_size(kind: u8, bytes: &[u8]) -> Result<(u32, &[u8]), DecodeError>
+fn read_size(kind: Kind, bytes: &[u8]) -> Result<(u32, &[u8]), DecodeError>
     ensures { Gives (λ x. (x.0, x.1.now)) result (read_size kind bytes.now) }
 {
     let (body, rest) = read_u32(bytes)?;
@@ -119,36 +117,35 @@ macro_rules! body {
 #[tactic(auto, unfolding(crate::specs::Frames::read_fields))]
 fn read_fields(
     alloc: Global,
-    kind: u8,
+    kind: Kind,
     size: u32,
     bytes: &[u8],
 ) -> Result<(Body, &[u8]), DecodeError>
     ensures { Gives (λ x. (x.0, x.1.now)) result (read_fields kind size bytes.now) }
 {
     match kind {
-        1 => body!(Request, read_request(alloc, size, bytes)),
-        2 => body!(Reply, read_reply(alloc, size, bytes)),
-        3 => body!(Lookup, read_lookup(bytes)),
-        4 => body!(Located, read_located(bytes)),
-        5 => body!(Append, read_append(alloc, size, bytes)),
-        6 => body!(Stored, read_stored(bytes)),
-        7 => body!(Prepare, read_prepare(bytes)),
-        8 => body!(Ready, read_ready(bytes)),
-        9 => body!(Close, read_tenure(bytes)),
-        10 => body!(Transfer, read_transfer(alloc, size, bytes)),
-        11 => body!(Grant, read_grant(alloc, size, bytes)),
-        12 => body!(Pull, read_pull(bytes)),
-        13 => body!(Pulled, read_pulled(alloc, size, bytes)),
-        14 => body!(Want, read_want(alloc, size, bytes)),
-        15 => body!(Got, read_got(alloc, size, bytes)),
-        16 => body!(Joined, read_tenure(bytes)),
-        17 => body!(Own, read_tenure(bytes)),
-        18 => body!(Release, read_tenure(bytes)),
-        19 => body!(Rebuild, read_rebuild(alloc, size, bytes)),
-        20 => body!(Read, read_read_segment(bytes)),
-        21 => body!(Copy, read_copy(alloc, size, bytes)),
-        22 => body!(Rebuilt, read_rebuilt(alloc, size, bytes)),
-        _ => Err(DecodeError::Bad(BAD_KIND)),
+        Kind::Request => body!(Request, read_request(alloc, size, bytes)),
+        Kind::Reply => body!(Reply, read_reply(alloc, size, bytes)),
+        Kind::Lookup => body!(Lookup, read_lookup(bytes)),
+        Kind::Located => body!(Located, read_located(bytes)),
+        Kind::Append => body!(Append, read_append(alloc, size, bytes)),
+        Kind::Stored => body!(Stored, read_stored(bytes)),
+        Kind::Prepare => body!(Prepare, read_prepare(bytes)),
+        Kind::Ready => body!(Ready, read_ready(bytes)),
+        Kind::Close => body!(Close, read_tenure(bytes)),
+        Kind::Transfer => body!(Transfer, read_transfer(alloc, size, bytes)),
+        Kind::Grant => body!(Grant, read_grant(alloc, size, bytes)),
+        Kind::Pull => body!(Pull, read_pull(bytes)),
+        Kind::Pulled => body!(Pulled, read_pulled(alloc, size, bytes)),
+        Kind::Want => body!(Want, read_want(alloc, size, bytes)),
+        Kind::Got => body!(Got, read_got(alloc, size, bytes)),
+        Kind::Joined => body!(Joined, read_tenure(bytes)),
+        Kind::Own => body!(Own, read_tenure(bytes)),
+        Kind::Release => body!(Release, read_tenure(bytes)),
+        Kind::Rebuild => body!(Rebuild, read_rebuild(alloc, size, bytes)),
+        Kind::Read => body!(Read, read_read_segment(bytes)),
+        Kind::Copy => body!(Copy, read_copy(alloc, size, bytes)),
+        Kind::Rebuilt => body!(Rebuilt, read_rebuilt(alloc, size, bytes)),
     }
 }
 

@@ -107,7 +107,7 @@ pub fn encode_frame(message: &Message, into: &mut Vec<u8>) -> Result<(), NoMemor
 {
     let length = frame_len(message);
     into.reserve(length as usize)?;
-    put_u8(into, message.body.number());
+    put_u8(into, message.body.kind().number());
     put_u32(into, length - HEAD_BYTES);
     put_node(into, &message.from);
     put_node(into, &message.to);

@@ -1,10 +1,7 @@
-ghost use Rattle.std.specs.Prelude.{◌≡◌};
-ghost use Rattle.rk_entry.specs.Steps.{Gives};
-ghost use Rattle.rk_message.specs.Pulling.{read_entry_within};
-
 use crate::fields::Element;
+use crate::pulling::entries::read_entry_within;
 use rk_entry::fields::{put_u64, read_u64};
-use rk_entry::{BAD_CHOICE, DecodeError, Entry, decode, put_entry};
+use rk_entry::{DecodeError, Entry, put_entry};
 use std::alloc::Global;
 
 // A hash.
@@ -49,18 +46,5 @@ impl Element for Entry {
 
     fn put(&self, into: &mut Vec<u8>) {
         put_entry(into, self);
-    }
-}
-
-// An entry within a frame, and the bytes after it. An unlawful one is `Bad(BAD_CHOICE)`, whatever its own fault is.
-#[tactic(auto, unfolding(crate::specs::Pulling::read_entry_within))]
-fn read_entry_within(alloc: Global, bytes: &[u8]) -> Result<(Entry, &[u8]), DecodeError>
-    ensures { Gives (λ x. (x.0, x.1.now)) result (read_entry_within bytes.now) }
-{
-    match decode(alloc, bytes) {
-        Ok((entry, count)) => Ok((entry, bytes.split_at(count).1)),
-        Err(DecodeError::Cut) => Err(DecodeError::Cut),
-        Err(DecodeError::Bad(_)) => Err(DecodeError::Bad(BAD_CHOICE)),
-        Err(DecodeError::NoMemory) => Err(DecodeError::NoMemory),
     }
 }

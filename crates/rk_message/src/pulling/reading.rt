@@ -1,12 +1,12 @@
 ghost use Rattle.std.specs.Prelude.{◌≡◌, ◌≤◌, length, IfOk};
 ghost use Rattle.rk_entry.specs.Steps.{Gives};
-ghost use Rattle.rk_message.specs.Pulling.{read_pull, read_entries, read_any_pulled, read_pulled, read_want, read_hash_count, read_hashes, read_any_got, read_got};
+ghost use Rattle.rk_message.specs.Pulling.{read_pull, read_pulled, read_want, read_hash_count, read_got};
 
 use crate::fields::{read_last_list, read_list, read_tenure, read_token};
-use crate::pulling::{GOT_BYTES, Got, HASH_BYTES, Pull, Pulled, WANT_BYTES, Want};
+use crate::pulling::entries::read_last_entries;
+use crate::pulling::{GOT_BYTES, Got, HASH_BYTES, PULLED_BYTES, Pull, Pulled, WANT_BYTES, Want};
 use rk_entry::fields::read_u32;
-use rk_entry::{BAD_BODY_LENGTH, DecodeError, Entry};
-use rk_types::Listed;
+use rk_entry::{BAD_BODY_LENGTH, DecodeError};
 use std::alloc::Global;
 
 /// A Pull, and the bytes after it.
@@ -19,43 +19,23 @@ pub fn read_pull(bytes: &[u8]) -> Result<(Pull, &[u8]), DecodeError>
     Ok((Pull { tenure, token }, rest))
 }
 
-// Entries after their count, and the bytes after them.
-#[tactic(auto, unfolding(crate::specs::Pulling::read_entries))]
-fn read_entries(alloc: Global, bytes: &[u8]) -> Result<(Listed<Entry>, &[u8]), DecodeError>
-    ensures { Gives (λ x. (x.0, x.1.now)) result (read_entries bytes.now) }
-{
-    let (count, rest) = read_u32(bytes)?;
-    read_list(alloc, count, rest)
-}
-
-// A Pulled of any length, and the bytes after it.
-#[tactic(auto, unfolding(crate::specs::Pulling::read_any_pulled))]
-fn read_any_pulled(alloc: Global, bytes: &[u8]) -> Result<(Pulled, &[u8]), DecodeError>
-    ensures { Gives (λ x. (x.0, x.1.now)) result (read_any_pulled bytes.now) }
+/// A Pulled of `size` bytes, and the bytes after it. An unlawful entry is `Bad(BAD_CHOICE)`. Another length than `size`
+/// is `Bad(BAD_BODY_LENGTH)`, as soon as the last length or count of the last entry is read, or the count of entries
+/// where there are none.
+#[tactic(auto, unfolding(crate::specs::Pulling::read_pulled))]
+pub fn read_pulled(alloc: Global, size: u32, bytes: &[u8]) -> Result<(Pulled, &[u8]), DecodeError>
+    ensures { Gives (λ x. (x.0, x.1.now)) result (read_pulled size bytes.now) }
 {
     let (tenure, rest) = read_tenure(bytes)?;
     let (token, rest) = read_token(rest)?;
     let (next, rest) = read_token(rest)?;
-    let (entries, rest) = read_entries(alloc, rest)?;
+    let (entries, rest) = read_last_entries(alloc, PULLED_BYTES as u64, size, rest)?;
     let pulled = Pulled {
         tenure,
         token,
         next,
         entries,
     };
-    Ok((pulled, rest))
-}
-
-/// A Pulled of `size` bytes, and the bytes after it. An unlawful entry is `Bad(BAD_CHOICE)`; only the last entry tells
-/// how many bytes there are, and where these are not `size` it is `Bad(BAD_BODY_LENGTH)`.
-#[tactic(auto, unfolding(crate::specs::Pulling::read_pulled))]
-pub fn read_pulled(alloc: Global, size: u32, bytes: &[u8]) -> Result<(Pulled, &[u8]), DecodeError>
-    ensures { Gives (λ x. (x.0, x.1.now)) result (read_pulled size bytes.now) }
-{
-    let (pulled, rest) = read_any_pulled(alloc, bytes)?;
-    if size as usize != bytes.len() - rest.len() {
-        return Err(DecodeError::Bad(BAD_BODY_LENGTH));
-    }
     Ok((pulled, rest))
 }
 
@@ -82,41 +62,22 @@ fn read_hash_count(size: u32, bytes: &[u8]) -> Result<(u32, &[u8]), DecodeError>
     Ok((count, rest))
 }
 
-// The hashes of a Got of `size` bytes.
-#[tactic(auto, unfolding(crate::specs::Pulling::read_hashes))]
-fn read_hashes(alloc: Global, size: u32, bytes: &[u8]) -> Result<(Listed<u64>, &[u8]), DecodeError>
-    ensures { Gives (λ x. (x.0, x.1.now)) result (read_hashes size bytes.now) }
-{
-    let (count, rest) = read_hash_count(size, bytes)?;
-    read_list(alloc, count, rest)
-}
-
-// A Got of at most `size` bytes up to its entries.
-#[tactic(auto, unfolding(crate::specs::Pulling::read_any_got))]
-fn read_any_got(alloc: Global, size: u32, bytes: &[u8]) -> Result<(Got, &[u8]), DecodeError>
-    ensures { Gives (λ x. (x.0, x.1.now)) result (read_any_got size bytes.now) }
+/// A Got of `size` bytes, and the bytes after it. A count of hashes that do not fit `size` is `Bad(BAD_BODY_LENGTH)`,
+/// an unlawful entry is `Bad(BAD_CHOICE)`. Another length than `size` is `Bad(BAD_BODY_LENGTH)`, as soon as the last
+/// length or count of the last entry is read, or the count of entries where there are none.
+#[tactic(auto, unfolding(crate::specs::Pulling::read_got))]
+pub fn read_got(alloc: Global, size: u32, bytes: &[u8]) -> Result<(Got, &[u8]), DecodeError>
+    ensures { Gives (λ x. (x.0, x.1.now)) result (read_got size bytes.now) }
 {
     let (tenure, rest) = read_tenure(bytes)?;
-    let (hashes, rest) = read_hashes(alloc, size, rest)?;
-    let (entries, rest) = read_entries(alloc, rest)?;
+    let (count, rest) = read_hash_count(size, rest)?;
+    let (hashes, rest) = read_list(alloc, count, rest)?;
+    let first = GOT_BYTES as u64 + HASH_BYTES as u64 * count as u64;
+    let (entries, rest) = read_last_entries(alloc, first, size, rest)?;
     let got = Got {
         tenure,
         hashes,
         entries,
     };
-    Ok((got, rest))
-}
-
-/// A Got of `size` bytes, and the bytes after it. A count of hashes that do not fit `size` is `Bad(BAD_BODY_LENGTH)`,
-/// an unlawful entry is `Bad(BAD_CHOICE)`; only the last entry tells how many bytes there are, and where these are not
-/// `size` it is `Bad(BAD_BODY_LENGTH)`.
-#[tactic(auto, unfolding(crate::specs::Pulling::read_got))]
-pub fn read_got(alloc: Global, size: u32, bytes: &[u8]) -> Result<(Got, &[u8]), DecodeError>
-    ensures { Gives (λ x. (x.0, x.1.now)) result (read_got size bytes.now) }
-{
-    let (got, rest) = read_any_got(alloc, size, bytes)?;
-    if size as usize != bytes.len() - rest.len() {
-        return Err(DecodeError::Bad(BAD_BODY_LENGTH));
-    }
     Ok((got, rest))
 }

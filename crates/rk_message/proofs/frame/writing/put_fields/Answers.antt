@@ -1,7 +1,7 @@
 use Rattle.std.proofs.Common.{◌<◌, ◌^◌, arith, subst}
 use Rattle.rk_message.specs.declared.message.Body.{Body}
 use Rattle.rk_message.specs.Frames.{fields_count}
-use Rattle.rk_message.proofs.PullingLaws.{entries_few}
+use Rattle.rk_message.proofs.EntriesLaws.{entries_few}
 use Rattle.rk_message.proofs.frame.writing.put_fields.Goals as goal
 
 pub put_pulled-requires-clause-few : goal.put_pulled-requires-clause-few

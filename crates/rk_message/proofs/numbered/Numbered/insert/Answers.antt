@@ -1,9 +1,0 @@
-use Rattle.std.proofs.Common.{ap, ◌∙◌}
-use Rattle.std.specs.FinMap.{insert}
-use Rattle.rk_message.proofs.Numbers.{seen-insert}
-use Rattle.rk_message.proofs.numbered.Numbered.insert.Goals as goal
-
-pub returns-clause-ok : goal.returns-clause-ok
-returns-clause-ok g c =
-    seen-insert c.self.inside.values c.insert.new.self c.args.number c.args.value c.self.invariant c.insert.ensures.ordered c.in_ok-insert.ensures.updates
-    ∙ ap (λ values. insert values c.args.number c.args.value) c.self.view_is
