@@ -45,8 +45,8 @@ pub record HasStatusCause (fault status : Status) (before now : ℕ) : Type 0 wh
   pub kept : (status ≡ fault → ⊥) → now ≡ before
   pub rose : status ≡ fault → Rose before now
 
--- how much was read of a script that was played or refused: all of it, or where it is too long, one byte more than the
--- longest has at least, and at most a piece more
+-- how much is gone of a script whose run was refused: all of it, or where it is too long, one byte more than the longest
+-- has at least, and at most a piece more
 pub record IsRead (script : List ℕ) (left : Option (List ℕ)) : Type 0 where
   pub whole : length script ≤ LONGEST_SCRIPT → IsAtEnd left
   pub part : LONGEST_SCRIPT < length script → ConsumesBetween (Some script) left (LONGEST_SCRIPT + 1) (LONGEST_SCRIPT + PIECE)
