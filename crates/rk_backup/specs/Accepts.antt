@@ -1,5 +1,5 @@
 -- What a backup accepts of bytes that come for a segment, and what it has of them then.
-use Rattle.std.specs.Prelude.{ℕ, ◌-◌, Bool, ◌&&◌, nat_le, min, if◌then◌else◌, List, [], length, take, drop, bytes_eq, Result, Ok, Err}
+use Rattle.std.specs.Prelude.{ℕ, ◌-◌, ◌≡◌, ◌<◌, ◌⊎◌, Bool, ◌&&◌, nat_le, min, if◌then◌else◌, List, [], length, take, drop, bytes_eq, Result, Ok, Err}
 use Rattle.rk_outside.specs.declared.replica.Lost.{Lost}
 use Rattle.rk_outside.specs.declared.replica.Lost.TheVariants.{Failed, NoMemory}
 use Rattle.rk_outside.specs.Segments.{Segments, Lengths, ChangesAt, IsSame, LeavesPart, LengthensAtMost, bytes_of, with_part}
@@ -24,8 +24,14 @@ Accepts (Ok _) master segment at bytes old new =
 Accepts (Err Failed) master segment at bytes old new = LeavesPart master segment (added at bytes (bytes_of (old master segment))) old new
 Accepts (Err NoMemory) master segment at bytes old new = IsSame old new
 
--- what becomes of the lengths, also of segments that are not told: one grows at most by so much
-abbrev pub Grows : {T : Type 0} → Result T Lost → ℕ → ℕ → ℕ → Lengths → Lengths → Type 0
-Grows (Ok _) master segment count old new = LengthensAtMost master segment count old new
-Grows (Err Failed) master segment count old new = LengthensAtMost master segment count old new
-Grows (Err NoMemory) master segment count old new = IsSame old new
+-- a segment has so many bytes now: as many as before, or all up to the end of those that came
+pub record Reaches (master segment end stored : ℕ) (old new : Lengths) : Type 0 where
+  pub reached : (stored ≡ old master segment) ⊎ ((stored ≡ end) × (old master segment < end))
+  pub change : ChangesAt master segment stored old new
+
+-- what becomes of the lengths, also of segments that are not told, where bytes came that end there: one segment has as
+-- many bytes as the answer says, and after a failure it has grown towards that end at most
+abbrev pub Grows : Result ℕ Lost → ℕ → ℕ → ℕ → Lengths → Lengths → Type 0
+Grows (Ok stored) master segment end old new = Reaches master segment end stored old new
+Grows (Err Failed) master segment end old new = LengthensAtMost master segment (end - old master segment) old new
+Grows (Err NoMemory) master segment end old new = IsSame old new

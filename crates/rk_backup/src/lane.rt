@@ -1,4 +1,4 @@
-use crate::accept::accept;
+use crate::agree::agrees_with_stored;
 use rk_outside::{Lost, Replica};
 use rk_types::SEGMENT_BYTES;
 use std::alloc::Global;
@@ -50,7 +50,7 @@ impl<R: Replica> BackupLane<R> {
         ensures length { IfOk result (λ stored. stored ≡ R.lengths (replica_of self.new) master segment) }
         ensures segments { WhereTold (Accepts result master segment at bytes.now)
             (R.segments (replica_of self.old)) (R.segments (replica_of self.new)) }
-        ensures lengths { Grows result master segment (length bytes.now)
+        ensures lengths { Grows result master segment (at + length bytes.now)
             (R.lengths (replica_of self.old)) (R.lengths (replica_of self.new)) }
         ensures gap { R.lengths (replica_of self.old) master segment < at
             → result ≡ Ok (R.lengths (replica_of self.old) master segment) }
@@ -59,7 +59,20 @@ impl<R: Replica> BackupLane<R> {
         ensures number { number_of self.new ≡ number_of self.old }
         ensures cause { HasLossCause (R.faults (replica_of self.old)) (R.faults (replica_of self.new)) result }
     {
-        accept(&mut self.replica, alloc, master, segment, at, bytes)
+        let stored = self.replica.length(master, segment);
+        if stored < at {
+            return Ok(stored);
+        }
+        if !agrees_with_stored(&mut self.replica, alloc, master, segment, at, bytes)? {
+            return Ok(stored);
+        }
+        let kept = (stored - at) as usize;
+        if bytes.len() <= kept {
+            return Ok(stored);
+        }
+        let (_, more) = bytes.split_at(kept);
+        self.replica.append(alloc, master, segment, stored, more)?;
+        Ok(stored + more.len() as u32)
     }
 
     /// The bytes of a segment; None where it was never written. No segment changes. `Failed` comes only where the

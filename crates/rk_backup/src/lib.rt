@@ -7,7 +7,7 @@
 
 pub use lane::BackupLane;
 
-mod accept;
+mod agree;
 mod lane;
 #[cfg(test)]
 mod tests;

@@ -11,7 +11,7 @@ mod gate;
 mod memory_replica;
 mod reading;
 mod replica;
-mod shelf;
+mod segment_store;
 mod sink;
 mod source;
 mod standard;

@@ -6,7 +6,7 @@ ghost use Rattle.rk_outside.specs.Segments.{bytes_of, lengths_of, GrowsAtMost, I
 ghost use Rattle.rk_outside.specs.Replicas.{new_replica, segments_of, IsUnwritten, fails_next, FailsWhere, after_append, after_read};
 
 use crate::replica::{Lost, Replica};
-use crate::shelf::Shelf;
+use crate::segment_store::SegmentStore;
 use rk_types::SEGMENT_BYTES;
 use std::alloc::Global;
 use std::marker::Model;
@@ -15,7 +15,7 @@ use std::marker::Model;
 /// segments.
 #[derive(Drop)]
 pub struct MemoryReplica<'a> {
-    shelf: Shelf,
+    segments: SegmentStore,
     calls: u64,
     failing: &'a [u64],
     kept: usize,
@@ -30,7 +30,7 @@ impl<'a> Model for MemoryReplica<'a> {
     ghost coded = { replica_state_code };
 
     ghost view = { λ r. record {
-      written = r.shelf;
+      written = r.segments;
       calls = r.calls;
       failing = r.failing.now;
       kept = r.kept;
@@ -54,7 +54,7 @@ impl<'a> MemoryReplica<'a> {
         ensures unwritten { IsUnwritten (segments_of result) }
     {
         MemoryReplica {
-            shelf: Shelf::new(alloc),
+            segments: SegmentStore::new(alloc),
             calls: 0,
             failing: &[],
             kept: 0,
@@ -140,12 +140,15 @@ impl Replica for MemoryReplica<'_> {
         ensures after { self.new ≡ after_append result master segment bytes.now self.old }
     {
         if !self.will_fail() {
-            self.shelf.add(alloc, master, segment, bytes)?;
+            self.segments.add(alloc, master, segment, bytes)?;
             self.calls = self.calls.saturating_add(1);
             return Ok(());
         }
         let kept = front(bytes, self.kept);
-        self.shelf.keep(alloc, master, segment, kept)?;
+        if kept.is_empty() {
+            return Err(self.fail());
+        }
+        self.segments.add(alloc, master, segment, kept)?;
         Err(self.fail())
     }
 
@@ -174,7 +177,7 @@ impl Replica for MemoryReplica<'_> {
         if self.will_fail() {
             return Err(self.fail());
         }
-        let Some(bytes) = self.shelf.get(master, segment) else {
+        let Some(bytes) = self.segments.get(master, segment) else {
             self.calls = self.calls.saturating_add(1);
             return Ok(false);
         };
@@ -184,7 +187,7 @@ impl Replica for MemoryReplica<'_> {
     }
 
     fn length(&self, master: u8, segment: u32) -> u32 {
-        match self.shelf.get(master, segment) {
+        match self.segments.get(master, segment) {
             None => 0,
             Some(bytes) => bytes.len() as u32,
         }

@@ -7,7 +7,7 @@ ghost use Rattle.rk_outside.specs.declared.reading.ReadError.TheVariants.{Failed
 
 use crate::fault::Failed;
 use crate::source::Source;
-use std::alloc::{AllocError, AllocFailed, Global};
+use std::alloc::{AllocError, Global};
 use thiserror::Error;
 
 /// The most bytes that one call of a source is asked for.
@@ -43,14 +43,6 @@ impl From<AllocError> for ReadError {
     }
 }
 
-impl<T: Drop> From<AllocFailed<T>> for ReadError {
-    ghost from_gives = { λ _ e. e ≡ no_memory };
-
-    fn from(_: AllocFailed<T>) -> ReadError {
-        ReadError::NoMemory
-    }
-}
-
 // So many zeros, for a source to write over.
 fn zeros(alloc: Global, count: usize) -> Result<Vec<u8>, AllocError>
     ensures { IfOk result (λ zeros. vec_len zeros ≡ count) }
@@ -61,7 +53,8 @@ fn zeros(alloc: Global, count: usize) -> Result<Vec<u8>, AllocError>
 /// Reads all that the source has left, which is to be at most `limit` bytes, in pieces of at most
 /// `PIECE` bytes. `TooLong` comes where more than `limit` bytes came: reading stops there, so that
 /// never more than `limit` bytes and one piece are held. `Failed` comes only where the source's count
-/// of faults rose, `NoMemory` for want of memory. After a refusal the bytes that were read are gone.
+/// of faults rose, and elsewhere the count stays; `NoMemory` comes for want of memory. After a refusal
+/// the bytes that were read are gone.
 pub fn read_all<S: Source>(
     alloc: Global,
     limit: usize,
@@ -78,6 +71,7 @@ pub fn read_all<S: Source>(
     ensures failed { IsErrOf result ReadError.Failed
         → Rose (S.faults source.old) (S.faults source.new) }
     ensures later { S.faults source.old ≤ S.faults source.new }
+    ensures kept { (IsErrOf result ReadError.Failed → ⊥) → S.faults source.new ≡ S.faults source.old }
 
     // What is gone from the source.
     ensures consumed { IfOk result (λ bytes.

@@ -3,7 +3,7 @@ ghost use Rattle.std.specs.Prelude.{ℕ, ◌≡◌, ◌+◌, ◌≤◌, ◌++◌
 ghost use Rattle.rk_outside.specs.declared.replica.Lost.TheVariants.{NoMemory as no_memory};
 
 use rk_types::SEGMENT_BYTES;
-use std::alloc::{AllocError, AllocFailed, Global};
+use std::alloc::{AllocError, Global};
 use thiserror::Error;
 
 /// Why a replica could not do what it was asked.
@@ -21,14 +21,6 @@ impl From<AllocError> for Lost {
     ghost from_gives = { λ _ lost. lost ≡ no_memory };
 
     fn from(_: AllocError) -> Lost {
-        Lost::NoMemory
-    }
-}
-
-impl<T: Drop> From<AllocFailed<T>> for Lost {
-    ghost from_gives = { λ _ lost. lost ≡ no_memory };
-
-    fn from(_: AllocFailed<T>) -> Lost {
         Lost::NoMemory
     }
 }
@@ -51,7 +43,7 @@ pub trait Replica {
 
     /// Adds `bytes` at the end of the segment. `at` is its length, and with them it may have at most
     /// `SEGMENT_BYTES` bytes. After `Failed` some first part of them was added, maybe none, and the
-    /// count of faults rose; after `NoMemory` none was. No other segment changes.
+    /// count of faults rose; after `NoMemory` none was. No other segment changes, and else the count stays.
     fn append(
         &mut self,
         alloc: Global,
@@ -70,7 +62,7 @@ pub trait Replica {
 
     /// Appends the bytes of the segment to `into`, at most `SEGMENT_BYTES`, and answers whether it was
     /// ever written. No segment changes. After a refusal `into` is as it was; `Failed` comes only
-    /// where the count of faults rose.
+    /// where the count of faults rose, and else it stays.
     fn read(
         &mut self,
         alloc: Global,

@@ -1,13 +1,13 @@
 // Where output goes, a piece at a time.
-ghost use Rattle.std.specs.Prelude.{ℕ, ◌≡◌, ◌<◌, ◌++◌, List, Option, Some, Ok, Err, length, take, unwrap_or, IsErr, IfOk, OnErr, IsTrue};
+ghost use Rattle.std.specs.Prelude.{ℕ, ◌≡◌, ◌<◌, ◌++◌, List, Option, Some, Ok, Err, length, take, unwrap_or, is_err, IfOk, if◌then◌else◌};
 ghost use Rattle.std.specs.Result.{result_ok};
 ghost use Rattle.std.specs.Io.{WritesAtMost};
 ghost use Rattle.std.specs.Io.KnownBytes.{WriteAppends};
-ghost use Rattle.rk_outside.specs.Faults.{HasCause, HasTaken, one_more};
-ghost use Rattle.rk_outside.specs.Memory.{new_sink, is_listed, taken_of, faults_after};
+ghost use Rattle.rk_outside.specs.Faults.{HasPutCause, one_more};
+ghost use Rattle.rk_outside.specs.Memory.{new_sink, fails_next, is_fault, taken_of};
 
 use crate::fault::Failed;
-use std::alloc::Global;
+use std::alloc::{AllocError, Global};
 use std::marker::Model;
 
 /// Output that is taken in pieces. It may tell the bytes that were written, and it counts its
@@ -21,18 +21,18 @@ pub trait Sink {
 
     /// Writes the first bytes of `piece`, and answers how many they are. `Failed` comes only where the
     /// count of faults rose in this call, and then nothing was written. So does 0 for a piece that has
-    /// bytes.
+    /// bytes. Elsewhere the count stays.
     fn put(&mut self, piece: &[u8]) -> Result<usize, Failed>
         ensures within { WritesAtMost result piece.now }
         ensures bytes { WriteAppends (written self.old) (written self.new) result piece.now }
-        ensures cause { HasCause (faults self.old) (faults self.new) result }
-        ensures taken { HasTaken (faults self.old) (faults self.new) result piece.now };
+        ensures cause { HasPutCause (faults self.old) (faults self.new) result piece.now };
 }
 
-/// A sink in memory, for tests. It tells its bytes.
+/// A sink in memory, for tests. It tells its bytes, and its memory is taken when it is made.
 #[derive(Drop)]
 pub struct MemorySink<'a> {
     bytes: Vec<u8>,
+    room: usize,
     most: usize,
     calls: u64,
     failing: &'a [u64],
@@ -42,12 +42,13 @@ pub struct MemorySink<'a> {
 
 impl<'a> Model for MemorySink<'a> {
     ghost use Rattle.std.specs.Prelude.{ℕ, ◌<◌};
-    ghost use Rattle.rk_outside.specs.Memory.{SinkState};
+    ghost use Rattle.rk_outside.specs.Memory.{SinkState, HasRoom};
 
     ghost Value = { SinkState };
 
     ghost view = { λ s. record {
       written = s.bytes.items;
+      room = s.room;
       most = s.most;
       calls = s.calls;
       failing = s.failing.now;
@@ -55,22 +56,25 @@ impl<'a> Model for MemorySink<'a> {
       faults = s.faults;
     } };
 
-    ghost invariant = { λ s. 0 < s.most };
+    ghost invariant = { λ s. HasRoom s.bytes s.room × (0 < s.most) };
 }
 
 impl<'a> MemorySink<'a> {
-    /// A sink that holds nothing, takes all that it is given and fails only where it finds no memory.
-    pub fn new(alloc: Global) -> MemorySink<'a>
-        ensures { result ≡ new_sink }
+    /// A sink that holds nothing, has room for so many bytes, and takes all that it is given and has
+    /// room for.
+    pub fn new(alloc: Global, room: usize) -> Result<MemorySink<'a>, AllocError>
+        ensures { IfOk result (λ sink. sink ≡ new_sink room) }
     {
-        MemorySink {
-            bytes: Vec::new(alloc),
+        let bytes = Vec::with_capacity(alloc, room)?;
+        Ok(MemorySink {
+            bytes,
+            room,
             most: usize::MAX,
             calls: 0,
             failing: &[],
             idle: &[],
             faults: 0,
-        }
+        })
     }
 
     /// The same sink, each call of which takes at most so many bytes.
@@ -92,8 +96,7 @@ impl<'a> MemorySink<'a> {
         sink
     }
 
-    /// The same sink, whose calls of these numbers take nothing, which is a fault too. Calls are
-    /// counted from 1.
+    /// The same sink, whose calls of these numbers take nothing. Calls are counted from 1.
     pub fn taking_nothing(self, calls: &'a [u64]) -> MemorySink<'a>
         ensures { result ≡ record self.entry { idle = calls.now } }
     {
@@ -109,11 +112,21 @@ impl<'a> MemorySink<'a> {
         self.bytes.as_slice()
     }
 
-    /// How often it failed or took nothing.
+    /// How often it failed, or took nothing of some bytes.
     pub fn faults(&self) -> u64
         ensures { result ≡ self.now.faults }
     {
         self.faults
+    }
+
+    // How many of so many bytes the next call takes, where it does not fail.
+    fn taken(&self, count: usize) -> usize
+        ensures { result ≡ taken_of self.now count }
+    {
+        if self.idle.contains(&self.calls.saturating_add(1)) {
+            return 0;
+        }
+        (self.room - self.bytes.len()).min(self.most.min(count))
     }
 }
 
@@ -122,40 +135,31 @@ impl Sink for MemorySink<'_> {
 
     ghost faults = { λ s. s.faults };
 
-    // Where it finds no memory for what it is to hold, that is a fault of its device.
     fn put(&mut self, piece: &[u8]) -> Result<usize, Failed>
         ensures within { WritesAtMost result piece.now }
         ensures bytes { WriteAppends (Some self.old.written) (Some self.new.written)
             result piece.now }
-        ensures cause { HasCause self.old.faults self.new.faults result }
-        ensures taken { HasTaken self.old.faults self.new.faults result piece.now }
+        ensures cause { HasPutCause self.old.faults self.new.faults result piece.now }
 
-        // It fails at the calls of its list, and else takes as much as it may.
-        ensures fails { IsTrue (is_listed self.old.failing (one_more self.old.calls))
-            → IsErr result }
+        // It fails exactly at the calls of its list, and else takes as much as it may and has room for.
+        ensures fails { is_err result ≡ fails_next self.old }
         ensures count { IfOk result (λ count. count ≡ taken_of self.old (length piece.now)) }
         ensures after { self.new ≡ record self.old {
           written = self.old.written ++ take (unwrap_or (result_ok result) 0) piece.now;
           calls = one_more self.old.calls;
-          faults = faults_after self.old result;
+          faults = (if is_fault self.old (length piece.now) then one_more self.old.faults else self.old.faults);
         } }
     {
+        let count = self.taken(piece.len());
         self.calls = self.calls.saturating_add(1);
         if self.failing.contains(&self.calls) {
             self.faults = self.faults.saturating_add(1);
             return Err(Failed);
         }
-        if self.idle.contains(&self.calls) {
+        if count == 0 && !piece.is_empty() {
             self.faults = self.faults.saturating_add(1);
-            return Ok(0);
         }
-        let count = self.most.min(piece.len());
-        match self.bytes.extend_from_slice(&piece[..count]) {
-            Ok(()) => Ok(count),
-            Err(_) => {
-                self.faults = self.faults.saturating_add(1);
-                Err(Failed)
-            }
-        }
+        self.bytes.extend_from_slice(&piece[..count]).unwrap();
+        Ok(count)
     }
 }

@@ -20,7 +20,7 @@ pub trait Source {
 
     /// Hands over the next bytes at the front of `into`, and answers how many they are: 0 at the end
     /// of the input alone. `Failed` comes only where the count of faults rose in this call, and then
-    /// nothing was handed over. What stands in `into` past the count is free.
+    /// nothing was handed over; else the count stays. What stands in `into` past the count is free.
     fn next(&mut self, into: &mut [u8]) -> Result<usize, Failed>
         requires { 0 < length into.old }
         ensures within { ReadsAtMost result into.new }

@@ -42,14 +42,15 @@ fn a_failing_call_ends_the_reading_and_keeps_the_rest(rt: HostRuntime) -> Result
 }
 
 #[test]
-fn writes_in_pieces_until_a_call_goes_wrong(rt: HostRuntime) {
-    let cases: [(&[u64], &[u64], Result<(), Failed>, &[u8]); 3] = [
-        (&[], &[], Ok(()), b"hello"),
-        (&[3], &[], Err(Failed), b"hell"),
-        (&[], &[2], Err(Failed), b"he"),
+fn writes_in_pieces_until_a_call_goes_wrong(rt: HostRuntime) -> Result<(), Fail> {
+    let cases: [(usize, &[u64], &[u64], Result<(), Failed>, &[u8]); 4] = [
+        (5, &[], &[], Ok(()), b"hello"),
+        (5, &[3], &[], Err(Failed), b"hell"),
+        (5, &[], &[2], Err(Failed), b"he"),
+        (3, &[], &[], Err(Failed), b"hel"),
     ];
-    for (failing, idle, want, written) in cases {
-        let mut sink = MemorySink::new(rt.alloc())
+    for (room, failing, idle, want, written) in cases {
+        let mut sink = MemorySink::new(rt.alloc(), room)?
             .at_most(2)
             .failing(failing)
             .taking_nothing(idle);
@@ -57,6 +58,7 @@ fn writes_in_pieces_until_a_call_goes_wrong(rt: HostRuntime) {
         assert_eq!(rt; sink.bytes(), written);
         assert_eq!(rt; sink.faults(), if want.is_ok() { 0 } else { 1 });
     }
+    Ok(())
 }
 
 fn keeps_segments<R: Replica + Send + Drop>(

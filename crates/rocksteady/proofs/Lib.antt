@@ -6,4 +6,5 @@ pub mod TameLemmas
 pub mod PlayedLemmas
 pub mod StepLemmas
 pub mod LawfulLemmas
+pub mod ReceiptLemmas
 pub mod Examples

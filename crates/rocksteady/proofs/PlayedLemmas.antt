@@ -1,21 +1,22 @@
 -- A run goes on from what it has written and what is pending; these lemmas know of no command.
-use Rattle.std.proofs.Common.{◌≡◌, ℕ, ◌+◌, ◌<◌, List, [], ◌∷◌, ◌++◌, length, take, refl, sym, ◌∙◌, ap, subst, arith, append_assoc, length-append, Bool, true, false}
-use Rattle.std.specs.Prelude.{Option}
+use Rattle.std.proofs.Common.{◌≡◌, ℕ, ◌+◌, ◌<◌, ◌≤◌, List, [], ◌∷◌, ◌++◌, length, take, refl, sym, ◌∙◌, ap, subst, arith, append_assoc, length-append, Bool, true, false}
+use Rattle.std.specs.Prelude.{Option, Some, None, IfSome}
 use Rattle.std.specs.List.{concat}
-use Rattle.std.specs.Io.KnownBytes.{Appends}
+use Rattle.std.specs.Io.KnownBytes.{Appends, IsAtEnd}
 use Rattle.std.proofs.KnownBytes.{Appends-nil, Appends-trans, Appends-kept}
 use Rattle.std.proofs.lemmas.List.Folds.{concat-append}
 use Rattle.std.proofs.lemmas.List.{append-nil}
 use Rattle.std.proofs.Math.Seq.{take-append-add, take-append_seam}
 use Rattle.rk_types.specs.declared.status.Status.{Status}
 use Rattle.rk_types.specs.declared.status.Status.TheVariants.{Done, Refused, Usage, ReadFault, WriteFault, NoMemory, ReplicaFault, Audit, Worn}
-use Rattle.rk_outside.specs.Parts.{AppendsPart}
+use Rattle.rk_outside.specs.declared.reading.TheConstants.{PIECE}
+use Rattle.rk_outside.specs.Parts.{AppendsPart, ConsumesBetween}
 use Rattle.rk_outside.proofs.PartLemmas.{AppendsPart-more, AppendsPart-after}
 use Rattle.std.proofs.lemmas.Bool.{lt-ltb}
 use Rattle.rocksteady.specs.declared.script.TheConstants.{LONGEST_SCRIPT, TOO_LONG}
 use Rattle.rocksteady.specs.World.{new_world}
 use Rattle.rocksteady.specs.Played.{Played, text_of, after_pieces, played, refused_at}
-use Rattle.rocksteady.specs.Run.{Ends, Stops, Runs, Spills}
+use Rattle.rocksteady.specs.Run.{Ends, IsRead, Stops, Runs, Spills}
 
 -- the text of a run that wrote some pieces before
 pub text_of-after : (before : List (List ℕ)) (p : Played) → text_of (after_pieces before p) ≡ concat before ++ text_of p
@@ -141,6 +142,26 @@ Reached-done whole old mid new pending rest reached none done wrote =
       ended = done;
       written = rw (text_of-after reached.held rest, none, reached.pending_is, append-nil pending) wrote;
     }))
+
+-- a run for which there is no memory at the start has written nothing
+stops_at_once : (p : Played) (old : Option (List ℕ)) → Runs p NoMemory old old
+stops_at_once p old = record { pieces = 0; few = omega arith; written = Appends-nil old }
+
+pub stops_told : (told old : Option (List ℕ)) → IfSome told (λ script. Runs (played script) NoMemory old old)
+stops_told None old = tt
+stops_told (Some script) old = stops_at_once (played script) old
+
+-- a script that was read whole
+pub IsRead-whole : (told left : Option (List ℕ)) (bytes : List ℕ) → IfSome told (λ all. bytes ≡ all) → length bytes ≤ LONGEST_SCRIPT → IsAtEnd left → IfSome told (λ script. IsRead script left)
+IsRead-whole None left bytes is few end = tt
+IsRead-whole (Some script) left bytes is few end =
+    let long = ap length is in
+    record { whole = λ _. end; part = λ longer. absurd (omega (arith, few, long, longer)) }
+
+-- and one that is too long, of which no more was read than shows it
+pub IsRead-part : (told left : Option (List ℕ)) → IfSome told (λ all. LONGEST_SCRIPT < length all) → ConsumesBetween told left (LONGEST_SCRIPT + 1) (LONGEST_SCRIPT + PIECE) → IfSome told (λ script. IsRead script left)
+IsRead-part None left longer part = tt
+IsRead-part (Some script) left longer part = record { whole = λ few. absurd (omega (arith, few, longer)); part = λ _. part }
 
 -- a script that is too long is refused at line 0
 pub played-too_long : (script : List ℕ) → LONGEST_SCRIPT < length script → played script ≡ refused_at 0 TOO_LONG new_world

@@ -6,4 +6,6 @@ pub mod Tame
 pub mod Refusals
 pub mod Played
 pub mod Lawful
+pub mod Receipts
 pub mod Run
+pub mod Words

@@ -9,7 +9,7 @@ use crate::command::Command;
 use crate::lines;
 use rk_lane::PlainLane;
 use rk_types::{Call, Key, LANES, NoMemory, Op, hash, lane_of};
-use std::alloc::{AllocError, Global};
+use std::alloc::Global;
 use std::marker::Model;
 use thiserror::Error;
 
@@ -31,14 +31,6 @@ impl From<NoMemory> for StepError {
     ghost from_gives = { λ _ e. e ≡ no_memory };
 
     fn from(_error: NoMemory) -> StepError {
-        StepError::NoMemory
-    }
-}
-
-impl From<AllocError> for StepError {
-    ghost from_gives = { λ _ e. e ≡ no_memory };
-
-    fn from(_error: AllocError) -> StepError {
         StepError::NoMemory
     }
 }

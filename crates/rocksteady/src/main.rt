@@ -15,22 +15,31 @@ mod script;
 mod tests;
 mod words;
 
-ghost use Rattle.std.specs.Prelude.{◌≡◌, IfOk, drop, vec_len};
+ghost use Rattle.std.specs.Prelude.{◌≡◌, ◌≢◌, drop, map, true, false, IfErr, IfOk, IfSome, IsErr, IsOk, string_bytes, vec_len};
+ghost use Rattle.std.specs.List.{All};
+ghost use Rattle.std.specs.IoError.{error_kind};
 ghost use Rattle.std.specs.Vec.Iter.{into_iter_items};
+ghost use Rattle.rk_outside.specs.Replicas.{new_replica};
+ghost use Rattle.rocksteady.specs.Played.{played, usage};
+ghost use Rattle.rocksteady.specs.Run.{Runs, is_play};
+ghost use Rattle.rocksteady.specs.Words.{words_after};
 
-use rk_outside::{MemoryReplica, OpenGate, StdSink, StdSource};
+use rk_outside::{MemoryReplica, OpenGate, Sink, Source, StdSink, StdSource};
 use rk_types::{NoMemory, Status};
 use std::alloc::Global;
 use std::env::{self, Args};
-use std::io;
+use std::io::{self, ErrorKind};
 use std::process::ExitCode;
+use std::sync::Wait;
+use std::thread::Threads;
 
 /// How many replicas a run has: one for each of four backups and eight lanes.
 const REPLICAS: usize = 32;
 
-// The replicas of a run, which hold nothing.
+// The replicas of a run, which hold nothing, and no call of which fails.
 fn replicas(alloc: Global) -> Result<Vec<MemoryReplica<'static>>, NoMemory>
-    ensures { IfOk result (λ replicas. vec_len replicas ≡ REPLICAS) }
+    ensures count { IfOk result (λ replicas. vec_len replicas ≡ REPLICAS) }
+    ensures new { IfOk result (λ replicas. All (λ replica. replica ≡ new_replica) replicas.items) }
 {
     let mut replicas = Vec::with_capacity(alloc, REPLICAS)?;
     'replicas: while replicas.len() < REPLICAS {
@@ -46,27 +55,53 @@ fn after_name(alloc: Global, words: Args) -> Result<Vec<String>, NoMemory>
     Ok(words.skip(1).collect(alloc)?)
 }
 
-fn main(rt: HostRuntime) -> ExitCode {
-    let alloc = rt.alloc();
-    let Ok(all) = env::args(&rt) else {
-        return ExitCode::from(Status::NoMemory.number());
-    };
-    let Ok(words) = after_name(alloc, all) else {
-        return ExitCode::from(Status::NoMemory.number());
+// The words after the program's name. Where one of its words is not text they are none, which is no form of the program.
+fn given_words(alloc: Global, given: io::Result<Args>) -> Result<Vec<String>, NoMemory>
+    ensures words { IfOk result (λ words. words.items ≡ words_after given) }
+    ensures memory { IfErr given (λ e. error_kind e ≡ ErrorKind.OutOfMemory → IsErr result) }
+    ensures not_text { IfErr given (λ e. error_kind e ≢ ErrorKind.OutOfMemory → IsOk result) }
+{
+    match given {
+        Ok(words) => after_name(alloc, words),
+        Err(e) if e.kind() == ErrorKind::OutOfMemory => Err(NoMemory),
+        Err(_) => Ok(Vec::new(alloc)),
+    }
+}
+
+// Runs the program with the words that the system gave it, over new replicas.
+#[tactic(auto, using(crate::proofs::PlayedLemmas::stops_told))]
+fn start<X: Threads + Wait + Sync, S: Source, K: Sink>(
+    rt: &X,
+    alloc: Global,
+    given: io::Result<Args>,
+    source: &mut S,
+    sink: &mut K,
+) -> Status
+    ensures play { is_play (map string_bytes (words_after given)) ≡ true → IfSome (S.left source.old) (λ script.
+        Runs (played script) result (K.written sink.old) (K.written sink.new)) }
+    ensures wrong_words { is_play (map string_bytes (words_after given)) ≡ false →
+        Runs usage result (K.written sink.old) (K.written sink.new) }
+{
+    let Ok(words) = given_words(alloc, given) else {
+        return Status::NoMemory;
     };
     let Ok(mut replicas) = replicas(alloc) else {
-        return ExitCode::from(Status::NoMemory.number());
+        return Status::NoMemory;
     };
-    let mut source = StdSource::new(rt.reader());
-    let mut sink = StdSink::new(io::writer(&rt));
-    let status = run::run(
-        &rt,
+    run::run(
+        rt,
         alloc,
         words.as_slice(),
-        &mut source,
-        &mut sink,
+        source,
+        sink,
         &mut replicas,
         &OpenGate,
-    );
+    )
+}
+
+fn main(rt: HostRuntime) -> ExitCode {
+    let mut source = StdSource::new(rt.reader());
+    let mut sink = StdSink::new(io::writer(&rt));
+    let status = start(&rt, rt.alloc(), env::args(&rt), &mut source, &mut sink);
     ExitCode::from(status.number())
 }

@@ -1,10 +1,10 @@
 ghost use Rattle.std.specs.Prelude.{◌≡◌, ◌≤◌, ◌^◌, List, ℕ, length, nat_lt, IfErr, OnOk, OnErr, vec_len};
 ghost use Rattle.std.specs.List.{concat};
-ghost use Rattle.rk_outside.specs.Faults.{HasCause, Rose};
+ghost use Rattle.rk_outside.specs.Faults.{HasCause};
 ghost use Rattle.rk_outside.specs.Parts.{AppendsPart};
 ghost use Rattle.rocksteady.specs.Played.{Played, after_pieces, played, played_from, refused_at};
 ghost use Rattle.rocksteady.specs.Refusals.{IsStepRefusal, IsStoppedBy};
-ghost use Rattle.rocksteady.specs.Run.{Adds, Runs, Spills};
+ghost use Rattle.rocksteady.specs.Run.{Adds, HasStatusCause, Runs, Spills};
 ghost use Rattle.rocksteady.specs.Tame.{IsTame};
 ghost use Rattle.rocksteady.specs.World.{World, new_world, step};
 
@@ -22,8 +22,7 @@ pub fn refuse<K: Sink>(alloc: Global, line: u32, code: u8, sink: &mut K) -> Stat
     ensures read { result ≡ Status.ReadFault → ⊥ }
     ensures usage { result ≡ Status.Usage → ⊥ }
     ensures done { result ≡ Status.Done → ⊥ }
-    ensures later { K.faults sink.old ≤ K.faults sink.new }
-    ensures fault { result ≡ Status.WriteFault → Rose (K.faults sink.old) (K.faults sink.new) }
+    ensures cause { HasStatusCause Status.WriteFault result (K.faults sink.old) (K.faults sink.new) }
 {
     let text = match lines::refused(alloc, line, code) {
         Ok(text) => text,
@@ -41,8 +40,7 @@ fn stop<K: Sink>(alloc: Global, line: u32, error: StepError, pending: &[u8], sin
         → Runs (after_pieces held p) result (K.written sink.old) (K.written sink.new) }
     ensures read { result ≡ Status.ReadFault → ⊥ }
     ensures usage { result ≡ Status.Usage → ⊥ }
-    ensures later { K.faults sink.old ≤ K.faults sink.new }
-    ensures fault { result ≡ Status.WriteFault → Rose (K.faults sink.old) (K.faults sink.new) }
+    ensures cause { HasStatusCause Status.WriteFault result (K.faults sink.old) (K.faults sink.new) }
 {
     match put_all(sink, pending) {
         Ok(()) => {}
@@ -67,7 +65,9 @@ fn run_command(
     ensures pending { OnErr result (pending.new.items ≡ pending.old.items) }
 {
     let text = cluster.step(alloc, command)?;
-    pending.extend_from_slice(text.as_slice())?;
+    pending
+        .extend_from_slice(text.as_slice())
+        .map_err(|_| StepError::NoMemory)?;
     Ok(())
 }
 
@@ -90,8 +90,7 @@ fn play_commands<K: Sink>(alloc: Global, commands: Vec<(u32, Command)>, sink: &m
     ensures runs { Runs (played_from commands.items new_world) result (K.written sink.old) (K.written sink.new) }
     ensures read { result ≡ Status.ReadFault → ⊥ }
     ensures usage { result ≡ Status.Usage → ⊥ }
-    ensures later { K.faults sink.old ≤ K.faults sink.new }
-    ensures fault { result ≡ Status.WriteFault → Rose (K.faults sink.old) (K.faults sink.new) }
+    ensures cause { HasStatusCause Status.WriteFault result (K.faults sink.old) (K.faults sink.new) }
 {
     let mut cluster = match Cluster::new(alloc) {
         Ok(cluster) => cluster,
@@ -119,8 +118,7 @@ pub fn play<K: Sink>(alloc: Global, script: &[u8], sink: &mut K) -> Status
     ensures runs { Runs (played script.now) result (K.written sink.old) (K.written sink.new) }
     ensures read { result ≡ Status.ReadFault → ⊥ }
     ensures usage { result ≡ Status.Usage → ⊥ }
-    ensures later { K.faults sink.old ≤ K.faults sink.new }
-    ensures fault { result ≡ Status.WriteFault → Rose (K.faults sink.old) (K.faults sink.new) }
+    ensures cause { HasStatusCause Status.WriteFault result (K.faults sink.old) (K.faults sink.new) }
 {
     match script::parse(alloc, script) {
         Ok(commands) => play_commands(alloc, commands, sink),

@@ -7,7 +7,7 @@ ghost use Rattle.rocksteady.specs.declared.script.ScriptError.TheVariants.{NoMem
 use crate::command::Command;
 use crate::words;
 use rk_types::NoMemory;
-use std::alloc::{AllocError, AllocFailed, Global};
+use std::alloc::{AllocFailed, Global};
 use thiserror::Error;
 
 /// The most bytes that a script has.
@@ -37,14 +37,6 @@ impl From<NoMemory> for ScriptError {
     ghost from_gives = { λ _ e. e ≡ no_memory };
 
     fn from(_error: NoMemory) -> ScriptError {
-        ScriptError::NoMemory
-    }
-}
-
-impl From<AllocError> for ScriptError {
-    ghost from_gives = { λ _ e. e ≡ no_memory };
-
-    fn from(_error: AllocError) -> ScriptError {
         ScriptError::NoMemory
     }
 }

@@ -16,6 +16,9 @@ const FIRST_CALL: (&str, &str) = (
     "reply 1 1 written 1\nreply 1 2 found 1 x\n",
 );
 
+/// How many bytes a sink in memory takes.
+const ROOM: usize = 4_096;
+
 // A whole script: the setup, and these lines.
 fn script(alloc: Global, lines: &str) -> Result<String, Fail> {
     let mut script = String::from_str(alloc, SETUP)?;
@@ -61,7 +64,7 @@ fn plays<X: Abort + Threads + Wait + Sync>(
 ) -> Result<(), Fail> {
     assert!(rt; piece > 0);
     let mut source = MemorySource::new(script.as_bytes()).at_most(piece);
-    let mut sink = MemorySink::new(alloc).at_most(piece);
+    let mut sink = MemorySink::new(alloc, ROOM)?.at_most(piece);
     let status = started(rt, alloc, &["play"], &mut source, &mut sink)?;
     assert_eq!(rt; sink.bytes(), wanted.1.as_bytes(), "{script}");
     assert_eq!(rt; status, wanted.0, "{script}");
@@ -191,7 +194,7 @@ fn longest_keys_and_scripts(rt: HostRuntime) -> Result<(), Fail> {
 fn faults_and_words(rt: HostRuntime) -> Result<(), Fail> {
     let whole = script(rt.alloc(), FIRST_CALL.0)?;
     let mut source = MemorySource::new(whole.as_bytes()).failing(&[2]);
-    let mut sink = MemorySink::new(rt.alloc());
+    let mut sink = MemorySink::new(rt.alloc(), ROOM)?;
     assert_eq!(rt;
         started(&rt, rt.alloc(), &["play"], &mut source, &mut sink)?,
         Status::ReadFault
@@ -199,7 +202,7 @@ fn faults_and_words(rt: HostRuntime) -> Result<(), Fail> {
     assert_eq!(rt; sink.bytes(), b"".as_slice());
 
     let mut source = MemorySource::new(whole.as_bytes());
-    let mut sink = MemorySink::new(rt.alloc()).at_most(8).failing(&[2]);
+    let mut sink = MemorySink::new(rt.alloc(), ROOM)?.at_most(8).failing(&[2]);
     assert_eq!(rt;
         started(&rt, rt.alloc(), &["play"], &mut source, &mut sink)?,
         Status::WriteFault
@@ -207,7 +210,7 @@ fn faults_and_words(rt: HostRuntime) -> Result<(), Fail> {
     assert_eq!(rt; sink.bytes(), b"reply 1 ".as_slice());
 
     let mut source = MemorySource::new(whole.as_bytes());
-    let mut sink = MemorySink::new(rt.alloc()).taking_nothing(&[1]);
+    let mut sink = MemorySink::new(rt.alloc(), ROOM)?.taking_nothing(&[1]);
     assert_eq!(rt;
         started(&rt, rt.alloc(), &["play"], &mut source, &mut sink)?,
         Status::WriteFault
@@ -217,7 +220,7 @@ fn faults_and_words(rt: HostRuntime) -> Result<(), Fail> {
     let lists: [&[&str]; 4] = [&[], &["--help"], &["play", "x"], &["Play"]];
     for words in lists {
         let mut source = MemorySource::new(whole.as_bytes());
-        let mut sink = MemorySink::new(rt.alloc());
+        let mut sink = MemorySink::new(rt.alloc(), ROOM)?;
         assert_eq!(rt;
             started(&rt, rt.alloc(), words, &mut source, &mut sink)?,
             Status::Usage

@@ -4,7 +4,7 @@ ghost use Rattle.rocksteady.specs.Script.{call_of, command_of, is_call, long_cal
 
 use crate::command::Command;
 use rk_types::{Key, NoMemory, Op, TextError, Value};
-use std::alloc::{AllocError, Global};
+use std::alloc::Global;
 
 /// The byte that parts the words of a line.
 pub const BLANK: u8 = b' ';
@@ -13,12 +13,14 @@ pub const BLANK: u8 = b' ';
 pub const MOST_WORDS: usize = 7;
 
 /// The first words of a line, at most `MOST_WORDS`.
-pub fn words(alloc: Global, line: &[u8]) -> Result<Vec<&[u8]>, AllocError>
+pub fn words(alloc: Global, line: &[u8]) -> Result<Vec<&[u8]>, NoMemory>
     ensures { IfOk result (λ words. map (λ word. word.now) words.items ≡ take MOST_WORDS (words_of line.now)) }
 {
-    line.split(|byte| *byte == BLANK)
+    let words = line
+        .split(|byte| *byte == BLANK)
         .take(MOST_WORDS)
-        .collect(alloc)
+        .collect(alloc)?;
+    Ok(words)
 }
 
 // Whether a word is this text.

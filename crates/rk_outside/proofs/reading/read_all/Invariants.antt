@@ -6,7 +6,7 @@ use Rattle.rk_outside.proofs.reading.read_all.Given as goal
 abbrev pub invariant-pieces : goal.invariant-pieces
 invariant-pieces g l = record {
   consumed : Consumes (g.S.Source.left l.fn.source) (g.S.Source.left l.source) l.bytes.items;
-  later : g.S.Source.faults l.fn.source ≤ g.S.Source.faults l.source;
+  kept : g.S.Source.faults l.source ≡ g.S.Source.faults l.fn.source;
   within : vec_len l.bytes ≤ l.limit + 65536;
   piece : length l.piece ≡ 65536;
 }

@@ -13,5 +13,5 @@ puts-preserved g c = record {
   done = c.puts.invariant.done ++ take c.in_ok-taken.taken c.puts.rest.now;
   parts = moved _ _ _ _ _ c.puts.invariant.parts c.split_at.ensures.back;
   written = Appends-trans _ _ _ _ _ c.puts.invariant.written c.in_ok-taken.ensures.bytes;
-  later = omega arith;
+  kept = c.in_ok-taken.ensures.cause.kept (λ some. omega arith) ∙ c.puts.invariant.kept;
 }

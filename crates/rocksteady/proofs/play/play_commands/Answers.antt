@@ -15,7 +15,7 @@ commands-init g c = record {
       rw (c.in-Ok.ensures, c.new-pending.ensures.items, c.into_iter-line-iterator.ensures.into_iter_gives.0)
       (Reached-start (played_from c.args.commands.items new_world) (g.K.Sink.written c.args.sink.now));
   walked = rw (c.in-Ok.ensures, c.into_iter-line-iterator.ensures.into_iter_gives.0) (Walked-start c.args.commands.items);
-  later = omega arith;
+  kept = refl;
 }
 
 pub returns-in-Err-run_command-clause-runs : goal.returns-in-Err-run_command-clause-runs
@@ -41,7 +41,7 @@ commands-preserved g c = record {
   walked =
       Walked-step c.args.commands.items (into_iter_items c.next.new.self) c.in-Some.line c.in-Some.command c.commands.cluster c.run_command.new.cluster c.commands.pending.items c.run_command.new.pending.items
       (rw c.in-Some.ensures.steps.0 at c.commands.invariant.walked) c.in-Ok-run_command.ensures.ok;
-  later = omega (arith, c.commands.invariant.later, c.in-Ok-spill.ensures.cause.later);
+  kept = c.in-Ok-spill.ensures.cause.kept ∙ c.commands.invariant.kept;
 }
 
 pub returns-in-Err-spill-clause-runs : goal.returns-in-Err-spill-clause-runs

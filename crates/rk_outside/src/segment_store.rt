@@ -2,7 +2,7 @@
 ghost use Rattle.std.specs.Prelude.{◌≡◌, ◌+◌, ◌≤◌, ◌++◌, length, IfOk, IfSome, OnOk, OnErr};
 ghost use Rattle.std.specs.Option.{option_map};
 ghost use Rattle.std.specs.FinMap.{empty, get};
-ghost use Rattle.rk_outside.specs.Replicas.{with_appended, with_kept};
+ghost use Rattle.rk_outside.specs.Replicas.{with_appended};
 ghost use Rattle.rk_outside.specs.Segments.{bytes_of};
 
 use rk_types::SEGMENT_BYTES;
@@ -54,26 +54,26 @@ impl Stored {
 
 /// Segments by the number of a master and of a segment, of which contracts see the finite map.
 #[derive(Drop)]
-pub(crate) struct Shelf {
+pub(crate) struct SegmentStore {
     segments: BTreeMap<(u8, u32), Stored>,
 }
 
-impl Model for Shelf {
+impl Model for SegmentStore {
     ghost use Rattle.rk_outside.specs.Replicas.{SegmentMap, segment_map_code, segments_in};
 
     ghost Value = { SegmentMap };
 
     ghost coded = { segment_map_code };
 
-    ghost view = { λ shelf. segments_in shelf.segments };
+    ghost view = { λ store. segments_in store.segments };
 }
 
-impl Shelf {
+impl SegmentStore {
     /// No segment was ever written.
-    pub(crate) fn new(alloc: Global) -> Shelf
+    pub(crate) fn new(alloc: Global) -> SegmentStore
         ensures { result ≡ empty }
     {
-        Shelf {
+        SegmentStore {
             segments: BTreeMap::new(alloc),
         }
     }
@@ -107,23 +107,5 @@ impl Shelf {
         let stored = Stored::new(alloc, bytes)?;
         self.segments.insert((master, segment), stored)?;
         Ok(())
-    }
-
-    /// Adds what a failed append kept of its bytes; where it kept none, nothing changes.
-    pub(crate) fn keep(
-        &mut self,
-        alloc: Global,
-        master: u8,
-        segment: u32,
-        bytes: &[u8],
-    ) -> Result<(), AllocError>
-        requires { length (bytes_of (get self.old (master, segment))) + length bytes.now ≤ SEGMENT_BYTES }
-        ensures ok { OnOk result (self.new ≡ with_kept self.old master segment bytes.now) }
-        ensures err { OnErr result (self.new ≡ self.old) }
-    {
-        if bytes.is_empty() {
-            return Ok(());
-        }
-        self.add(alloc, master, segment, bytes)
     }
 }

@@ -6,7 +6,7 @@ use Rattle.std.proofs.lemmas.Result.{on_ok_weaker, on_err_weaker}
 use Rattle.rk_outside.specs.Segments.{bytes_of}
 use Rattle.rk_outside.specs.Replicas.{segments_in}
 use Rattle.rk_outside.proofs.Places.{get-segments_in, segments_in-updated, segments_in-written_back}
-use Rattle.rk_outside.proofs.shelf.Shelf.add.Goals as goal
+use Rattle.rk_outside.proofs.segment_store.SegmentStore.add.Goals as goal
 
 pub add-requires : goal.add-requires
 add-requires c =

@@ -1,6 +1,6 @@
 use Rattle.std.proofs.Common.{◌∙◌, sym}
 use Rattle.rk_backup.proofs.Accepting.{accepted_told}
-use Rattle.rk_backup.proofs.accept.agrees_with_stored.Goals as goal
+use Rattle.rk_backup.proofs.agree.agrees_with_stored.Goals as goal
 
 pub returns-then-length-at-clause-same : goal.returns-then-length-at-clause-same
 returns-then-length-at-clause-same g c =

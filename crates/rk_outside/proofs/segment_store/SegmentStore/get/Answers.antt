@@ -1,6 +1,6 @@
 use Rattle.std.proofs.Common.{Some, sym, ap, ◌∙◌}
 use Rattle.rk_outside.proofs.Places.{get-segments_in}
-use Rattle.rk_outside.proofs.shelf.Shelf.get.Goals as goal
+use Rattle.rk_outside.proofs.segment_store.SegmentStore.get.Goals as goal
 
 pub returns-in-None-clause-value : goal.returns-in-None-clause-value
 returns-in-None-clause-value c =
