@@ -10,13 +10,12 @@ use Rattle.rk_log.specs.Known.{Known, known_length, nothing}
 use Rattle.rk_log.specs.Log.{new_log, known_of}
 use Rattle.rk_table.specs.Order.{IsInScanOrder}
 use Rattle.rk_done.specs.Completions.{ends_of}
-use Rattle.rk_world.specs.Base.{Base}
+use Rattle.rk_world.specs.Base.{no_base}
 use Rattle.rk_world.specs.Tablet.{Tablet, no_tablet}
 use Rattle.rk_world.specs.RoleTests.{is_absent}
 use Rattle.rk_world.specs.Master.{Master, new_master, tablet_at}
-use Rattle.rk_world.specs.Backup.{no_segments}
 use Rattle.rk_world.specs.Written.{written_by, truth_of, rest_of}
-use Rattle.rk_world.specs.World.{new_world, new_backups, master_at, backup_at, tablet_in, written_in, log_in, records_in, calls_in, lives}
+use Rattle.rk_world.specs.World.{new_world, master_at, backup_at, tablet_in, written_in, log_in, records_in, calls_in, lives}
 use Rattle.rk_world.specs.Sound.Nodes.{Nodes}
 use Rattle.rk_world.specs.Sound.Terms.{Terms}
 use Rattle.rk_world.specs.Sound.Cover.{Cover, IsEntryWithin, IsItemWithin, IsOfWholeRows}
@@ -61,33 +60,30 @@ length_replicated : {X : Type 0} (count : ℕ) (thing : X) → length (replicate
 length_replicated zero thing = refl
 length_replicated (suc count) thing = ap (λ (k : ℕ). suc k) (length_replicated count thing)
 
-module _ (base : Base) (lane masters backups : ℕ) where
-  nothing_of : (master tablet : ℕ) → tablet_in (new_world base lane masters backups) master tablet ≡ no_tablet
-  nothing_of master tablet = ap (λ (m : Master). tablet_at m tablet) (each_fresh base lane masters backups master).is_new
+module _ (lane masters backups : ℕ) where
+  nothing_of : (master tablet : ℕ) → tablet_in (new_world lane masters backups) master tablet ≡ no_tablet
+  nothing_of master tablet = ap (λ (m : Master). tablet_at m tablet) (each_fresh lane masters backups master).is_new
 
-  count_is : length (new_backups backups) ≡ backups
-  count_is = length_with (λ number. no_segments) (range_with_len 1 backups) ∙ length_numbers 1 backups
-
-  nodes_empty : 1 ≤ backups → Nodes (master_at (new_world base lane masters backups)) masters (length (new_backups backups)) [] [] (lives (new_world base lane masters backups))
+  nodes_empty : 1 ≤ backups → Nodes (master_at (new_world lane masters backups)) masters backups [] [] (lives (new_world lane masters backups))
   nodes_empty some = record {
-    numbered = λ master. ap (λ (m : Master). m.number) (each_fresh base lane masters backups master).is_new;
-    backed = subst (λ (n : ℕ). 1 ≤ n) (sym count_is) some;
+    numbered = λ master. ap (λ (m : Master). m.number) (each_fresh lane masters backups master).is_new;
+    backed = some;
     known = λ master there.
-        ap (λ (m : Master). length m.log.known) (there_fresh base lane masters backups master there)
-        ∙ length_replicated backups nothing ∙ sym count_is;
+        ap (λ (m : Master). length m.log.known) (there_fresh lane masters backups master there)
+        ∙ length_replicated backups nothing;
     named = λ master. All-nil _;
     crashed = All-nil _;
     left = λ master dead. absurd (cc);
   }
 
-  terms_empty : Terms [] (tablet_in (new_world base lane masters backups)) []
+  terms_empty : Terms [] (tablet_in (new_world lane masters backups)) []
   terms_empty = record {
     handovers = λ master tablet. All-nil _;
     apart = λ master a b apart first second. absurd (not_absent _ (nothing_of master a) first);
     sent = nothing_kept _;
   }
 
-  roles_empty : Roles [] (tablet_in (new_world base lane masters backups)) (written_in (new_world base lane masters backups)) (lives (new_world base lane masters backups))
+  roles_empty : Roles [] (tablet_in (new_world lane masters backups)) (written_in (new_world lane masters backups)) (lives (new_world lane masters backups))
   roles_empty = record {
     fitting = λ master. All-nil _;
     ranged = λ master. All-nil _;
@@ -112,26 +108,26 @@ log_empty known stored nothing_known nothing_stored = record {
   marked = All-nil _;
 }
 
-module _ (base : Base) (lane masters backups : ℕ) where
-  logs_empty : Logs (log_in (new_world base lane masters backups)) (written_in (new_world base lane masters backups)) (backup_at (new_world base lane masters backups)) []
+module _ (lane masters backups : ℕ) where
+  logs_empty : Logs (log_in (new_world lane masters backups)) (written_in (new_world lane masters backups)) (backup_at (new_world lane masters backups)) []
   logs_empty = record {
     each = λ master.
-        let fresh = each_fresh base lane masters backups master in
+        let fresh = each_fresh lane masters backups master in
         subst
-        (λ (m : Master). IsLog m.log (written_by m []) (stored_of (backup_at (new_world base lane masters backups)) master))
+        (λ (m : Master). IsLog m.log (written_by m []) (stored_of (backup_at (new_world lane masters backups)) master))
         (sym fresh.is_new)
         (log_empty fresh.known _ fresh.nothing_known
-        (λ backup segment. ap (λ (s : Segments). stored_bytes (s master segment)) (each_backup_fresh base lane masters backups backup)));
+        (λ backup segment. ap (λ (s : Segments). stored_bytes (s master segment)) (each_backup_fresh lane masters backups backup)));
     sent = nothing_kept _;
   }
 
-  truth_empty : Truth base [] (truth_of base (written_in (new_world base lane masters backups))) [] (λ client. None)
+  truth_empty : Truth no_base [] (truth_of no_base (written_in (new_world lane masters backups))) [] (λ client. None)
   truth_empty = record { legal = tt; rising = tt; seen = All-nil _; true = All-nil _ }
 
-  order_empty : Order [] (truth_of base (written_in (new_world base lane masters backups))) (rest_of (written_in (new_world base lane masters backups)))
+  order_empty : Order [] (truth_of no_base (written_in (new_world lane masters backups))) (rest_of (written_in (new_world lane masters backups)))
   order_empty = record { above = All-nil _ }
 
-  calls_empty : Calls base [] (truth_of base (written_in (new_world base lane masters backups))) (rest_of (written_in (new_world base lane masters backups))) (tablet_in (new_world base lane masters backups)) (lives (new_world base lane masters backups)) [] [] []
+  calls_empty : Calls no_base [] (truth_of no_base (written_in (new_world lane masters backups))) (rest_of (written_in (new_world lane masters backups))) (tablet_in (new_world lane masters backups)) (lives (new_world lane masters backups)) [] [] []
   calls_empty = record {
     once = λ i j a b first second same. absurd (cc);
     reached = All-nil _;
@@ -142,13 +138,13 @@ module _ (base : Base) (lane masters backups : ℕ) where
     known = λ master tablet live.
         subst
         (λ (t : Tablet). All
-        (λ end. IsKnown base [] end
-        ⊎ IsStagedEnd [] (rest_of (written_in (new_world base lane masters backups))) master tablet t.handover.term end)
+        (λ end. IsKnown no_base [] end
+        ⊎ IsStagedEnd [] (rest_of (written_in (new_world lane masters backups))) master tablet t.handover.term end)
         (ends_of t.completions))
-        (sym (nothing_of base lane masters backups master tablet)) (All-nil _);
+        (sym (nothing_of lane masters backups master tablet)) (All-nil _);
   }
 
-  counters_empty : Counters base [] (truth_of base (written_in (new_world base lane masters backups))) (rest_of (written_in (new_world base lane masters backups))) (written_in (new_world base lane masters backups)) (tablet_in (new_world base lane masters backups)) (lives (new_world base lane masters backups)) [] [] []
+  counters_empty : Counters no_base [] (truth_of no_base (written_in (new_world lane masters backups))) (rest_of (written_in (new_world lane masters backups))) (written_in (new_world lane masters backups)) (tablet_in (new_world lane masters backups)) (lives (new_world lane masters backups)) [] [] []
   counters_empty = record {
     low = All-nil _;
     counted = λ master. All-nil _;
@@ -156,7 +152,7 @@ module _ (base : Base) (lane masters backups : ℕ) where
     sent = nothing_kept _;
   }
 
-  rest_empty : Rest base [] (truth_of base (written_in (new_world base lane masters backups))) (rest_of (written_in (new_world base lane masters backups))) (written_in (new_world base lane masters backups)) (tablet_in (new_world base lane masters backups)) (calls_in (new_world base lane masters backups)) (lives (new_world base lane masters backups)) [] (λ client. None)
+  rest_empty : Rest no_base [] (truth_of no_base (written_in (new_world lane masters backups))) (rest_of (written_in (new_world lane masters backups))) (written_in (new_world lane masters backups)) (tablet_in (new_world lane masters backups)) (calls_in (new_world lane masters backups)) (lives (new_world lane masters backups)) [] (λ client. None)
   rest_empty = record {
     goes_on = All-nil _;
     done = All-nil _;
@@ -165,46 +161,46 @@ module _ (base : Base) (lane masters backups : ℕ) where
     waiting = λ master live.
         subst
         (λ (m : Master). EachIn
-        (λ place call. Waits [] (tablet_in (new_world base lane masters backups) master) (written_by m []) master place call) m.calls)
-        (sym (each_fresh base lane masters backups master).is_new) (nothing_kept _);
+        (λ place call. Waits [] (tablet_in (new_world lane masters backups) master) (written_by m []) master place call) m.calls)
+        (sym (each_fresh lane masters backups master).is_new) (nothing_kept _);
     are_last = λ master live.
         subst (λ (m : Master). EachIn (λ place call. IsLast None call) m.calls)
-        (sym (each_fresh base lane masters backups master).is_new) (nothing_kept _);
+        (sym (each_fresh lane masters backups master).is_new) (nothing_kept _);
     found = λ master live place entry behind stands is_call unmarked.
         let e : None ≡ Some entry =
-        sym (ap (λ (m : Master). slice_get m.log.entries place) (each_fresh base lane masters backups master).is_new) ∙ stands in
+        sym (ap (λ (m : Master). slice_get m.log.entries place) (each_fresh lane masters backups master).is_new) ∙ stands in
         absurd (cc);
   }
 
-  tables_empty : Tables [] (written_in (new_world base lane masters backups)) (tablet_in (new_world base lane masters backups)) (records_in (new_world base lane masters backups)) (lives (new_world base lane masters backups))
+  tables_empty : Tables [] (written_in (new_world lane masters backups)) (tablet_in (new_world lane masters backups)) (records_in (new_world lane masters backups)) (lives (new_world lane masters backups))
   tables_empty = record {
-    ordered = λ master. subst (λ (m : Master). IsInScanOrder m.records) (sym (each_fresh base lane masters backups master).is_new) in_order_none;
+    ordered = λ master. subst (λ (m : Master). IsInScanOrder m.records) (sym (each_fresh lane masters backups master).is_new) in_order_none;
     items = λ master live. All-nil _;
   }
 
-  rebuilds_empty : Rebuilds [] (truth_of base (written_in (new_world base lane masters backups))) (log_in (new_world base lane masters backups)) (written_in (new_world base lane masters backups)) (backup_at (new_world base lane masters backups)) (tablet_in (new_world base lane masters backups)) (records_in (new_world base lane masters backups)) (lives (new_world base lane masters backups))
+  rebuilds_empty : Rebuilds [] (truth_of no_base (written_in (new_world lane masters backups))) (log_in (new_world lane masters backups)) (written_in (new_world lane masters backups)) (backup_at (new_world lane masters backups)) (tablet_in (new_world lane masters backups)) (records_in (new_world lane masters backups)) (lives (new_world lane masters backups))
   rebuilds_empty = record { rebuilt = All-nil _; marks = λ master. All-nil _; pieces = λ master. All-nil _ }
 
-  cover_empty : Cover [] (written_in (new_world base lane masters backups)) (tablet_in (new_world base lane masters backups)) (records_in (new_world base lane masters backups)) []
+  cover_empty : Cover [] (written_in (new_world lane masters backups)) (tablet_in (new_world lane masters backups)) (records_in (new_world lane masters backups)) []
   cover_empty = record {
     unknown = λ master tablet none.
-        ap (λ (t : Tablet). t.handover.term) (nothing_of base lane masters backups master tablet);
+        ap (λ (t : Tablet). t.handover.term) (nothing_of lane masters backups master tablet);
     marks = λ master. All-nil _;
     sent = nothing_kept _;
     ranges = λ master tablet some.
-        let e : (tablet_in (new_world base lane masters backups) master tablet).handover.term ≡ 0 =
-        ap (λ (t : Tablet). t.handover.term) (nothing_of base lane masters backups master tablet) in
+        let e : (tablet_in (new_world lane masters backups) master tablet).handover.term ≡ 0 =
+        ap (λ (t : Tablet). t.handover.term) (nothing_of lane masters backups master tablet) in
         absurd (omega (arith, some, e));
     ordered = nothing_kept _;
     entries = λ master.
-        subst (λ (m : Master). All (IsEntryWithin []) m.log.entries) (sym (each_fresh base lane masters backups master).is_new) (All-nil _);
+        subst (λ (m : Master). All (IsEntryWithin []) m.log.entries) (sym (each_fresh lane masters backups master).is_new) (All-nil _);
     sides = λ master.
         subst (λ (m : Master). All (IsItemWithin []) (flat_map (λ items. items) m.sides))
-        (sym (each_fresh base lane masters backups master).is_new) (All-nil _);
+        (sym (each_fresh lane masters backups master).is_new) (All-nil _);
     items = λ master.
-        subst (λ (m : Master). All (IsItemWithin []) m.records) (sym (each_fresh base lane masters backups master).is_new) (All-nil _);
+        subst (λ (m : Master). All (IsItemWithin []) m.records) (sym (each_fresh lane masters backups master).is_new) (All-nil _);
     wholes = λ master.
-        subst (λ (m : Master). All (IsOfWholeRows []) m.log.entries) (sym (each_fresh base lane masters backups master).is_new) (All-nil _);
+        subst (λ (m : Master). All (IsOfWholeRows []) m.log.entries) (sym (each_fresh lane masters backups master).is_new) (All-nil _);
   }
 
   asked_empty : Asked lane (λ client. None) [] [] []
@@ -217,13 +213,13 @@ module _ (base : Base) (lane masters backups : ℕ) where
     again = nothing_kept _;
   }
 
-  pub empty_is_sound : 1 ≤ backups → IsSound (new_world base lane masters backups)
+  pub empty_is_sound : 1 ≤ backups → IsSound (new_world lane masters backups)
   empty_is_sound some = record {
-    nodes = nodes_empty base lane masters backups some;
+    nodes = nodes_empty lane masters backups some;
     rows = record { apart = tt; begun = All-nil _; formed = All-nil _; placed = All-nil _; covered = All-nil _ };
-    terms = terms_empty base lane masters backups;
+    terms = terms_empty lane masters backups;
     cover = cover_empty;
-    roles = roles_empty base lane masters backups;
+    roles = roles_empty lane masters backups;
     logs = logs_empty;
     truth = truth_empty;
     order = order_empty;
@@ -237,8 +233,8 @@ module _ (base : Base) (lane masters backups : ℕ) where
       bare = λ master tablet.
           subst
           (λ (t : Tablet). IfSome (wanted_place t.handover.role)
-          (λ from. IsBare t.handover.range from (written_in (new_world base lane masters backups) master) (records_in (new_world base lane masters backups) master)))
-          (sym (nothing_of base lane masters backups master tablet)) tt;
+          (λ from. IsBare t.handover.range from (written_in (new_world lane masters backups) master) (records_in (new_world lane masters backups) master)))
+          (sym (nothing_of lane masters backups master tablet)) tt;
     };
     rebuilds = rebuilds_empty;
     messages = record { of_rows = nothing_kept _; others = nothing_kept _ };

@@ -6,11 +6,10 @@ use Rattle.std.specs.List.{range_with_len}
 use Rattle.std.proofs.lemmas.Bool.{cases_eq, cases_lt, eq-eqb, ne_eqb, cond-true, cond-false}
 use Rattle.rk_types.specs.NumberMap.{NumberMap, get}
 use Rattle.rk_log.specs.Known.{Known, nothing}
-use Rattle.rk_world.specs.Base.{Base}
 use Rattle.rk_world.specs.Master.{Master, new_master}
 use Rattle.rk_world.specs.Backup.{no_segments}
 use Rattle.rk_world.specs.World.{new_world, new_masters, master_at, backup_at}
-use Rattle.rk_world.specs.Sound.Nodes.{IsMaster}
+use Rattle.rk_world.specs.Premises.{IsMaster}
 
 -- each number with its thing
 abbrev pub with_numbers : {X : Type 0} → (ℕ → X) → List ℕ → NumberMap X
@@ -70,17 +69,17 @@ nothing_in (suc count) zero = refl
 nothing_in (suc count) (suc place) = nothing_in count place
 
 -- each master of a new world is such a one
-pub each_fresh : (base : Base) (lane masters backups q : ℕ) → IsFresh q (master_at (new_world base lane masters backups) q)
-each_fresh base lane masters backups q =
+pub each_fresh : (lane masters backups q : ℕ) → IsFresh q (master_at (new_world lane masters backups) q)
+each_fresh lane masters backups q =
     ⊎_elim
     (λ (e : get (new_masters masters backups) q ≡ None).
-    let m : IsFresh q (master_at (new_world base lane masters backups) q) = record {
+    let m : IsFresh q (master_at (new_world lane masters backups) q) = record {
       known = [];
       nothing_known = λ place. refl;
       is_new = ap (λ (o : Option Master). unwrap_or o (new_master q [])) e;
     } in m)
     (λ (e : get (new_masters masters backups) q ≡ Some (new_master q (replicate backups nothing))).
-    let m : IsFresh q (master_at (new_world base lane masters backups) q) = record {
+    let m : IsFresh q (master_at (new_world lane masters backups) q) = record {
       known = replicate backups nothing;
       nothing_known = nothing_in backups;
       is_new = ap (λ (o : Option Master). unwrap_or o (new_master q [])) e;
@@ -88,15 +87,15 @@ each_fresh base lane masters backups q =
     (found_numbered (λ number. new_master number (replicate backups nothing)) (range_with_len 1 masters) q)
 
 -- and one that is there knows of each backup
-pub there_fresh : (base : Base) (lane masters backups q : ℕ) → IsMaster masters q → master_at (new_world base lane masters backups) q ≡ new_master q (replicate backups nothing)
-there_fresh base lane masters backups q there =
+pub there_fresh : (lane masters backups q : ℕ) → IsMaster masters q → master_at (new_world lane masters backups) q ≡ new_master q (replicate backups nothing)
+there_fresh lane masters backups q there =
     ap (λ (o : Option Master). unwrap_or o (new_master q []))
     (found_within (λ number. new_master number (replicate backups nothing)) 1 masters q there.first (omega (arith, there.last)))
 
 -- each backup keeps nothing
-pub each_backup_fresh : (base : Base) (lane masters backups q : ℕ) → backup_at (new_world base lane masters backups) q ≡ no_segments
-each_backup_fresh base lane masters backups q =
+pub each_backup_fresh : (lane masters backups q : ℕ) → backup_at (new_world lane masters backups) q ≡ no_segments
+each_backup_fresh lane masters backups q =
     ⊎_elim
-    (λ (e : get (new_world base lane masters backups).backups q ≡ None). ap (λ o. unwrap_or o no_segments) e)
-    (λ (e : get (new_world base lane masters backups).backups q ≡ Some no_segments). ap (λ o. unwrap_or o no_segments) e)
+    (λ (e : get (new_world lane masters backups).backups q ≡ None). ap (λ o. unwrap_or o no_segments) e)
+    (λ (e : get (new_world lane masters backups).backups q ≡ Some no_segments). ap (λ o. unwrap_or o no_segments) e)
     (found_numbered (λ number. no_segments) (range_with_len 1 backups) q)

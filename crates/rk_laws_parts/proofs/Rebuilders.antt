@@ -59,14 +59,17 @@ piece_push first past xs ys within =
 -- the piece of a rebuild stands where it did, and still nothing of its range stands behind it
 piece_staged : (number from : ℕ) (tablet : Tablet) (w : Written) (item : Held) (entry : ℕ) → All (λ mark. mark.past ≤ length w.entries) w.marks → has_key tablet.handover.range item.table item.key ≡ false → IsPieceOf number from tablet w entry → IsPieceOf number from tablet (with_one_more w (entries.Held item)) entry
 piece_staged number from tablet w item entry marked outside piece =
-    let mark : Mark = record { first = piece.first; past = suc entry; tablet = number; term = tablet.handover.term } in
-    let within : suc entry ≤ length w.entries = All-contains (λ (mark : Mark). mark.past ≤ length w.entries) w.marks mark marked piece.marked in
+    let inside : piece.mark.past ≤ length w.entries = All-contains (λ (mark : Mark). mark.past ≤ length w.entries) w.marks piece.mark marked piece.marked in
+    let within : suc entry ≤ length w.entries = omega (arith, inside, piece.past_is) in
     record {
-      first = piece.first;
-      behind = piece.behind;
+      mark = piece.mark;
       marked = piece.marked;
+      past_is = piece.past_is;
+      tablet_is = piece.tablet_is;
+      term_is = piece.term_is;
+      behind = piece.behind;
       alone = piece.alone;
-      stands = piece_push piece.first (suc entry) w.entries (entries.Held item ∷ []) within ∙ piece.stands;
+      stands = piece_push piece.mark.first (suc entry) w.entries (entries.Held item ∷ []) within ∙ piece.stands;
       last = behind_none (touches tablet.handover.range) w.entries (suc entry) (entries.Held item) piece.last outside;
     }
 

@@ -155,6 +155,7 @@ abbrev pub small_world : World
 small_world = record {
   lane = 4;
   masters = (1, small_master) ∷ [];
+  backup_count = 1;
   backups = (1, small_stored) ∷ [];
   coordinator = record { masters = 1; rows = small_map; noticed = []; handed = [] };
   wire = record { messages = small_wire; sent = 4 };

@@ -15,7 +15,8 @@ use Rattle.rk_world.specs.RoleTests.{is_absent}
 use Rattle.rk_world.specs.Master.{tablet_at}
 use Rattle.rk_world.specs.Notices.{names}
 use Rattle.rk_world.specs.World.{master_at, tablet_in, records_in, written_in, lives}
-use Rattle.rk_world.specs.Sound.Nodes.{Nodes, IsMaster}
+use Rattle.rk_world.specs.Premises.{IsMaster}
+use Rattle.rk_world.specs.Sound.Nodes.{Nodes}
 use Rattle.rk_world.specs.Sound.Rows.{Rows, IsFormed, IsPlaced}
 use Rattle.rk_world.specs.Sound.Terms.{Terms, HandoverFits, SentFits, IsWithinTerm, IsBelowOthers, tenure_in, range_in}
 use Rattle.rk_world.specs.Sound.Cover.{Cover, IsWithinRows, IsItemWithin, IsEntryWithin, IsOfWholeRows}

@@ -1,10 +1,11 @@
 -- The small world comes about: from a new lane a put is asked, staged, stored by the backup, applied and answered.
-use Rattle.std.proofs.Common.{sym, subst}
+use Rattle.std.proofs.Common.{sym, subst, slice_set, replicate}
 use Rattle.std.specs.Prelude.{◌≡◌, [], ◌∷◌, Some, refl}
 use Rattle.rk_types.specs.Hashing.{hash_of}
 use Rattle.rk_types.specs.Held.{spelled_of}
 use Rattle.rk_types.specs.NumberMap.{NumberMap}
 use Rattle.rk_types.specs.declared.call.Op.TheVariants as ops
+use Rattle.rk_types.specs.declared.hashing.TheConstants.{LANES}
 use Rattle.rk_types.specs.declared.node.Node.TheVariants as nodes
 use Rattle.rk_entry.specs.Ends.{range_bytes, outcome_bytes, end_bytes}
 use Rattle.rk_entry.specs.Entries.{spelled_all}
@@ -15,7 +16,6 @@ use Rattle.rk_entry.specs.Texts.{key_bytes, value_bytes}
 use Rattle.rk_message.specs.declared.message.Message.{Message}
 use Rattle.rk_world.specs.declared.event.Event.TheVariants as events
 use Rattle.rk_world.proofs.Scene.{Scene, Does, Calls, Asks, Delivers, played}
-use Rattle.rk_world.specs.Base.{no_base}
 use Rattle.rk_world.specs.Client.{Session, new_session}
 use Rattle.rk_world.specs.World.{new_world}
 use Rattle.rk_world.specs.Sound.Whole.{IsSound}
@@ -25,13 +25,13 @@ use Rattle.rk_laws_parts.proofs.SmallWorldSound.{small_is_sound}
 -- a client that knows who owns the range
 abbrev pub knowing : Session
 knowing = record (new_session 1) {
-  ranges = (4, record { tablet = 1; range = small_range; owner = Some 1 } ∷ []) ∷ [];
+  ranges = slice_set (replicate LANES []) 4 ((record { tablet = 1; range = small_range; owner = Some 1 }) ∷ []);
 }
 
 -- the lane is new but for its tablet and its client; then the put is asked, and each message of it is delivered but the last
 pub small_played : Scene
 small_played =
-    played (record { world = new_world no_base 4 1 1; sessions = (1, knowing) ∷ [] }) (
+    played (record { world = new_world 4 1 1; sessions = (1, knowing) ∷ [] }) (
     Does (events.AddTablet 1 small_range 1) ∷ Does (events.AddClient 1) ∷ Calls 1 small_key (ops.Put small_value) ∷ Asks 1
     ∷ Does (events.Deliver 1) ∷ Does (events.Turn (nodes.Master 1)) ∷ Does (events.Deliver 2) ∷ Does (events.Deliver 3) ∷ [])
 
@@ -47,7 +47,7 @@ played_is_sound = subst IsSound (sym played_is_small) small_is_sound
 -- a client that knows nothing looks the range up before, so the four messages have later numbers
 pub small_learned : Scene
 small_learned =
-    played (record { world = new_world no_base 4 1 1; sessions = [] }) (
+    played (record { world = new_world 4 1 1; sessions = [] }) (
     Does (events.AddTablet 1 small_range 1) ∷ Does (events.AddClient 1) ∷ Calls 1 small_key (ops.Put small_value) ∷ Asks 1
     ∷ Delivers 1 ∷ Delivers 2 ∷ Asks 1 ∷ Does (events.Deliver 3) ∷ Does (events.Turn (nodes.Master 1)) ∷ Does (events.Deliver 4)
     ∷ Does (events.Deliver 5) ∷ [])

@@ -20,7 +20,7 @@ use Rattle.rk_world.specs.Sound.Tables.{Tables}
 use Rattle.rk_world.specs.Sound.Receives.{Receives}
 use Rattle.rk_world.specs.Sound.Rebuilds.{Rebuilds}
 use Rattle.rk_world.specs.Sound.Whole.{IsSound}
-use Rattle.rk_world.specs.Sound.Small.{call_staged, MayStage}
+use Rattle.rk_world.specs.Sound.Small.{write_staged_in, MayStage}
 use Rattle.rk_laws_parts.proofs.Changing.{Stages}
 use Rattle.rk_laws_parts.proofs.WorldStaged.{lane_of, stages, truths_same, records_staged, numbers_staged, known_staged}
 use Rattle.rk_laws_parts.proofs.Nodes.{nodes_staged}
@@ -41,7 +41,7 @@ use Rattle.rk_laws_parts.proofs.Rest.{rest_staged}
 module _ (w : World) (master : ℕ) (call : Call) (value : Option (List ℕ)) (sound : IsSound w) (may : MayStage w master call value) where
   -- the world with the write
   abbrev now : World
-  now = call_staged w master may.served.row.tablet call value
+  now = write_staged_in w master may.served.row.tablet call value
 
   -- the item that it leaves
   abbrev item : Held
@@ -57,7 +57,7 @@ module _ (w : World) (master : ℕ) (call : Call) (value : Option (List ℕ)) (s
   of_tables : (P : (ℕ → List Held) → Type 0) → P (records_in w) → P (records_in now)
   of_tables P holds = subst P (sym (records_staged w master may.served.row.tablet call value)) holds
 
-  pub sound_staged : IsSound (call_staged w master may.served.row.tablet call value)
+  pub sound_staged : IsSound (write_staged_in w master may.served.row.tablet call value)
   sound_staged = record {
     nodes =
         nodes_staged _ _ _ _ _ _ _ sound.nodes (numbers_staged w master may.served.row.tablet call value)

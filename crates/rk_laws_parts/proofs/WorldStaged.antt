@@ -26,7 +26,7 @@ use Rattle.rk_world.specs.Written.{Written, written_by, applied_entries, member_
 use Rattle.rk_world.specs.World.{World, master_at, tablet_in, written_in, log_in, records_in, calls_in}
 use Rattle.rk_world.specs.Sound.Rows.{IsPlaced}
 use Rattle.rk_world.specs.Sound.Whole.{IsSound}
-use Rattle.rk_world.specs.Sound.Small.{call_staged, MayStage}
+use Rattle.rk_world.specs.Sound.Small.{write_staged_in, MayStage}
 use Rattle.rk_laws_parts.proofs.Masters.{master_same, master_other, same_of_each, same_of_all, tablet_here, tablet_apart, keeps_with}
 use Rattle.rk_laws_parts.proofs.Changing.{DiffersAt, KeepsNow, Lane, Stages, with_one_more}
 use Rattle.rk_laws_parts.proofs.Shares.{material_outside, rest_outside, rest_inside}
@@ -104,34 +104,34 @@ module _ (written written' : ℕ → Written) (master : ℕ) (item : Held) (diff
 -- ---- the world
 
 module _ (w : World) (master number : ℕ) (call : Call) (value : Option (List ℕ)) where
-  pub records_staged : ◌≡◌ {A = ℕ → List Held} (records_in (call_staged w master number call value)) (records_in w)
+  pub records_staged : ◌≡◌ {A = ℕ → List Held} (records_in (write_staged_in w master number call value)) (records_in w)
   records_staged = same_of_all (λ q m. m.records) w master _ refl
 
-  pub numbers_staged : (q : ℕ) → (master_at (call_staged w master number call value) q).number ≡ (master_at w q).number
+  pub numbers_staged : (q : ℕ) → (master_at (write_staged_in w master number call value) q).number ≡ (master_at w q).number
   numbers_staged q = same_of_each (λ q m. m.number) w master _ refl q
 
-  pub known_staged : (q : ℕ) → (master_at (call_staged w master number call value) q).log.known ≡ (master_at w q).log.known
+  pub known_staged : (q : ℕ) → (master_at (write_staged_in w master number call value) q).log.known ≡ (master_at w q).log.known
   known_staged q = same_of_each (λ q m. m.log.known) w master _ refl q
 
-  logs_staged : DiffersAt master (with_entry (log_in w master) (entries.Held (item_of call (tablet_in w master number).handover.counter value))) (log_in w) (log_in (call_staged w master number call value))
+  logs_staged : DiffersAt master (with_entry (log_in w master) (entries.Held (item_of call (tablet_in w master number).handover.counter value))) (log_in w) (log_in (write_staged_in w master number call value))
   logs_staged = record {
     here = ap (λ (m : Master). m.log) (master_same w master _ master refl);
     others = λ q apart. ap (λ (m : Master). m.log) (master_other w master _ q apart);
   }
 
-  pub written_staged : DiffersAt master (with_one_more (written_in w master) (entries.Held (item_of call (tablet_in w master number).handover.counter value))) (written_in w) (written_in (call_staged w master number call value))
+  pub written_staged : DiffersAt master (with_one_more (written_in w master) (entries.Held (item_of call (tablet_in w master number).handover.counter value))) (written_in w) (written_in (write_staged_in w master number call value))
   written_staged = record {
     here = ap (λ (m : Master). written_by m (marks_of w.ledger master)) (master_same w master _ master refl);
     others = λ q apart. ap (λ (m : Master). written_by m (marks_of w.ledger q)) (master_other w master _ q apart);
   }
 
-  calls_staged : DiffersAt master (insert (calls_in w master) (length (written_in w master).entries) call) (calls_in w) (calls_in (call_staged w master number call value))
+  calls_staged : DiffersAt master (insert (calls_in w master) (length (written_in w master).entries) call) (calls_in w) (calls_in (write_staged_in w master number call value))
   calls_staged = record {
     here = ap (λ (m : Master). m.calls) (master_same w master _ master refl);
     others = λ q apart. ap (λ (m : Master). m.calls) (master_other w master _ q apart);
   }
 
-  keeps_staged : KeepsNow master number (counted_up (tablet_in w master number)) (tablet_in w) (tablet_in (call_staged w master number call value))
+  keeps_staged : KeepsNow master number (counted_up (tablet_in w master number)) (tablet_in w) (tablet_in (write_staged_in w master number call value))
   keeps_staged =
       keeps_with w master number _ (counted_up (tablet_in w master number))
       (tablet_here (master_at w master) number (counted_up (tablet_in w master number)))
@@ -155,7 +155,7 @@ lane_of w = record {
 }
 
 -- a write that may be staged is staged so
-pub stages : (w : World) (master : ℕ) (call : Call) (value : Option (List ℕ)) → IsSound w → (may : MayStage w master call value) → Stages w.coordinator.rows (lane_of w) (lane_of (call_staged w master may.served.row.tablet call value)) master may.served.row call (item_of call (tablet_in w master may.served.row.tablet).handover.counter value)
+pub stages : (w : World) (master : ℕ) (call : Call) (value : Option (List ℕ)) → IsSound w → (may : MayStage w master call value) → Stages w.coordinator.rows (lane_of w) (lane_of (write_staged_in w master may.served.row.tablet call value)) master may.served.row call (item_of call (tablet_in w master may.served.row.tablet).handover.counter value)
 stages w master call value sound may =
     let served = may.served in
     let row = served.row in
@@ -187,10 +187,10 @@ stages w master call value sound may =
     }
 
 -- so the truth of every row is as before
-pub truths_same : (w : World) (master : ℕ) (call : Call) (value : Option (List ℕ)) → IsSound w → (may : MayStage w master call value) → ◌≡◌ {A = Row → List Entry} (truth_of w.base (written_in (call_staged w master may.served.row.tablet call value))) (truth_of w.base (written_in w))
+pub truths_same : (w : World) (master : ℕ) (call : Call) (value : Option (List ℕ)) → IsSound w → (may : MayStage w master call value) → ◌≡◌ {A = Row → List Entry} (truth_of w.base (written_in (write_staged_in w master may.served.row.tablet call value))) (truth_of w.base (written_in w))
 truths_same w master call value sound may =
     let log = sound.logs.each master in
-    truths_staged (written_in w) (written_in (call_staged w master may.served.row.tablet call value)) master
+    truths_staged (written_in w) (written_in (write_staged_in w master may.served.row.tablet call value)) master
     (item_of call (tablet_in w master may.served.row.tablet).handover.counter value)
     (written_staged w master may.served.row.tablet call value)
     (applied_within (log_in w master) (written_in w master) _ log) w.base

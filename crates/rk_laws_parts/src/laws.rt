@@ -7,17 +7,15 @@ ghost use Rattle.rk_tablet_map.specs.declared.row.Row.{Row};
 ghost use Rattle.rk_transfer.specs.Handover.{is_serving};
 ghost use Rattle.rk_types.specs.declared.call.Call.{Call};
 ghost use Rattle.rk_types.specs.Range.{meets};
-ghost use Rattle.rk_world.specs.Base.{Base};
 ghost use Rattle.rk_world.specs.Sound.Logs.{stored_of};
-ghost use Rattle.rk_world.specs.Sound.Small.{MayComeTo, MayFreeze, MaySave, MaySend, MayStage, call_staged, client_come, message_forgotten, message_sent, request_saved, tablet_frozen};
+ghost use Rattle.rk_world.specs.Sound.Small.{MayComeTo, MayFreeze, MaySave, MaySend, MayStage, write_staged_in, client_come, message_forgotten, message_sent, request_saved, tablet_frozen_in};
 ghost use Rattle.rk_world.specs.Sound.Whole.{IsSound};
 ghost use Rattle.rk_world.specs.World.{World, backup_at, tablet_in, lives, log_in, new_world, written_in};
 
-/// A lane where nothing has happened is sound, with any number of masters and one backup or more, whatever its history
-/// starts from.
+/// A lane where nothing has happened is sound, with any number of masters and one backup or more.
 pub fn new_lanes_are_sound()
-    ensures new { (base : Base) (lane masters backups : ℕ)
-        → 1 ≤ backups → IsSound (new_world base lane masters backups) }
+    ensures new { (lane masters backups : ℕ)
+        → 1 ≤ backups → IsSound (new_world lane masters backups) }
 {}
 
 /// A sound lane stays sound when a message is sent or forgotten, when a client comes, when a request is saved that may be
@@ -31,9 +29,9 @@ pub fn small_changes_keep_lanes_sound()
         → IsSound w → MaySave w client message → IsSound (request_saved w client message) }
     ensures staged { (w : World) (master : ℕ) (call : Call) (value : Option (List ℕ))
         → IsSound w → (may : MayStage w master call value)
-        → IsSound (call_staged w master may.served.row.tablet call value) }
+        → IsSound (write_staged_in w master may.served.row.tablet call value) }
     ensures frozen { (w : World) (master tablet : ℕ)
-        → IsSound w → MayFreeze w master tablet → IsSound (tablet_frozen w master tablet) }
+        → IsSound w → MayFreeze w master tablet → IsSound (tablet_frozen_in w master tablet) }
 {}
 
 /// In a sound lane at most one living master answers calls for a range of a row, and for one tablet.
@@ -47,7 +45,7 @@ pub fn one_master_answers()
 {}
 
 /// In a sound lane every backup stores each entry that its master has applied, up to the end of the entry.
-pub fn what_is_committed_is_stored()
+pub fn what_is_applied_is_stored()
     ensures stored { (w : World) (master backup place : ℕ)
         → IsSound w → IsBackup (log_in w master) backup → place < (written_in w master).applied
         → IfSome (slice_get (ends (written_in w master).entries) place)

@@ -6,7 +6,7 @@
 
 pub use laws::{
     new_lanes_are_sound, one_master_answers, small_changes_keep_lanes_sound,
-    what_is_committed_is_stored,
+    what_is_applied_is_stored,
 };
 
 mod laws;

@@ -15,7 +15,7 @@ pub data Move : Type 0 where
   Join : (term : ℕ) (entry : Option ℕ) → Move
   Rebuild : (term : ℕ) (range : Range) (from : ℕ) → Move
   Carry : (term entry counter : ℕ) → Move
-  Own : (term committed : ℕ) → Move
+  Own : (term applied : ℕ) → Move
   Release : (term : ℕ) → Move
 
 -- the role after a close, where the role before takes one
@@ -46,10 +46,10 @@ abbrev pub role_carried : ℕ → Role → Option Role
 role_carried entry (Rebuilding from None) = Some (Rebuilding from (Some entry))
 role_carried _ _ = None
 
--- the role after the owner is told: the closing entry stands below what is committed
+-- the role after the owner is told: the closing entry stands below what is applied
 abbrev pub role_owned : ℕ → Role → Option Role
-role_owned committed (Joining (Some entry)) = if nat_lt entry committed then Some Serving else None
-role_owned committed (Rebuilding from (Some entry)) = if nat_lt entry committed then Some Serving else None
+role_owned applied (Joining (Some entry)) = if nat_lt entry applied then Some Serving else None
+role_owned applied (Rebuilding from (Some entry)) = if nat_lt entry applied then Some Serving else None
 role_owned _ _ = None
 
 -- the role after a release
@@ -105,9 +105,9 @@ carried handover term entry counter =
     then in_role (record handover { counter = counter }) (role_carried entry handover.role)
     else None
 
--- the owner is told with how much of its log is committed
+-- the owner is told with how much of its log is applied
 abbrev pub owned : Handover → ℕ → ℕ → Option Handover
-owned handover term committed = if handover.term == term then in_role handover (role_owned committed handover.role) else None
+owned handover term applied = if handover.term == term then in_role handover (role_owned applied handover.role) else None
 
 -- a release ends the handover
 abbrev pub released : Handover → ℕ → Option Handover
@@ -122,7 +122,7 @@ moved handover (Grant term counter) = granted handover term counter
 moved handover (Join term entry) = joined handover term entry
 moved handover (Rebuild term range from) = rebuilt handover term range from
 moved handover (Carry term entry counter) = carried handover term entry counter
-moved handover (Own term committed) = owned handover term committed
+moved handover (Own term applied) = owned handover term applied
 moved handover (Release term) = released handover term
 
 -- the roles in which a master answers calls

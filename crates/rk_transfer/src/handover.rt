@@ -45,7 +45,7 @@ impl Handover {
         true
     }
 
-    /// Tells that no entry of the tablet waits to be committed. It applies to `Closing`, at its own term. The role is
+    /// Tells that no entry of the tablet waits to be applied. It applies to `Closing`, at its own term. The role is
     /// `Frozen` then.
     pub fn freeze(&mut self, term: u64) -> bool
         ensures answer { result ≡ is_some (frozen self.old term) }
@@ -120,18 +120,18 @@ impl Handover {
         true
     }
 
-    /// Tells that the tablet is the master's own; `committed` is how many entries of its log are committed. It applies
+    /// Tells that the tablet is the master's own; `applied` is how many entries of its log are applied. It applies
     /// to `Joining` and `Rebuilding` whose closing entry is among those, at its own term. The role is `Serving` then.
-    pub fn own(&mut self, term: u64, committed: u64) -> bool
-        ensures answer { result ≡ is_some (owned self.old term committed) }
-        ensures after { self.new ≡ unwrap_or (owned self.old term committed) self.old }
+    pub fn own(&mut self, term: u64, applied: u64) -> bool
+        ensures answer { result ≡ is_some (owned self.old term applied) }
+        ensures after { self.new ≡ unwrap_or (owned self.old term applied) self.old }
     {
         let owns = match self.role {
-            Role::Joining { entry: Some(entry) } => entry < committed,
+            Role::Joining { entry: Some(entry) } => entry < applied,
             Role::Rebuilding {
                 from: _,
                 entry: Some(entry),
-            } => entry < committed,
+            } => entry < applied,
             _ => false,
         };
         if term != self.term || !owns {

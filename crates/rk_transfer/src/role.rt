@@ -8,7 +8,7 @@ pub enum Role {
     Absent,
     /// It owns the tablet and answers calls.
     Serving,
-    /// It gives the tablet away and answers no more calls; some of its entries may not be committed yet.
+    /// It gives the tablet away and answers no more calls; some of its entries may not be applied yet.
     Closing,
     /// It gave the tablet away, and what it has of it stays as it is.
     Frozen,

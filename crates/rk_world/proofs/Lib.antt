@@ -4,3 +4,4 @@ mod Writing
 mod Migrating
 mod Fetching
 mod Crashes
+mod Asked

@@ -12,11 +12,10 @@ use Rattle.rk_message.specs.declared.message.Message.{Message}
 use Rattle.rk_world.specs.declared.error.StepError.{StepError}
 use Rattle.rk_world.specs.declared.event.Event.{Event}
 use Rattle.rk_world.specs.declared.event.Event.TheVariants as events
-use Rattle.rk_world.specs.Base.{no_base}
 use Rattle.rk_world.specs.Master.{tablet_at}
 use Rattle.rk_world.specs.Client.{Session, new_session, with_next_call}
 use Rattle.rk_world.specs.World.{World, new_world, master_at}
-use Rattle.rk_world.specs.Step.{Stepped, step}
+use Rattle.rk_world.specs.Step.{Stepped, step, told_by_replica}
 use Rattle.rk_world.specs.Calls.{Visited, ask, accept}
 
 -- the world of a lane, and the session of each client
@@ -49,9 +48,9 @@ visited_in scene client (Ok visited) =
     record { world = visited.world; sessions = insert scene.sessions client visited.session }
 visited_in scene client (Err error) = scene
 
--- an event happens; `failed` tells whether a replica failed
+-- an event happens, at replicas that tell their segments; `fault` tells whether the one that is called fails
 abbrev pub does : Scene → Event → Option ℕ → Scene
-does scene event failed = stepped_in scene (step scene.world event failed)
+does scene event fault = stepped_in scene (step scene.world event (told_by_replica scene.world event fault))
 
 -- a client takes a message
 abbrev pub takes : Scene → ℕ → ℕ → Scene
@@ -88,7 +87,7 @@ whole = record { table = 1; first = 0; last = 18446744073709551615 }
 -- lane 4, where the keys a, i, q and y lie, with so many masters and two backups, and tablet 1 at master 1
 abbrev pub start : ℕ → Scene
 start masters =
-    played (record { world = new_world no_base 4 masters 2; sessions = [] })
+    played (record { world = new_world 4 masters 2; sessions = [] })
     (Does (events.AddTablet 1 whole 1) ∷ Does (events.AddClient 1) ∷ Does (events.AddClient 2) ∷ [])
 
 -- some of these keys, and values of one byte

@@ -1,5 +1,5 @@
 -- A backup: it stores the segments of the masters' logs, which only grow at their end.
-use Rattle.std.specs.Prelude.{ℕ, ◌==◌, ◌&&◌, Bool, true, false, if◌then◌else◌, List, [], ◌∷◌, length, take, Option, Some, None}
+use Rattle.std.specs.Prelude.{ℕ, ◌==◌, ◌&&◌, Bool, true, false, nat_le, nat_lt, if◌then◌else◌, List, [], ◌∷◌, length, take, Option, Some, None}
 use Rattle.rk_types.specs.declared.node.Node.{Node}
 use Rattle.rk_types.specs.declared.node.Node.TheVariants as nodes
 use Rattle.rk_outside.specs.Segments.{Segments, bytes_of, with_part}
@@ -7,7 +7,6 @@ use Rattle.rk_backup.specs.Accepts.{added}
 use Rattle.rk_message.specs.declared.message.Body.{Body}
 use Rattle.rk_message.specs.declared.message.Body.TheVariants as bodies
 use Rattle.rk_message.specs.declared.message.Message.{Message}
-use Rattle.rk_message.specs.declared.rebuilding.CopySegment.{CopySegment}
 use Rattle.rk_message.specs.declared.rebuilding.ReadSegment.{ReadSegment}
 use Rattle.rk_message.specs.declared.replication.Append.{Append}
 use Rattle.rk_message.specs.declared.replication.Stored.{Stored}
@@ -31,20 +30,58 @@ abbrev pub with_more : Segments → ℕ → ℕ → List ℕ → Segments
 with_more segments master segment bytes =
     with_stored segments master segment (with_part (segments master segment) bytes)
 
--- how much of these bytes was added: all, or where the replica failed the first so many
-abbrev pub stored_part : List ℕ → Option ℕ → List ℕ
-stored_part bytes None = bytes
-stored_part bytes (Some count) = take count bytes
+-- what the call of a replica came to
+pub data Called : Type 0 where
+  -- an append went well, or had nothing to store, and the segment has so many bytes now
+  Appended : (length : ℕ) → Called
+  -- a read gave these bytes; none where the segment was never written
+  Gave : (bytes : Option (List ℕ)) → Called
+  -- the replica failed; an append may have stored so many first bytes of those that were new
+  Failed : (stored : ℕ) → Called
 
--- a backup takes an Append; where the replica fails it may store a first part of the bytes
-abbrev pub append_taken : Segments → ℕ → Append → Option ℕ → Segments
-append_taken segments master append failed =
-    with_more segments master append.segment (stored_part (added_by segments master append) failed)
+-- how much of these bytes is stored then
+abbrev pub stored_part : List ℕ → Called → List ℕ
+stored_part bytes (Appended length) = bytes
+stored_part bytes (Gave read) = []
+stored_part bytes (Failed stored) = take stored bytes
 
--- how much of the segment is stored then
-abbrev pub stored_of : Segments → ℕ → Append → Stored
-stored_of segments master append =
-    record { segment = append.segment; length = length (bytes_of (segments master append.segment)) }
+-- a backup takes an Append
+abbrev pub append_taken : Segments → ℕ → Append → Called → Segments
+append_taken segments master append called =
+    with_more segments master append.segment (stored_part (added_by segments master append) called)
+
+-- what a backup stores once it took what a master sent; only an Append adds to it
+abbrev pub stored_after : Segments → Node → Body → Called → Segments
+stored_after segments (nodes.Master master) (bodies.Append append) called = append_taken segments master append called
+stored_after segments sender body called = segments
+
+-- ---- what a replica that tells its segments answers, where `fault` tells whether it fails, and how many bytes an append stores
+-- then
+
+-- whether an append calls the replica: it does where bytes come that begin where bytes are stored or at their end
+abbrev pub calls_replica : ℕ → Append → Bool
+calls_replica stored append = nat_le append.at stored && nat_lt 0 (length append.bytes)
+
+-- what an append comes to
+abbrev pub append_called : Segments → ℕ → Append → Option ℕ → Called
+append_called segments master append None =
+    Appended (length (bytes_of (append_taken segments master append (Appended 0) master append.segment)))
+append_called segments master append (Some stored) =
+    if calls_replica (length (bytes_of (segments master append.segment))) append then Failed stored
+    else Appended (length (bytes_of (segments master append.segment)))
+
+-- what a read comes to
+abbrev pub read_called : Segments → ReadSegment → Option ℕ → Called
+read_called segments read None = Gave (segments read.master read.segment)
+read_called segments read (Some stored) = Failed 0
+
+-- what the call of a replica comes to, by what is sent
+abbrev pub called_by : Segments → Node → Body → Option ℕ → Called
+called_by segments (nodes.Master master) (bodies.Append append) fault = append_called segments master append fault
+called_by segments (nodes.Master master) (bodies.Read read) fault = read_called segments read fault
+called_by segments sender body fault = Gave None
+
+-- ---- what a backup makes of a message
 
 -- the longest first part that two lists have in common
 abbrev pub common_front : List ℕ → List ℕ → List ℕ
@@ -59,65 +96,52 @@ copied None segment = None
 copied (Some read) [] = None
 copied (Some read) (byte ∷ more) = Some (common_front read (byte ∷ more))
 
--- the copy that answers a read, where the log of the master has `segment`
-abbrev pub copy_of : Segments → ReadSegment → List ℕ → CopySegment
-copy_of segments read segment = record {
-  tenure = read.tenure;
-  master = read.master;
-  segment = read.segment;
-  bytes = copied (segments read.master read.segment) segment;
-}
-
--- what a backup makes of a message: its segments after it, what it sends, and whether the message was lost, since the
--- replica failed
+-- what a backup makes of a message: what it sends, and whether the message was lost, since the replica failed
 pub record Backed : Type 0 where
-  pub segments : Segments
   pub sends : List Message
   pub lost : Bool
 
--- nothing changes and nothing is told
-abbrev pub idle : Segments → Backed
-idle segments = record { segments = segments; sends = []; lost = false }
+-- nothing is told
+abbrev pub idle : Backed
+idle = record { sends = []; lost = false }
 
--- a message from a backup to a master
-abbrev pub from_backup : ℕ → ℕ → Body → Message
-from_backup backup master body = record { from = nodes.Backup backup; to = nodes.Master master; body = body }
+-- the message is lost
+abbrev pub failing : Backed
+failing = record { sends = []; lost = true }
+
+-- a backup answers a master
+abbrev pub answering_master : ℕ → ℕ → Body → Backed
+answering_master backup master body = record {
+  sends = (record { from = nodes.Backup backup; to = nodes.Master master; body = body }) ∷ [];
+  lost = false;
+}
 
 -- a backup took an Append, and tells how much is stored
-abbrev pub append_told : Segments → ℕ → ℕ → Append → Backed
-append_told segments backup master append = record {
-  segments = segments;
-  sends = from_backup backup master (bodies.Stored (stored_of segments master append)) ∷ [];
-  lost = false;
-}
+abbrev pub append_step : ℕ → ℕ → Append → Called → Backed
+append_step backup master append (Appended length) =
+    answering_master backup master (bodies.Stored (record { segment = append.segment; length = length }))
+append_step backup master append (Gave bytes) = idle
+append_step backup master append (Failed stored) = failing
 
--- a backup takes an Append; where its replica fails, a first part may be stored and nothing is told
-abbrev pub append_step : Segments → ℕ → ℕ → Append → Option ℕ → Backed
-append_step segments backup master append None =
-    append_told (append_taken segments master append None) backup master append
-append_step segments backup master append (Some count) =
-    record { segments = append_taken segments master append (Some count); sends = []; lost = true }
-
--- a backup takes a Read, where `log` has the segments of each master's log; where its replica fails, nothing is told
-abbrev pub read_step : Segments → ℕ → ℕ → ReadSegment → (ℕ → ℕ → List ℕ) → Option ℕ → Backed
-read_step segments backup master read log None = record {
-  segments = segments;
-  sends = from_backup backup master (bodies.Copy (copy_of segments read (log read.master read.segment))) ∷ [];
-  lost = false;
-}
-read_step segments backup master read log (Some count) = record { segments = segments; sends = []; lost = true }
+-- a backup takes a Read, where `log` has the segments of each master's log
+abbrev pub read_step : ℕ → ℕ → ReadSegment → (ℕ → ℕ → List ℕ) → Called → Backed
+read_step backup master read log (Appended length) = idle
+read_step backup master read log (Gave bytes) =
+    answering_master backup master (bodies.Copy (record {
+      tenure = read.tenure;
+      master = read.master;
+      segment = read.segment;
+      bytes = copied bytes (log read.master read.segment);
+    }))
+read_step backup master read log (Failed stored) = failing
 
 -- a backup takes what a master sent
-abbrev pub master_message : Segments → ℕ → ℕ → Body → (ℕ → ℕ → List ℕ) → Option ℕ → Backed
-master_message segments backup master (bodies.Append append) log failed =
-    append_step segments backup master append failed
-master_message segments backup master (bodies.Read read) log failed =
-    read_step segments backup master read log failed
-master_message segments backup master _ log failed = idle segments
+abbrev pub master_message : ℕ → ℕ → Body → (ℕ → ℕ → List ℕ) → Called → Backed
+master_message backup master (bodies.Append append) log called = append_step backup master append called
+master_message backup master (bodies.Read read) log called = read_step backup master read log called
+master_message backup master body log called = idle
 
--- a backup takes a message, by its sender; `failed` tells whether its replica failed, and of an append how many bytes that
--- stored
-abbrev pub backup_step : Segments → ℕ → Node → Body → (ℕ → ℕ → List ℕ) → Option ℕ → Backed
-backup_step segments backup (nodes.Master master) body log failed =
-    master_message segments backup master body log failed
-backup_step segments backup _ body log failed = idle segments
+-- a backup takes a message, by its sender and by what the call of its replica came to, where one is made
+abbrev pub backup_step : ℕ → Node → Body → (ℕ → ℕ → List ℕ) → Called → Backed
+backup_step backup (nodes.Master master) body log called = master_message backup master body log called
+backup_step backup sender body log called = idle

@@ -1,12 +1,14 @@
 -- What a history starts from.
-use Rattle.std.specs.Prelude.{ℕ, List, [], ◌∷◌, ◌++◌, Option, Some, None}
+use Rattle.std.specs.Prelude.{ℕ, map, List, [], ◌∷◌, ◌++◌, Option, Some, None}
 use Rattle.rk_types.specs.declared.call.Ended.{Ended}
 use Rattle.rk_types.specs.declared.held.Held.{Held}
 use Rattle.rk_types.specs.declared.range.Range.{Range}
-use Rattle.rk_model.specs.History.{Map, with_entry, empty_map}
-use Rattle.rk_model.specs.Machine.{Entry as MapEntry, live, gone}
+use Rattle.rk_model.specs.History.{Map}
+use Rattle.rk_model.specs.Machine.{Entry as MapEntry, live, gone, never}
 use Rattle.rk_entry.specs.declared.entry.Entry.{Entry}
 use Rattle.rk_entry.specs.declared.entry.Entry.TheVariants as entries
+use Rattle.rk_overlay.specs.Newest.{newest}
+use Rattle.rk_world.specs.Ends.{item_end}
 use Rattle.rk_world.specs.Material.{counting, as_entries}
 
 -- what a history starts from: the items that were there, and the last end of each client
@@ -23,14 +25,18 @@ abbrev pub map_entry_of : Held → Option (List ℕ) → MapEntry
 map_entry_of item (Some value) = live item.version value
 map_entry_of item None = gone item.version
 
--- a map after items were put into it, one after the other
-abbrev pub map_from : Map → List Held → Map
-map_from map [] = map
-map_from map (item ∷ items) = map_from (with_entry map item.table item.key (map_entry_of item item.value)) items
+-- the entry of the map that the newest item of a key leaves, if there is one
+abbrev pub newest_entry : Option Held → MapEntry
+newest_entry None = never
+newest_entry (Some item) = map_entry_of item item.value
 
--- the map that a base leaves
+-- the map that a base leaves: of each key its newest item
 abbrev pub base_map : Base → Map
-base_map base = map_from empty_map base.items
+base_map base table key = newest_entry (newest base.items table key)
+
+-- the ends that a base tells: those that it has, and those of the calls that left its items
+abbrev pub ends_told : Base → List Ended
+ends_told base = base.ends ++ map item_end base.items
 
 -- what a base has of a range, as the entries of a log: the items, and one entry with the ends
 abbrev pub base_entries : Base → Range → List Entry

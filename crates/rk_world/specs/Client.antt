@@ -1,14 +1,14 @@
 -- A client: one outstanding call at a time, and what it knows of where keys are.
-use Rattle.std.specs.Prelude.{◌≡◌, ◌≤◌, ℕ, ◌+◌, ◌==◌, Bool, not, max, if◌then◌else◌, List, [], ◌∷◌, ◌++◌, filter, find, Option, Some, None, IfSome, All}
+use Rattle.std.specs.Prelude.{ℕ, ◌+◌, ◌==◌, Bool, not, max, if◌then◌else◌, List, [], ◌∷◌, ◌++◌, filter, find, Option, Some, None, slice_index_or, slice_set, replicate}
 use Rattle.std.specs.Option.{option_map}
 use Rattle.rk_types.specs.Hashing.{hash_of, lane_of}
-use Rattle.rk_types.specs.NumberMap.{NumberMap, get_or, insert}
 use Rattle.rk_types.specs.Range.{meets}
 use Rattle.rk_types.specs.declared.call.Answer.{Answer}
 use Rattle.rk_types.specs.declared.call.Answer.TheVariants as answers
 use Rattle.rk_types.specs.declared.call.Call.{Call}
 use Rattle.rk_types.specs.declared.call.Op.{Op}
 use Rattle.rk_types.specs.declared.call.Outcome.{Outcome}
+use Rattle.rk_types.specs.declared.hashing.TheConstants.{LANES}
 use Rattle.rk_types.specs.declared.history.Receipt.{Receipt}
 use Rattle.rk_types.specs.declared.node.Node.TheVariants as nodes
 use Rattle.rk_message.specs.declared.calls.Located.{Located}
@@ -34,13 +34,8 @@ pub record Session : Type 0 where
   pub outstanding : Option Call
   pub seen : ℕ
   pub requests : ℕ
-  pub ranges : NumberMap (List Located)
+  pub ranges : List (List Located)
   pub request : Option Message
-
--- the outstanding call is the client's own last one, and no receipt has a stamp that was not seen
-pub record IsSession (session : Session) : Type 0 where
-  pub own : IfSome session.outstanding (λ call. (call.client ≡ session.client) × (call.seq ≡ session.last))
-  pub seen : All (λ receipt. receipt.stamp ≤ session.seen) session.receipts
 
 -- a session that asked nothing
 abbrev pub new_session : ℕ → Session
@@ -51,7 +46,7 @@ new_session client = record {
   outstanding = None;
   seen = 0;
   requests = 0;
-  ranges = [];
+  ranges = replicate LANES [];
   request = None;
 }
 
@@ -72,13 +67,18 @@ with_next_call session table key op = record session {
   requests = 0;
 }
 
+-- a client asks its next call, unless one is outstanding, whose seq this is
+abbrev pub session_calling : Session → ℕ → List ℕ → Op → Option ℕ → Session
+session_calling session table key op None = with_next_call session table key op
+session_calling session table key op (Some seq) = session
+
 -- the lane of a call
 abbrev pub call_lane : Call → ℕ
 call_lane call = lane_of (hash_of call.key)
 
 -- the ranges that are cached of a lane
 abbrev pub ranges_in : Session → ℕ → List Located
-ranges_in session lane = get_or [] session.ranges lane
+ranges_in session lane = slice_index_or session.ranges lane []
 
 -- whether a cached range has the key of a call
 abbrev pub has_call : Call → Located → Bool
@@ -92,7 +92,7 @@ range_of session call = find (has_call call) (ranges_in session (call_lane call)
 abbrev pub without_range : Session → Call → Session
 without_range session call = record session {
   ranges =
-      insert session.ranges (call_lane call)
+      slice_set session.ranges (call_lane call)
       (filter (λ located. not (has_call call located)) (ranges_in session (call_lane call)));
 }
 
@@ -177,7 +177,7 @@ owned_range located (Some owner) = located ∷ []
 abbrev pub with_range : Session → ℕ → Located → Session
 with_range session lane located = record session {
   ranges =
-      insert session.ranges lane
+      slice_set session.ranges lane
       (filter (λ other. not (meets other.range located.range)) (ranges_in session lane)
       ++ owned_range located located.owner);
   requests = 0;

@@ -16,7 +16,7 @@ use Rattle.rk_message.specs.declared.message.Body.{Body}
 use Rattle.rk_message.specs.declared.message.Body.TheVariants as bodies
 use Rattle.rk_message.specs.declared.message.Message.{Message}
 use Rattle.rk_message.specs.declared.rebuilding.Rebuilt.{Rebuilt}
-use Rattle.rk_world.specs.Coordinator.{Coordinator, is_noticed, with_phase, with_handed, from_coordinator, row_tenure, owner_of}
+use Rattle.rk_world.specs.Coordinator.{Coordinator, is_noticed, with_phase, with_handed, from_coordinator, row_tenure, owner_of, Handed}
 
 -- what the coordinator makes of a message: the coordinator after it, what it sends, and the rebuild that it took, where a
 -- master told one that the row waited for
@@ -26,8 +26,8 @@ pub record Coordinated : Type 0 where
   pub rebuilt : Option Rebuilt
 
 -- the coordinator is so now, and sends nothing
-abbrev pub settled : Coordinator → Coordinated
-settled coordinator = record { coordinator = coordinator; sends = []; rebuilt = None }
+abbrev pub unanswered : Coordinator → Coordinated
+unanswered coordinator = record { coordinator = coordinator; sends = []; rebuilt = None }
 
 -- the coordinator is so now, and sends these
 abbrev pub answered : Coordinator → List Message → Coordinated
@@ -54,23 +54,36 @@ abbrev pub row_for : Coordinator → ℕ → Tenure → Option Row
 row_for coordinator sender tenure =
     if is_noticed coordinator sender then None else at_term tenure (row_of coordinator.rows tenure.tablet)
 
+-- the place of a target is noted
+abbrev pub place_noted : Coordinator → Row → ℕ → ℕ → ℕ → ℕ → Coordinator
+place_noted coordinator row source sfrom target place =
+    with_phase coordinator row (Opening source sfrom target (Some place))
+
+-- a row moves, and what its source told is noted
+abbrev pub row_moved : Coordinator → Row → ℕ → ℕ → ℕ → ℕ → Handed → Coordinator
+row_moved coordinator row source sfrom target dfrom handed =
+    with_handed (with_phase coordinator row (Moving source sfrom target dfrom)) row.tablet handed
+
+-- a row is owned by this master, from this place of its log on
+abbrev pub row_owned : Coordinator → Row → ℕ → ℕ → Coordinator
+row_owned coordinator row master from = with_phase coordinator row (Owned master from)
+
 -- the target is ready: its place is known
 abbrev pub ready_in : Coordinator → ℕ → Ready → Row → Phase → Coordinated
 ready_in coordinator sender message row (Opening source sfrom target None) =
     if sender == target
-    then settled (with_phase coordinator row (Opening source sfrom target (Some message.place)))
-    else settled coordinator
-ready_in coordinator sender message row _ = settled coordinator
+    then unanswered (place_noted coordinator row source sfrom target message.place)
+    else unanswered coordinator
+ready_in coordinator sender message row _ = unanswered coordinator
 
 -- the source has frozen the tablet: it moves
 abbrev pub transfer_in : Coordinator → ℕ → Transfer → Row → Phase → Coordinated
 transfer_in coordinator sender message row (Opening source sfrom target (Some dfrom)) =
     if sender == source
-    then settled
-    (with_handed (with_phase coordinator row (Moving source sfrom target dfrom)) row.tablet
-    (record { floor = message.floor; ends = message.ends }))
-    else settled coordinator
-transfer_in coordinator sender message row _ = settled coordinator
+    then unanswered
+    (row_moved coordinator row source sfrom target dfrom (record { floor = message.floor; ends = message.ends }))
+    else unanswered coordinator
+transfer_in coordinator sender message row _ = unanswered coordinator
 
 -- a master is told that the tablet is its own
 abbrev pub own_to : ℕ → Row → Message
@@ -83,33 +96,33 @@ release_to master row = from_coordinator (nodes.Master master) (bodies.Release (
 -- the owner is told again, where it has missed it
 abbrev pub told_again : Coordinator → ℕ → Row → ℕ → Coordinated
 told_again coordinator sender row master =
-    if sender == master then answered coordinator (own_to master row ∷ []) else settled coordinator
+    if sender == master then answered coordinator (own_to master row ∷ []) else unanswered coordinator
 
 -- the target has all: it owns the tablet
 abbrev pub joined_in : Coordinator → ℕ → Row → Phase → Coordinated
 joined_in coordinator sender row (Moving source sfrom target dfrom) =
     if sender == target
-    then answered (with_phase coordinator row (Owned target dfrom)) (own_to target row ∷ release_to source row ∷ [])
-    else settled coordinator
+    then answered (row_owned coordinator row target dfrom) (own_to target row ∷ release_to source row ∷ [])
+    else unanswered coordinator
 joined_in coordinator sender row (Owned master from) = told_again coordinator sender row master
-joined_in coordinator sender row _ = settled coordinator
+joined_in coordinator sender row _ = unanswered coordinator
 
 -- the tablet is rebuilt: the rebuilding master owns it, and what it told is taken
 abbrev pub rebuilt_in : Coordinator → ℕ → Rebuilt → Row → Phase → Coordinated
 rebuilt_in coordinator sender message row (Rebuilding lineage to) =
     if sender == to
     then record {
-      coordinator = with_phase coordinator row (Owned to message.place);
+      coordinator = row_owned coordinator row to message.place;
       sends = own_to to row ∷ [];
       rebuilt = Some message;
     }
-    else settled coordinator
+    else unanswered coordinator
 rebuilt_in coordinator sender message row (Owned master from) = told_again coordinator sender row master
-rebuilt_in coordinator sender message row _ = settled coordinator
+rebuilt_in coordinator sender message row _ = unanswered coordinator
 
 -- what is made of a message of a master about a row, if there is one that it speaks of
 abbrev pub about : Coordinator → (Row → Coordinated) → Option Row → Coordinated
-about coordinator taken None = settled coordinator
+about coordinator taken None = unanswered coordinator
 about coordinator taken (Some row) = taken row
 
 -- the coordinator takes what a master sent
@@ -122,18 +135,18 @@ report coordinator sender (bodies.Joined tenure) =
     about coordinator (λ row. joined_in coordinator sender row row.phase) (row_for coordinator sender tenure)
 report coordinator sender (bodies.Rebuilt message) =
     about coordinator (λ row. rebuilt_in coordinator sender message row row.phase) (row_for coordinator sender message.tenure)
-report coordinator sender _ = settled coordinator
+report coordinator sender _ = unanswered coordinator
 
 -- the coordinator takes what a client sent
 abbrev pub question : Coordinator → ℕ → Body → Coordinated
 question coordinator client (bodies.Lookup lookup) = lookup_taken coordinator (nodes.Client client) lookup
-question coordinator client _ = settled coordinator
+question coordinator client _ = unanswered coordinator
 
 -- the coordinator takes a message, by its sender
 abbrev pub told_coordinator : Coordinator → Node → Body → Coordinated
 told_coordinator coordinator (nodes.Client client) body = question coordinator client body
 told_coordinator coordinator (nodes.Master master) body = report coordinator master body
-told_coordinator coordinator _ body = settled coordinator
+told_coordinator coordinator _ body = unanswered coordinator
 
 -- the coordinator takes a message
 abbrev pub coordinator_step : Coordinator → Message → Coordinated

@@ -57,15 +57,18 @@ with_move master number (Some handover) =
 abbrev pub ready : Master → Tenure → ℕ → Message
 ready master tenure place = from_master master nodes.Coordinator (bodies.Ready (record { tenure = tenure; place = place }))
 
--- a master makes ready for a tablet: it drops the items of the range, and its entries of the tablet begin at the end of its
--- log
+-- a master makes ready for a tablet: it drops the items of the range, each other tablet there is given up, and its entries of the
+-- tablet begin at the end of its log
+abbrev pub tablet_prepared : Master → Prepare → Master
+tablet_prepared master prepare =
+    let number = prepare.tenure.tablet in
+    let now = with_others_given_up (without_items master prepare.range) number prepare.range in
+    with_move now number (prepared (tablet_at now number).handover prepare.tenure.term prepare.range (length master.log.entries))
+
+-- a master makes ready for a tablet, and says so
 abbrev pub preparing : Master → Prepare → Worked
 preparing master prepare =
-    let number = prepare.tenure.tablet in
-    let place = length master.log.entries in
-    let now = with_others_given_up (without_items master prepare.range) number prepare.range in
-    sending (with_move now number (prepared (tablet_at now number).handover prepare.tenure.term prepare.range place))
-    (ready master prepare.tenure place)
+    sending (tablet_prepared master prepare) (ready master prepare.tenure (length master.log.entries))
 
 -- a master that made ready at this term says so again
 abbrev pub ready_again : Master → Tenure → Role → ℕ → Worked
@@ -93,11 +96,15 @@ transferring master tenure =
     let tablet = tablet_at master tenure.tablet in
     if is_frozen_at tablet tenure.term then sending master (transfer master tenure tablet) else changed master
 
+-- a tablet closes
+abbrev pub tablet_closed : Master → ℕ → Handover → Master
+tablet_closed master number handover = with_move master number (Some handover)
+
 -- a tablet closes, and is frozen at once where nothing of it is staged
 abbrev pub closing : Master → ℕ → Option Handover → Master
 closing master number None = master
 closing master number (Some handover) =
-    let now = with_move master number (Some handover) in
+    let now = tablet_closed master number handover in
     freezing now number (tablet_at now number) (frozen handover handover.term)
 
 -- a master takes a Close
@@ -115,16 +122,19 @@ carried_entry handover grant = entries.Carried (record {
 })
 
 -- a tablet is served from now on, by what its source told
-abbrev pub granting : Master → Grant → Option Handover → Worked
-granting master grant None = changed master
-granting master grant (Some handover) =
-    changed
-    (with_tablet (with_appended master (carried_entry handover grant)) grant.tenure.tablet
+abbrev pub tablet_granted : Master → Grant → Handover → Master
+tablet_granted master grant handover =
+    with_tablet (with_appended master (carried_entry handover grant)) grant.tenure.tablet
     (record (without_merged (tablet_at master grant.tenure.tablet)) {
       handover = handover;
       completions = completions_from [] grant.ends;
       pulling = pulling_from grant.source;
-    }))
+    })
+
+-- a target is granted its tablet, where that move applies
+abbrev pub granting : Master → Grant → Option Handover → Worked
+granting master grant None = changed master
+granting master grant (Some handover) = changed (tablet_granted master grant handover)
 
 -- a master takes a Grant
 abbrev pub grant_taken : Master → Grant → Worked
@@ -132,12 +142,15 @@ grant_taken master grant =
     granting master grant (granted (tablet_at master grant.tenure.tablet).handover grant.tenure.term grant.floor)
 
 -- a tablet is owned: what was pulled, gathered and merged is needed no more
+abbrev pub tablet_owned : Master → ℕ → Handover → Master
+tablet_owned master number handover =
+    with_tablet master number
+    (record (without_merged (tablet_at master number)) { handover = handover; pulling = pulling_from 0 })
+
+-- a master owns its tablet, where that move applies
 abbrev pub owning : Master → ℕ → Option Handover → Worked
 owning master number None = changed master
-owning master number (Some handover) =
-    changed
-    (with_tablet master number
-    (record (without_merged (tablet_at master number)) { handover = handover; pulling = pulling_from 0 }))
+owning master number (Some handover) = changed (tablet_owned master number handover)
 
 -- a master takes an Own
 abbrev pub own_taken : Master → Tenure → Worked
@@ -145,9 +158,13 @@ own_taken master tenure =
     owning master tenure.tablet (owned (tablet_at master tenure.tablet).handover tenure.term master.applied)
 
 -- a tablet is another's: its items are dropped
+abbrev pub tablet_released : Master → ℕ → Handover → Master
+tablet_released master number handover = with_move (without_items master handover.range) number (Some handover)
+
+-- a master gives its tablet up, where that move applies
 abbrev pub releasing : Master → ℕ → Option Handover → Worked
 releasing master number None = changed master
-releasing master number (Some handover) = changed (with_move (without_items master handover.range) number (Some handover))
+releasing master number (Some handover) = changed (tablet_released master number handover)
 
 -- a master takes a Release
 abbrev pub release_taken : Master → Tenure → Worked

@@ -1,17 +1,17 @@
 -- Justified refusals: when a call may be answered Moved or NotYet.
-use Rattle.std.specs.Prelude.{◌≡◌, ◌≤◌, ℕ, true, false, None}
+use Rattle.std.specs.Prelude.{◌≡◌, ◌≤◌, ℕ, true, false, None, All}
 use Rattle.rk_types.specs.Hashing.{hash_of, bucket_of}
 use Rattle.rk_types.specs.declared.call.Call.{Call}
 use Rattle.rk_table.specs.Items.{found}
 use Rattle.rk_transfer.specs.declared.role.Role.TheVariants as roles
 use Rattle.rk_priority.specs.Hashes.{contains}
 use Rattle.rk_world.specs.Ranges.{has_key}
-use Rattle.rk_world.specs.Master.{Master, tablet_at, serving}
+use Rattle.rk_world.specs.Master.{Master, tablet_at, serves_key}
 use Rattle.rk_world.specs.Requests.{needs_state, state_of}
 
 -- Moved may be answered only where no tablet that is served here has the key
 abbrev pub MayAnswerMoved : Master → Call → Type 0
-MayAnswerMoved master call = serving master call.table call.key ≡ None
+MayAnswerMoved master call = All (λ entry. serves_key call.table call.key entry.1 ≡ false) master.tablets
 
 -- NotYet may be answered only for a record that may not have arrived: the tablet pulls, the call needs to know what is
 -- there, neither the records nor a staged item tells it, and neither its hash nor its bucket has come whole

@@ -1,5 +1,5 @@
 -- The ledger of a lane: what its clients asked, the journal of what was answered, and the marks of rebuilds.
-use Rattle.std.specs.Prelude.{ℕ, ◌+◌, ◌==◌, ◌&&◌, Bool, not, if◌then◌else◌, List, [], ◌∷◌, ◌++◌, filter, fold, map, slice_get, Option, Some, None, is_some}
+use Rattle.std.specs.Prelude.{ℕ, ◌+◌, ◌==◌, ◌&&◌, Bool, not, if◌then◌else◌, List, [], ◌∷◌, ◌++◌, filter, fold, slice_get, Option, Some, None, is_some}
 use Rattle.rk_types.specs.NumberMap.{NumberMap, get, get_or, insert}
 use Rattle.rk_types.specs.declared.call.Call.{Call}
 use Rattle.rk_types.specs.declared.call.Ended.{Ended}
@@ -10,7 +10,7 @@ use Rattle.rk_message.specs.declared.message.Message.{Message}
 use Rattle.rk_message.specs.declared.rebuilding.Rebuilt.{Rebuilt}
 use Rattle.rk_world.specs.declared.work.Served.{Served}
 use Rattle.rk_world.specs.Ends.{outcome_of}
-use Rattle.rk_world.specs.Marks.{Mark, is_told}
+use Rattle.rk_world.specs.Marks.{Mark, is_mark_of}
 use Rattle.rk_world.specs.Journal.{next_record, has_record, accepted_at}
 
 -- the last call that a client asked in this lane, with the highest stamp that it had seen
@@ -19,14 +19,14 @@ pub record LastCall : Type 0 where
   pub seen : ℕ
 
 -- the ledger of a lane: of each client that was added the last call that it asked here, if any; how many calls were asked;
--- the last request of each client; the journal, oldest record first; and of each master the pieces of its log that rebuilds
--- made and that are not told yet
+-- the last request of each client; the journal, oldest record first; and the pieces of masters' logs that rebuilds made and that
+-- are not told yet
 pub record Ledger : Type 0 where
   pub clients : NumberMap (Option LastCall)
   pub asked : ℕ
   pub requests : NumberMap Message
   pub journal : List Placed
-  pub marks : NumberMap (List Mark)
+  pub marks : List Mark
 
 -- the ledger of a lane where nothing happened
 abbrev pub new_ledger : Ledger
@@ -42,7 +42,7 @@ asked_by ledger client = get_or None ledger.clients client
 
 -- the marks of a master's log
 abbrev pub marks_of : Ledger → ℕ → List Mark
-marks_of ledger master = get_or [] ledger.marks master
+marks_of ledger master = filter (λ mark. mark.master == master) ledger.marks
 
 -- a client is added, and asked nothing so far
 abbrev pub with_client : Ledger → ℕ → Ledger
@@ -104,19 +104,14 @@ with_end ledger end = with_end_of ledger end (asked_by ledger end.client)
 abbrev pub with_ends : Ledger → List Ended → Ledger
 with_ends ledger ends = fold with_end ledger ends
 
--- a piece of a master's log is marked
-abbrev pub with_mark : ℕ → Ledger → Mark → Ledger
-with_mark master ledger mark =
-    record ledger { marks = insert ledger.marks master (marks_of ledger master ++ mark ∷ []) }
-
 -- pieces of a master's log are marked
-abbrev pub with_marks : Ledger → ℕ → List Mark → Ledger
-with_marks ledger master marks = fold (with_mark master) ledger marks
+abbrev pub with_marks : Ledger → List Mark → Ledger
+with_marks ledger marks = record ledger { marks = ledger.marks ++ marks }
 
--- a rebuild of a tablet is told: no log has a mark of the tablet any more
+-- a rebuild of a tablet is taken: no log has a mark of the tablet any more
 abbrev pub without_marks : Ledger → ℕ → ℕ → Ledger
 without_marks ledger tablet term =
-    record ledger { marks = map (λ entry. (entry.0, filter (λ mark. not (is_told tablet term mark)) entry.1)) ledger.marks }
+    record ledger { marks = filter (λ mark. not (is_mark_of tablet term mark)) ledger.marks }
 
 -- a rebuild is taken, if there is one: its ends make records, and its marks are taken away
 abbrev pub with_rebuilt : Ledger → Option Rebuilt → Ledger

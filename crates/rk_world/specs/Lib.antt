@@ -34,7 +34,9 @@ pub mod Splits
 pub mod Refusals
 pub mod Step
 pub mod Calls
+pub mod Premises
 pub mod Runs
+pub mod Cluster
 pub mod Justified
 pub mod Quiet
 pub mod Finished

@@ -1,10 +1,11 @@
--- Marks: pieces of a log that a rebuild made and that are not told yet. They count for nothing until then.
+-- Marks: pieces of a log that a rebuild made. They count for nothing until the coordinator takes that rebuild.
 use Rattle.std.specs.Prelude.{ℕ, suc, Bool, ◌==◌, ◌&&◌, nat_lt, nat_le, if◌then◌else◌, List, [], ◌∷◌, drop}
 use Rattle.std.specs.List.{list_any}
 use Rattle.rk_entry.specs.declared.entry.Entry.{Entry}
 
--- a piece of a log that a rebuild made, from the place `first` on and before the place `past`, until it is told
+-- a piece of a master's log that a rebuild made, from the place `first` on and before the place `past`, until it is told
 pub record Mark : Type 0 where
+  pub master : ℕ
   pub first : ℕ
   pub past : ℕ
   pub tablet : ℕ
@@ -25,5 +26,5 @@ abbrev pub unmarked_from : List Mark → ℕ → List Entry → List Entry
 unmarked_from marks place entries = unmarked marks place (drop place entries)
 
 -- whether a mark is of a tablet, made at this term or before
-abbrev pub is_told : ℕ → ℕ → Mark → Bool
-is_told tablet term mark = mark.tablet == tablet && nat_le mark.term term
+abbrev pub is_mark_of : ℕ → ℕ → Mark → Bool
+is_mark_of tablet term mark = mark.tablet == tablet && nat_le mark.term term

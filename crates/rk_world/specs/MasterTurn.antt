@@ -55,12 +55,16 @@ want_of master number tablet (hash ∷ more) =
 abbrev pub with_outstanding : Tablet → Tablet
 with_outstanding tablet = with_pulling tablet (record tablet.pulling { hashes = batched tablet.pulling.hashes })
 
+-- a target asks first for a batch of the wanted hashes, where none is outstanding
+abbrev pub batch_asked : Master → ℕ → Tablet → Master
+batch_asked master number tablet = with_tablet master number (with_outstanding tablet)
+
 -- a target asks for what it lacks
 abbrev pub receiving_duty : Master → ℕ → Tablet → Worked
 receiving_duty master number tablet =
     let now = with_outstanding tablet in
     record {
-      master = with_tablet master number now;
+      master = batch_asked master number tablet;
       sends = want_of master number now now.pulling.hashes.outstanding ++ pull_of master number now ∷ [];
       served = [];
       marked = [];

@@ -25,9 +25,13 @@ migrate_fault_of coordinator (Some row) to = migrate_fault_by coordinator row ro
 abbrev pub migrate_fault : Coordinator → ℕ → ℕ → Option MoveError
 migrate_fault coordinator tablet to = migrate_fault_of coordinator (row_of coordinator.rows tablet) to
 
+-- a row begins to move, at the next term
+abbrev pub migration_begun : Coordinator → Row → ℕ → ℕ → ℕ → Coordinator
+migration_begun coordinator row master from to = with_term coordinator row (Opening master from to None)
+
 -- a tablet that is owned begins to move
 abbrev pub migrating : Coordinator → Row → Phase → ℕ → Coordinator
-migrating coordinator row (Owned master from) to = with_term coordinator row (Opening master from to None)
+migrating coordinator row (Owned master from) to = migration_begun coordinator row master from to
 migrating coordinator row _ to = coordinator
 
 -- a row, if there is one, begins to move

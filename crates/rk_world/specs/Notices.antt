@@ -31,15 +31,15 @@ phase_noticed coordinator dead (Rebuilding lineage to) =
     if to == dead then Some (Rebuilding lineage (next_rebuilder coordinator lineage)) else None
 
 -- a row once a master was noticed dead: where its phase changes, its term rises
-abbrev pub row_turned : Row → Option Phase → Row
-row_turned row None = row
-row_turned row (Some phase) = record row { term = row.term + 1; phase = phase }
+abbrev pub row_noticed : Row → Option Phase → Row
+row_noticed row None = row
+row_noticed row (Some phase) = record row { term = row.term + 1; phase = phase }
 
 -- a master is marked as dead, and then its rows change
 abbrev pub notice_one : Coordinator → ℕ → Coordinator
 notice_one coordinator dead =
     let marked = record coordinator { noticed = coordinator.noticed ++ dead ∷ [] } in
-    record marked { rows = map (λ row. row_turned row (phase_noticed marked dead row.phase)) coordinator.rows }
+    record marked { rows = map (λ row. row_noticed row (phase_noticed marked dead row.phase)) coordinator.rows }
 
 -- whether a phase names a master: as its owner, source, target, rebuilding master or member
 abbrev pub names : Phase → ℕ → Bool
@@ -60,8 +60,9 @@ notice_order rows dead crashed =
     ++ (filter (λ master. is_named rows master && not (master == dead)) crashed
     ++ filter (λ master. is_named rows master && (master == dead)) crashed)
 
--- a crash is noticed, and with it each other one that was not: so no row is given to a crashed master; a master that was
--- noticed already is not marked again
+-- a crash is noticed, and with it each other one that was not, so no row stays with a crashed master: one that no row names is
+-- marked before a row could be given to it, and a row that is given to one that is marked later passes on then; a master that
+-- was noticed already is not marked again
 abbrev pub coordinator_notice : Coordinator → ℕ → List ℕ → Coordinator
 coordinator_notice coordinator dead crashed =
     fold notice_one coordinator

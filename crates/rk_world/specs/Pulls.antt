@@ -64,14 +64,16 @@ with_pulled pulling worker item =
 abbrev pub with_pulling : Tablet → Pulling → Tablet
 with_pulling tablet pulling = record tablet { pulling = pulling }
 
--- one item is replayed: where it is newer than what the records have of its key, it goes into the records and to the worker's
--- items
+-- an item is replayed: it goes into the records and to the worker's items
+abbrev pub item_replayed : ℕ → ℕ → Master → Held → Master
+item_replayed number worker master item =
+    with_tablet (with_item master item) number
+    (with_pulling (tablet_at master number) (with_pulled (tablet_at master number).pulling worker item))
+
+-- an item is replayed where it is newer than what the records have of its key
 abbrev pub replay_one : ℕ → ℕ → Master → Held → Master
 replay_one number worker master item =
-    if is_newer item (found item.table item.key master.records)
-    then with_tablet (with_item master item) number
-    (with_pulling (tablet_at master number) (with_pulled (tablet_at master number).pulling worker item))
-    else master
+    if is_newer item (found item.table item.key master.records) then item_replayed number worker master item else master
 
 -- items are replayed, one after the other
 abbrev pub replay : Master → ℕ → ℕ → List Held → Master
@@ -92,7 +94,7 @@ sealing master number tablet =
       sealed = next_sides master (length sides);
     }))
 
--- a target has all, and waits until its side segments are stored
+-- the side logs of a target are sealed, and it waits until its side segments are stored
 abbrev pub joining_at : Master → ℕ → Tablet → Option Handover → Master
 joining_at master number tablet None = master
 joining_at master number tablet (Some handover) = with_tablet master number (with_handover tablet handover)
@@ -109,9 +111,9 @@ pulled_all master number =
     let sealed = sealing master number (tablet_at master number) in
     joining_by sealed number (tablet_at sealed number) (tablet_at sealed number).pulling.sealed
 
--- a target takes a batch: its token moves on, and one more batch is counted
-abbrev pub with_batch : Master → ℕ → Token → Master
-with_batch master number next =
+-- a target has taken a batch: its token moves on, and one more batch is counted
+abbrev pub token_passed : Master → ℕ → Token → Master
+token_passed master number next =
     let tablet = tablet_at master number in
     with_tablet master number (with_pulling tablet (record tablet.pulling { token = next; batches = tablet.pulling.batches + 1 }))
 
@@ -123,7 +125,7 @@ is_token a b = a.bucket == b.bucket && (a.skip == b.skip)
 abbrev pub batch_taken : Master → ℕ → Pulled → Master
 batch_taken master number pulled =
     let worker = (tablet_at master number).pulling.batches % 4 in
-    let now = with_batch (replay master number worker (items_of pulled.entries)) number pulled.next in
+    let now = token_passed (replay master number worker (items_of pulled.entries)) number pulled.next in
     if is_token pulled.next end then pulled_all now number else now
 
 -- a target takes a batch where it is that of its token
@@ -135,8 +137,8 @@ pulled_taken master pulled =
     else changed master
 
 -- the hashes that were asked for have come
-abbrev pub with_resolved : Master → ℕ → List ℕ → Master
-with_resolved master number hashes =
+abbrev pub hashes_resolved : Master → ℕ → List ℕ → Master
+hashes_resolved master number hashes =
     let tablet = tablet_at master number in
     with_tablet master number (with_pulling tablet (record tablet.pulling { hashes = got tablet.pulling.hashes hashes }))
 
@@ -145,5 +147,5 @@ abbrev pub got_taken : Master → Got → Worked
 got_taken master message =
     let tablet = tablet_at master message.tenure.tablet in
     if is_receiving_at tablet message.tenure.term && is_batch tablet.pulling.hashes.outstanding message.hashes
-    then changed (with_resolved (replay master message.tenure.tablet 0 (items_of message.entries)) message.tenure.tablet message.hashes)
+    then changed (hashes_resolved (replay master message.tenure.tablet 0 (items_of message.entries)) message.tenure.tablet message.hashes)
     else changed master

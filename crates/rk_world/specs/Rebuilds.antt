@@ -13,6 +13,7 @@ use Rattle.rk_message.specs.declared.rebuilding.CopySegment.{CopySegment}
 use Rattle.rk_message.specs.declared.rebuilding.Rebuild.{Rebuild}
 use Rattle.rk_world.specs.declared.work.Merged.{Merged}
 use Rattle.rk_world.specs.declared.work.Reading.{Reading}
+use Rattle.rk_world.specs.Marks.{Mark}
 use Rattle.rk_world.specs.Material.{material_of, side_entries, as_entries}
 use Rattle.rk_world.specs.Lineage.{own_member}
 use Rattle.rk_world.specs.Gather.{by_member, gather_begun, gathering, is_awaited, next_reading}
@@ -52,22 +53,31 @@ with_merged tablet members merged handover = record tablet {
   merged_of = members;
 }
 
--- the copies and the entry that closes the rebuild are appended, as one piece of the log
+-- what was gathered is merged: the copies and the entry that closes the rebuild are appended
+abbrev pub rebuild_merged : Master → ℕ → Tablet → List (List Entry) → Merged → Handover → Master
+rebuild_merged master number tablet members merged handover =
+    with_tablet (with_appended (with_all master (as_entries merged.copies)) (rebuilt_entry tablet merged)) number
+    (with_merged tablet members merged handover)
+
+-- the piece of the log that a merge makes
+abbrev pub piece_of : Master → ℕ → Merged → Handover → Mark
+piece_of master number merged handover = record {
+  master = master.number;
+  first = length master.log.entries;
+  past = suc (length (with_all master (as_entries merged.copies)).log.entries);
+  tablet = number;
+  term = handover.term;
+}
+
+-- what was gathered is merged, where that move applies, as one piece of the log
 abbrev pub merging : Master → ℕ → Tablet → List (List Entry) → Merged → Option Handover → Worked
 merging master number tablet members merged None = changed master
-merging master number tablet members merged (Some handover) =
-    let copied = with_all master (as_entries merged.copies) in
-    record {
-      master = with_tablet (with_appended copied (rebuilt_entry tablet merged)) number (with_merged tablet members merged handover);
-      sends = [];
-      served = [];
-      marked = (record {
-        first = length master.log.entries;
-        past = suc (length copied.log.entries);
-        tablet = number;
-        term = handover.term;
-      }) ∷ [];
-    }
+merging master number tablet members merged (Some handover) = record {
+  master = rebuild_merged master number tablet members merged handover;
+  sends = [];
+  served = [];
+  marked = piece_of master number merged handover ∷ [];
+}
 
 -- all is gathered, and merged: the copies and the entry that closes the rebuild are appended
 abbrev pub merged_at : Master → ℕ → Tablet → List (List Entry) → Merged → Worked
@@ -111,14 +121,18 @@ with_begun master rebuild (Some handover) =
       merged_of = [];
     })
 
--- a master begins to rebuild a tablet
-abbrev pub beginning : Master → Rebuild → Worked
-beginning master rebuild =
+-- a rebuild begins
+abbrev pub rebuild_begun : Master → Rebuild → Master
+rebuild_begun master rebuild =
     let own = own_member rebuild.lineage master.number in
     let from = begun_from master own in
     let number = rebuild.tenure.tablet in
     let now = with_others_given_up (without_foreign master rebuild.range own) number rebuild.range in
-    rebuild_goes_on (with_begun now rebuild (rebuilt (tablet_at now number).handover rebuild.tenure.term rebuild.range from)) number
+    with_begun now rebuild (rebuilt (tablet_at now number).handover rebuild.tenure.term rebuild.range from)
+
+-- a master begins to rebuild a tablet, and goes on by what there is to gather
+abbrev pub beginning : Master → Rebuild → Worked
+beginning master rebuild = rebuild_goes_on (rebuild_begun master rebuild) rebuild.tenure.tablet
 
 -- a master takes a Rebuild
 abbrev pub rebuild_taken : Master → Rebuild → Worked
@@ -131,11 +145,16 @@ rebuild_taken master rebuild =
 abbrev pub with_gathered : Tablet → CopySegment → Tablet
 with_gathered tablet copy = record tablet { gather = gathering tablet.gather copy.master copy.segment copy.bytes }
 
+-- a rebuild gathers a segment
+abbrev pub segment_gathered : Master → CopySegment → Master
+segment_gathered master copy =
+    with_tablet master copy.tenure.tablet (with_gathered (tablet_at master copy.tenure.tablet) copy)
+
 -- a master takes the copy of a segment, where it awaits just that
 abbrev pub copy_taken : Master → CopySegment → Worked
 copy_taken master copy =
     let tablet = tablet_at master copy.tenure.tablet in
     if is_gathering tablet.handover.role && (tablet.handover.term == copy.tenure.term)
     && is_awaited (next_reading tablet.gather) copy.master copy.segment
-    then rebuild_goes_on (with_tablet master copy.tenure.tablet (with_gathered tablet copy)) copy.tenure.tablet
+    then rebuild_goes_on (segment_gathered master copy) copy.tenure.tablet
     else changed master

@@ -33,12 +33,12 @@ use Rattle.rk_world.specs.Worked.{Worked, changed, sending, from_master}
 
 -- what is to be done with a call, at the tablet of this number
 pub data Choice : Type 0 where
-  -- no tablet that is served here has the key
-  Turns : Choice
+  -- no tablet that is served here has the key: the client is told that it has moved
+  Redirects : Choice
   -- the call has ended so
   Repeats : (end : End) → Choice
-  -- the call is staged, or a later one of its client has ended
-  Waits : Choice
+  -- nothing is done: the call is staged, or a later one of its client has ended
+  Ignores : Choice
   -- the record may not have arrived yet: its hash is wanted
   Wants : (tablet : ℕ) → Choice
   -- the read tells this
@@ -98,13 +98,13 @@ fresh_choice number tablet call state =
 -- what is done with a mutation, by what is known of it
 abbrev pub mutation_choice : Master → ℕ → Tablet → Call → Look → Choice
 mutation_choice master number tablet call looks.New =
-    if is_staged master call.client call.seq then Waits else fresh_choice number tablet call (state_of master call)
+    if is_staged master call.client call.seq then Ignores else fresh_choice number tablet call (state_of master call)
 mutation_choice master number tablet call (looks.Same end) = Repeats end
-mutation_choice master number tablet call (looks.Old seq) = Waits
+mutation_choice master number tablet call (looks.Old seq) = Ignores
 
 -- what is done with a call, by the tablet that is served here and has its key
 abbrev pub choice_at : Master → Call → Option (ℕ × Tablet) → Choice
-choice_at master call None = Turns
+choice_at master call None = Redirects
 choice_at master call (Some (number, tablet)) =
     if is_mutation call.op
     then mutation_choice master number tablet call (look tablet.completions call.client call.seq)
@@ -164,24 +164,36 @@ refusal_of call found absent = entries.Refused (record {
 abbrev pub with_staged : Master → Call → Entry → Master
 with_staged master call entry = with_appended (with_call master call) entry
 
+-- a write or a removal is staged, for the tablet of this number, whose counter rises
+abbrev pub write_staged : Master → ℕ → Call → Option (List ℕ) → Master
+write_staged master number call value =
+    with_tablet
+    (with_staged master call (entries.Held (item_of call (tablet_at master number).handover.counter value)))
+    number (counted_up (tablet_at master number))
+
+-- a refusal is staged
+abbrev pub refusal_staged : Master → Call → ℕ → Bool → Master
+refusal_staged master call found absent = with_staged master call (refusal_of call found absent)
+
+-- a hash is wanted for the tablet of this number
+abbrev pub hash_wanted : Master → ℕ → ℕ → Master
+hash_wanted master number hash = with_tablet master number (with_wanted (tablet_at master number) hash)
+
 -- what a choice changes, sends and serves
 abbrev pub chosen : Master → ℕ → Call → Choice → Worked
-chosen master asked call Turns = sending master (answering master call (answers.Moved asked))
+chosen master asked call Redirects = sending master (answering master call (answers.Moved asked))
 chosen master asked call (Repeats end) = sending master (answering master call (answers.Done (outcome_of end)))
-chosen master asked call Waits = changed master
+chosen master asked call Ignores = changed master
 chosen master asked call (Wants number) =
-    sending (with_tablet master number (with_wanted (tablet_at master number) (hash_of call.key)))
-    (answering master call (answers.NotYet call.key))
+    sending (hash_wanted master number (hash_of call.key)) (answering master call (answers.NotYet call.key))
 chosen master asked call (Reads outcome) = record {
   master = master;
   sends = answering master call (answers.Done outcome) ∷ [];
   served = (record { call = call; outcome = outcome }) ∷ [];
   marked = [];
 }
-chosen master asked call (Writes number value) =
-    changed (with_tablet (with_staged master call (entries.Held (item_of call (tablet_at master number).handover.counter value)))
-    number (counted_up (tablet_at master number)))
-chosen master asked call (Refuses found absent) = changed (with_staged master call (refusal_of call found absent))
+chosen master asked call (Writes number value) = changed (write_staged master number call value)
+chosen master asked call (Refuses found absent) = changed (refusal_staged master call found absent)
 
 -- a master takes a client's request
 abbrev pub request_taken : Master → ℕ → Request → Worked

@@ -1,18 +1,20 @@
 -- Runs: what a list of events makes of a world, and which lists of events are calm.
-use Rattle.std.specs.Prelude.{◌≡◌, ℕ, ◌==◌, Bool, true, not, List, [], ◌∷◌, Option, Result, Ok, Err, ⊤}
+use Rattle.std.specs.Prelude.{◌≡◌, ℕ, ◌==◌, Bool, true, not, List, [], ◌∷◌, Result, Ok, Err, ⊤, IfSome}
 use Rattle.std.specs.List.{list_any}
 use Rattle.rk_world.specs.declared.error.StepError.{StepError}
 use Rattle.rk_world.specs.declared.event.Event.{Event}
 use Rattle.rk_world.specs.declared.event.Event.TheVariants as events
-use Rattle.rk_world.specs.Client.{Session, IsSession}
+use Rattle.rk_world.specs.Backup.{Called}
+use Rattle.rk_world.specs.Client.{Session}
 use Rattle.rk_world.specs.World.{World, live_masters}
 use Rattle.rk_world.specs.Step.{Stepped, step}
 use Rattle.rk_world.specs.Calls.{Visited, ask, accept}
+use Rattle.rk_world.specs.Premises.{MayAct, MayHappen, IsAfterStart}
 
--- something that happens in a lane: an event with what the replica answered, or a client's turn or answer, for the session
+-- something that happens in a lane: an event with what the call of a replica came to, or a client's turn or answer, for the session
 -- that the client has then
 pub data Happening : Type 0 where
-  Happens : (event : Event) (failed : Option ℕ) → Happening
+  Happens : (event : Event) (called : Called) → Happening
   Asks : (session : Session) → Happening
   Accepts : (number : ℕ) (session : Session) → Happening
 
@@ -28,7 +30,7 @@ world_visited w (Err error) = w
 
 -- the world after something happened
 abbrev pub after : World → Happening → World
-after w (Happens event failed) = world_stepped w (step w event failed)
+after w (Happens event called) = world_stepped w (step w event called)
 after w (Asks session) = world_visited w (ask w session)
 after w (Accepts number session) = world_visited w (accept w number session)
 
@@ -48,7 +50,7 @@ IsCalmEvent w _ = ⊤
 
 -- only a crash may break the calm
 abbrev pub IsCalmHappening : World → Happening → Type 0
-IsCalmHappening w (Happens event failed) = IsCalmEvent w event
+IsCalmHappening w (Happens event called) = IsCalmEvent w event
 IsCalmHappening w (Asks session) = ⊤
 IsCalmHappening w (Accepts number session) = ⊤
 
@@ -57,8 +59,15 @@ abbrev pub IsCalm : World → List Happening → Type 0
 IsCalm w [] = ⊤
 IsCalm w (happening ∷ later) = IsCalmHappening w happening × IsCalm (after w happening) later
 
--- a client acts by a session
-abbrev pub HasSession : Happening → Type 0
-HasSession (Happens event failed) = ⊤
-HasSession (Asks session) = IsSession session
-HasSession (Accepts number session) = IsSession session
+-- what may happen in a world: an event that names what is there, or a session that may act there; a call that is asked comes after
+-- the history's start
+abbrev pub MayOccur : World → Happening → Type 0
+MayOccur w (Happens event called) = MayHappen w event
+MayOccur w (Asks session) =
+    MayAct w.coordinator.masters session × IfSome session.outstanding (IsAfterStart w.base)
+MayOccur w (Accepts number session) = MayAct w.coordinator.masters session
+
+-- each of these may happen when it does
+abbrev pub MayAllOccur : World → List Happening → Type 0
+MayAllOccur w [] = ⊤
+MayAllOccur w (happening ∷ later) = MayOccur w happening × MayAllOccur (after w happening) later

@@ -22,10 +22,10 @@ use Rattle.rk_world.specs.Coordinator.{new_row, with_row}
 use Rattle.rk_world.specs.CoordinatorStep.{coordinator_step, coordinator_turn}
 use Rattle.rk_world.specs.Migrations.{tablet_migrated}
 use Rattle.rk_world.specs.Notices.{coordinator_notice}
-use Rattle.rk_world.specs.Backup.{Backed, backup_step}
+use Rattle.rk_world.specs.Backup.{Backed, backup_step, Gave, Called, stored_after, called_by}
 use Rattle.rk_world.specs.Replies.{filled}
 use Rattle.rk_world.specs.Ledger.{Ledger, is_added, with_client, with_all_served, with_marks, with_rebuilt}
-use Rattle.rk_world.specs.World.{with_all_sent, World, master_at, backup_at, has_crashed, crashed_masters, with_master, with_backup, with_coordinator, with_ledger, with_crash, with_top, with_wire}
+use Rattle.rk_world.specs.World.{with_all_sent, World, master_at, backup_at, has_crashed, crashed_masters, with_master, with_coordinator, with_ledger, with_crash, with_top, with_wire, is_backup, with_stored_by}
 use Rattle.rk_world.specs.Splits.{tablet_split}
 use Rattle.rk_world.specs.Refusals.{refusal}
 
@@ -61,13 +61,13 @@ seen_in _ = 0
 
 -- the ledger after a master's work: served calls get their records, and the pieces of a rebuild are marked
 abbrev pub ledger_after : Ledger → ℕ → ℕ → Worked → Ledger
-ledger_after ledger master seen worked = with_marks (with_all_served seen ledger worked.served) master worked.marked
+ledger_after ledger master seen worked = with_marks (with_all_served seen ledger worked.served) worked.marked
 
 -- a master has worked: what it sends gets the stamps and places of its records
 abbrev pub worked_at : World → ℕ → ℕ → Worked → Stepped
 worked_at w master seen worked =
     let ledger = ledger_after w.ledger master seen worked in
-    with_sends (with_ledger (with_master w master worked.master) ledger) (map (filled ledger.journal) worked.sends)
+    with_sends (with_ledger (with_master w master worked.master) ledger) (map (filled ledger.journal worked.served) worked.sends)
 
 -- a message reaches a master; one that has crashed loses it
 abbrev pub to_master : World → ℕ → Message → Stepped
@@ -85,28 +85,30 @@ to_coordinator w message =
 abbrev pub log_bytes_of : World → ℕ → ℕ → List ℕ
 log_bytes_of w master segment = bytes_of (master_at w master).log segment
 
--- a backup has worked; where its replica failed the message is lost
-abbrev pub backed_at : World → ℕ → Backed → Stepped
-backed_at w backup backed =
-    if backed.lost then losing (with_backup w backup backed.segments)
-    else with_sends (with_backup w backup backed.segments) backed.sends
+-- a backup has worked; where its replica called the message is lost
+abbrev pub backed_at : World → Backed → Stepped
+backed_at w backed = if backed.lost then losing w else with_sends w backed.sends
 
--- a message reaches a backup
-abbrev pub to_backup : World → ℕ → Node → Body → Option ℕ → Stepped
-to_backup w backup sender body failed =
-    backed_at w backup (backup_step (backup_at w backup) backup sender body (log_bytes_of w) failed)
+-- a message reaches a backup, if that is there
+abbrev pub to_backup : World → ℕ → Node → Body → Called → Stepped
+to_backup w backup sender body called =
+    if is_backup w backup
+    then backed_at
+    (with_stored_by w backup (λ segments. stored_after segments sender body called) (get w.backups backup))
+    (backup_step backup sender body (log_bytes_of w) called)
+    else quietly w
 
--- a message reaches its receiver; `failed` tells whether a replica failed, and of an append how many bytes it stored
-abbrev pub delivered_to : World → Message → Node → Option ℕ → Stepped
-delivered_to w message (nodes.Client client) failed = quietly w
-delivered_to w message nodes.Coordinator failed = to_coordinator w message
-delivered_to w message (nodes.Master master) failed = to_master w master message
-delivered_to w message (nodes.Backup backup) failed = to_backup w backup message.from message.body failed
+-- a message reaches its receiver; `called` tells what the call of a replica came to
+abbrev pub delivered_to : World → Message → Node → Called → Stepped
+delivered_to w message (nodes.Client client) called = quietly w
+delivered_to w message nodes.Coordinator called = to_coordinator w message
+delivered_to w message (nodes.Master master) called = to_master w master message
+delivered_to w message (nodes.Backup backup) called = to_backup w backup message.from message.body called
 
 -- a message of the wire is delivered, if it is there
-abbrev pub delivered : World → Option Message → Option ℕ → Stepped
-delivered w None failed = quietly w
-delivered w (Some message) failed = delivered_to w message message.to failed
+abbrev pub delivered : World → Option Message → Called → Stepped
+delivered w None called = quietly w
+delivered w (Some message) called = delivered_to w message message.to called
 
 -- a node takes its turn; clients take theirs by asking, and backups have no duties
 abbrev pub turned : World → Node → Stepped
@@ -139,26 +141,41 @@ sent_again w None = quietly w
 sent_again w (Some message) = with_sends w (message ∷ [])
 
 -- what an event makes of the world, where it is not refused
-abbrev pub happened : World → Event → Option ℕ → Stepped
-happened w (events.AddTablet tablet range master) failed = quietly (tablet_added w tablet range master)
-happened w (events.AddClient client) failed = quietly (client_added w client)
-happened w (events.Deliver number) failed = delivered w (get w.wire.messages number) failed
-happened w (events.Forget number) failed = quietly (with_wire w (without_message number w.wire))
-happened w (events.Turn node) failed = turned w node
-happened w (events.Again client) failed = sent_again w (get w.ledger.requests client)
-happened w (events.Migrate tablet to) failed =
+abbrev pub happened : World → Event → Called → Stepped
+happened w (events.AddTablet tablet range master) called = quietly (tablet_added w tablet range master)
+happened w (events.AddClient client) called = quietly (client_added w client)
+happened w (events.Deliver number) called = delivered w (get w.wire.messages number) called
+happened w (events.Forget number) called = quietly (with_wire w (without_message number w.wire))
+happened w (events.Turn node) called = turned w node
+happened w (events.Again client) called = sent_again w (get w.ledger.requests client)
+happened w (events.Migrate tablet to) called =
     quietly (with_coordinator w (tablet_migrated w.coordinator tablet to))
-happened w (events.Split tablet at new) failed = quietly (tablet_split w tablet at new)
-happened w (events.Crash master) failed = quietly (with_crash w master)
-happened w (events.Notice master) failed =
+happened w (events.Split tablet at new) called = quietly (tablet_split w tablet at new)
+happened w (events.Crash master) called = quietly (with_crash w master)
+happened w (events.Notice master) called =
     quietly (with_coordinator w (coordinator_notice w.coordinator master (crashed_masters w)))
 
 -- an event, unless it is refused
-abbrev pub stepped_by : World → Event → Option ℕ → Option StepError → Result Stepped StepError
-stepped_by w event failed None = Ok (happened w event failed)
-stepped_by w event failed (Some error) = Err error
+abbrev pub stepped_by : World → Event → Called → Option StepError → Result Stepped StepError
+stepped_by w event called None = Ok (happened w event called)
+stepped_by w event called (Some error) = Err error
 
--- what an event makes of a world, or why it is refused; `failed` tells whether the replica that it called failed, and of an
--- append how many bytes that stored
-abbrev pub step : World → Event → Option ℕ → Result Stepped StepError
-step w event failed = stepped_by w event failed (refusal w event)
+-- what an event makes of a world, or why it is refused; `called` tells what the call of a replica came to, if the event makes
+-- one
+abbrev pub step : World → Event → Called → Result Stepped StepError
+step w event called = stepped_by w event called (refusal w event)
+
+-- what the call of a replica comes to where this message reaches its receiver
+abbrev pub told_to : World → Message → Node → Option ℕ → Called
+told_to w message (nodes.Backup backup) fault = called_by (backup_at w backup) message.from message.body fault
+told_to w message to fault = Gave None
+
+-- what the delivery of a message asks of a replica that tells its segments, where `fault` tells whether that fails
+abbrev pub told_for : World → Option Message → Option ℕ → Called
+told_for w None fault = Gave None
+told_for w (Some message) fault = told_to w message message.to fault
+
+-- what an event comes to at replicas that tell their segments, where `fault` tells whether the one that is called fails
+abbrev pub told_by_replica : World → Event → Option ℕ → Called
+told_by_replica w (events.Deliver number) fault = told_for w (get w.wire.messages number) fault
+told_by_replica w event fault = Gave None

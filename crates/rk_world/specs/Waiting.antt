@@ -13,11 +13,15 @@ use Rattle.rk_transfer.specs.declared.role.Role.TheVariants as roles
 use Rattle.rk_world.specs.Tablet.{Tablet, with_handover}
 use Rattle.rk_world.specs.Master.{Master, is_settled, with_tablet, with_appended}
 
+-- a tablet freezes
+abbrev pub tablet_frozen : Master → ℕ → Tablet → Handover → Master
+tablet_frozen master number tablet handover = with_tablet master number (with_handover tablet handover)
+
 -- a tablet that closes freezes, where nothing of it is staged
 abbrev pub freezing : Master → ℕ → Tablet → Option Handover → Master
 freezing master number tablet None = master
 freezing master number tablet (Some handover) =
-    if is_settled master tablet.handover.range then with_tablet master number (with_handover tablet handover) else master
+    if is_settled master tablet.handover.range then tablet_frozen master number tablet handover else master
 
 -- the entry that closes the role of a target that has all
 abbrev pub joined_entry : Tablet → Entry
@@ -27,11 +31,15 @@ joined_entry tablet = entries.Joined (record {
   segments = tablet.pulling.sealed;
 })
 
--- a target that has all appends the entry that closes its role
+-- the entry that closes the role of a target is appended
+abbrev pub closing_appended : Master → ℕ → Tablet → Handover → Master
+closing_appended master number tablet handover =
+    with_appended (with_tablet master number (with_handover tablet handover)) (joined_entry tablet)
+
+-- a target that has all appends the entry that closes its role, where that move applies
 abbrev pub closing_entry : Master → ℕ → Tablet → Option Handover → Master
 closing_entry master number tablet None = master
-closing_entry master number tablet (Some handover) =
-    with_appended (with_tablet master number (with_handover tablet handover)) (joined_entry tablet)
+closing_entry master number tablet (Some handover) = closing_appended master number tablet handover
 
 -- whether every backup is known to hold the side segments that a target sealed
 abbrev pub is_sealed_stored : Master → Tablet → Bool

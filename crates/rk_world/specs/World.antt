@@ -1,5 +1,5 @@
 -- The world of a lane: what all its nodes know, and what lies between them.
-use Rattle.std.specs.Prelude.{ℕ, ◌==◌, Bool, not, max, List, [], ◌∷◌, ◌++◌, filter, fold, map, replicate, sum}
+use Rattle.std.specs.Prelude.{ℕ, ◌==◌, Bool, not, ◌&&◌, nat_le, max, List, [], ◌∷◌, ◌++◌, filter, fold, map, replicate, sum, Option, Some, None}
 use Rattle.std.specs.List.{flat_map, list_any, range_with_len}
 use Rattle.rk_types.specs.NumberMap.{NumberMap, get_or, insert}
 use Rattle.rk_types.specs.declared.call.Call.{Call}
@@ -11,7 +11,7 @@ use Rattle.rk_log.specs.Log.{Log}
 use Rattle.rk_tablet_map.specs.declared.row.Row.{Row}
 use Rattle.rk_message.specs.Wire.{with_message, silent, Traffic}
 use Rattle.rk_message.specs.declared.message.Message.{Message}
-use Rattle.rk_world.specs.Base.{Base}
+use Rattle.rk_world.specs.Base.{Base, no_base}
 use Rattle.rk_world.specs.Tablet.{Tablet}
 use Rattle.rk_world.specs.Master.{Master, new_master, tablet_at, log_bytes}
 use Rattle.rk_world.specs.Coordinator.{Coordinator, new_coordinator}
@@ -20,11 +20,13 @@ use Rattle.rk_world.specs.Journal.{last_stamp}
 use Rattle.rk_world.specs.Ledger.{Ledger, new_ledger, marks_of, seen_of}
 use Rattle.rk_world.specs.Written.{Written, written_by, truth_of}
 
--- the world of a lane: its number; its masters, crashed ones too; what its backups store; the coordinator; the wire; the ledger;
--- the masters that have crashed; the greatest number that has stood in it; and what its history starts from
+-- the world of a lane: its number; its masters, crashed ones too; how many backups it has, and what each of them stores, where its
+-- replica tells that; the coordinator; the wire; the ledger; the masters that have crashed; the greatest number that has stood in
+-- it; and what its history starts from
 pub record World : Type 0 where
   pub lane : ℕ
   pub masters : NumberMap Master
+  pub backup_count : ℕ
   pub backups : NumberMap Segments
   pub coordinator : Coordinator
   pub wire : Traffic
@@ -42,18 +44,19 @@ new_masters masters backups =
 abbrev pub new_backups : ℕ → NumberMap Segments
 new_backups backups = map (λ number. (number, no_segments)) (range_with_len 1 backups)
 
--- the lane of a number where nothing has happened, with so many masters and backups
-abbrev pub new_world : Base → ℕ → ℕ → ℕ → World
-new_world base lane masters backups = record {
+-- the lane of a number where nothing has happened, with so many masters and backups; its history starts from nothing
+abbrev pub new_world : ℕ → ℕ → ℕ → World
+new_world lane masters backups = record {
   lane = lane;
   masters = new_masters masters backups;
+  backup_count = backups;
   backups = new_backups backups;
   coordinator = new_coordinator masters;
   wire = silent;
   ledger = new_ledger;
   crashed = [];
   top = 0;
-  base = base;
+  base = no_base;
 }
 
 -- a master
@@ -80,9 +83,14 @@ live_masters w = filter (λ entry. not (has_crashed w entry.0)) w.masters
 abbrev pub with_master : World → ℕ → Master → World
 with_master w number master = record w { masters = insert w.masters number master }
 
--- a backup stores this
-abbrev pub with_backup : World → ℕ → Segments → World
-with_backup w number segments = record w { backups = insert w.backups number segments }
+-- a backup, where it tells what it stores, stores this more
+abbrev pub with_stored_by : World → ℕ → (Segments → Segments) → Option Segments → World
+with_stored_by w number store None = w
+with_stored_by w number store (Some segments) = record w { backups = insert w.backups number (store segments) }
+
+-- whether a backup is one of the lane's
+abbrev pub is_backup : World → ℕ → Bool
+is_backup w number = nat_le 1 number && nat_le number w.backup_count
 
 -- the coordinator is so
 abbrev pub with_coordinator : World → Coordinator → World

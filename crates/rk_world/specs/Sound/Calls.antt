@@ -17,7 +17,7 @@ use Rattle.rk_message.specs.declared.message.Message.{Message}
 use Rattle.rk_world.specs.Ranges.{has_key}
 use Rattle.rk_world.specs.Ends.{told, outcome_of}
 use Rattle.rk_world.specs.Material.{of_key}
-use Rattle.rk_world.specs.Base.{Base}
+use Rattle.rk_world.specs.Base.{Base, ends_told}
 use Rattle.rk_world.specs.Tablet.{Tablet}
 use Rattle.rk_world.specs.Coordinator.{Handed}
 use Rattle.rk_world.specs.Sound.Posts.{post_of, speaks, StillCounts}
@@ -64,7 +64,7 @@ pub record IsRecorded (journal : List Placed) (end : Ended) : Type 0 where
 
 -- an end is that of a record, or one that was there at the start
 abbrev pub IsKnown : Base → List Placed → Ended → Type 0
-IsKnown base journal end = IsRecorded journal end ⊎ Contains base.ends end
+IsKnown base journal end = IsRecorded journal end ⊎ Contains (ends_told base) end
 
 -- an end that stands behind the truth of a row that this master rebuilds, at the row's term
 pub record IsStagedEnd (rows : List Row) (rests : Row → List Entry) (master tablet term : ℕ) (end : Ended) : Type 0 where

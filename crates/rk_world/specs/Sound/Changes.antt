@@ -149,6 +149,6 @@ pub record MayBeRead (base : Base) (rows : List Row) (tablets : ℕ → Tablet) 
   pub allowed : Allowed (map_after (base_map base) journal call.table call.key) call.op outcome
 
 -- the next entry of a living master's log may be applied where every backup is known to hold it
-pub record MayCommit (log : Log) (written : Written) (live : Bool) : Type 0 where
+pub record MayApply (log : Log) (written : Written) (live : Bool) : Type 0 where
   pub lives : live ≡ true
   pub held : written.applied < committed log

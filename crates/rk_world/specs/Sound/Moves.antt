@@ -38,7 +38,7 @@ use Rattle.rk_world.specs.Master.{touches}
 use Rattle.rk_world.specs.Handovers.{is_above}
 use Rattle.rk_world.specs.Coordinator.{Handed}
 use Rattle.rk_world.specs.Written.{Written, applied_entries, member_truth}
-use Rattle.rk_world.specs.Sound.Nodes.{IsMaster}
+use Rattle.rk_world.specs.Premises.{IsMaster}
 use Rattle.rk_world.specs.Sound.Cover.{IsWithinRows}
 use Rattle.rk_world.specs.Sound.Posts.{InvitedTarget, post_of}
 use Rattle.rk_world.specs.Sound.Receives.{scan_items, IsOutdone, IsFound, entries_from, copied_items}

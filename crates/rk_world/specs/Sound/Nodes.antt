@@ -4,11 +4,7 @@ use Rattle.std.specs.Prelude.{◌≡◌, ◌≤◌, ℕ, Bool, true, false, List
 use Rattle.rk_tablet_map.specs.declared.row.Row.{Row}
 use Rattle.rk_world.specs.Master.{Master}
 use Rattle.rk_world.specs.Notices.{names}
-
--- the masters of a lane are numbered from 1
-pub record IsMaster (count number : ℕ) : Type 0 where
-  pub first : 1 ≤ number
-  pub last : number ≤ count
+use Rattle.rk_world.specs.Premises.{IsMaster}
 
 -- a master of the lane lives
 pub record SomeLives (count : ℕ) (live : ℕ → Bool) : Type 0 where

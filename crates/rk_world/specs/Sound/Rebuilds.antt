@@ -73,15 +73,15 @@ AreGathered known stored members =
 -- the piece of the log that a rebuild made, from the place on where its own entries count: the copies and then the entry that
 -- closes it. It bears the only mark of the tablet there, and nothing of the range stands behind it
 pub record IsPieceOf (number from : ℕ) (tablet : Tablet) (written : Written) (entry : ℕ) : Type 0 where
-  pub first : ℕ
-  pub behind : from ≤ first
-  pub marked :
-      Contains written.marks (record { first = first; past = suc entry; tablet = number; term = tablet.handover.term })
-  pub alone :
-      All (λ mark. mark.tablet ≡ number
-      → mark ≡ record { first = first; past = suc entry; tablet = number; term = tablet.handover.term }) written.marks
+  pub mark : Mark
+  pub marked : Contains written.marks mark
+  pub past_is : mark.past ≡ suc entry
+  pub tablet_is : mark.tablet ≡ number
+  pub term_is : mark.term ≡ tablet.handover.term
+  pub behind : from ≤ mark.first
+  pub alone : All (λ other. other.tablet ≡ number → other ≡ mark) written.marks
   pub stands :
-      take (suc entry - first) (drop first written.entries)
+      take (suc entry - mark.first) (drop mark.first written.entries)
       ≡ as_entries tablet.merged.copies ++ rebuilt_entry tablet tablet.merged ∷ []
   pub last : list_any (touches tablet.handover.range) (drop (suc entry) written.entries) ≡ false
 

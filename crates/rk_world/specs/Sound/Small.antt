@@ -1,13 +1,12 @@
 -- Small changes of the world that the first laws are about, and their conditions there.
 use Rattle.std.specs.Prelude.{ℕ, List, Option}
 use Rattle.rk_types.specs.declared.call.Call.{Call}
-use Rattle.rk_entry.specs.declared.entry.Entry.TheVariants as entries
 use Rattle.rk_transfer.specs.declared.role.Role.TheVariants as roles
 use Rattle.rk_message.specs.Wire.{without_message, with_message}
 use Rattle.rk_message.specs.declared.message.Message.{Message}
 use Rattle.rk_world.specs.Tablet.{Tablet, with_handover}
-use Rattle.rk_world.specs.Master.{Master, tablet_at, with_tablet}
-use Rattle.rk_world.specs.Requests.{item_of, counted_up, with_staged}
+use Rattle.rk_world.specs.Master.{with_tablet}
+use Rattle.rk_world.specs.Requests.{write_staged}
 use Rattle.rk_world.specs.Ledger.{asked_by, with_client, with_request}
 use Rattle.rk_world.specs.Written.{truth_of, rest_of}
 use Rattle.rk_world.specs.World.{World, master_at, backup_at, lives, log_in, tablet_in, written_in, with_master, with_ledger, with_wire}
@@ -44,16 +43,9 @@ request_saved w client message = with_ledger w (with_request w.ledger client mes
 abbrev pub MaySave : World → ℕ → Message → Type 0
 MaySave w client message = MayBeSentAgain (asked_by w.ledger) w.ledger.journal client message
 
--- a write or a removal is staged at a master, for the tablet of this number, whose counter rises
-abbrev pub write_staged : Master → ℕ → Call → Option (List ℕ) → Master
-write_staged master number call value =
-    with_tablet
-    (with_staged master call (entries.Held (item_of call (tablet_at master number).handover.counter value)))
-    number (counted_up (tablet_at master number))
-
 -- a write or a removal is staged at a master of the world
-abbrev pub call_staged : World → ℕ → ℕ → Call → Option (List ℕ) → World
-call_staged w master number call value = with_master w master (write_staged (master_at w master) number call value)
+abbrev pub write_staged_in : World → ℕ → ℕ → Call → Option (List ℕ) → World
+write_staged_in w master number call value = with_master w master (write_staged (master_at w master) number call value)
 
 -- a write or a removal may be staged in this world
 abbrev pub MayStage : World → ℕ → Call → Option (List ℕ) → Type 0
@@ -66,8 +58,8 @@ abbrev pub as_frozen : Tablet → Tablet
 as_frozen tablet = with_handover tablet (record tablet.handover { role = roles.Frozen })
 
 -- a tablet freezes at a master of the world
-abbrev pub tablet_frozen : World → ℕ → ℕ → World
-tablet_frozen w master number =
+abbrev pub tablet_frozen_in : World → ℕ → ℕ → World
+tablet_frozen_in w master number =
     with_master w master (with_tablet (master_at w master) number (as_frozen (tablet_in w master number)))
 
 -- a tablet may freeze in this world

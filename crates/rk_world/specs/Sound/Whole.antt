@@ -1,5 +1,5 @@
 -- The whole invariant: each part, of the data of a world that it names.
-use Rattle.std.specs.Prelude.{List, length}
+use Rattle.std.specs.Prelude.{List}
 use Rattle.rk_entry.specs.declared.entry.Entry.{Entry}
 use Rattle.rk_tablet_map.specs.declared.row.Row.{Row}
 use Rattle.rk_world.specs.Ledger.{asked_by}
@@ -30,7 +30,7 @@ rest_in w row = rest_of (written_in w) row
 -- a lane is sound: each part holds of its data
 pub record IsSound (w : World) : Type 0 where
   pub nodes :
-      Nodes (master_at w) w.coordinator.masters (length w.backups) w.coordinator.rows w.coordinator.noticed (lives w)
+      Nodes (master_at w) w.coordinator.masters w.backup_count w.coordinator.rows w.coordinator.noticed (lives w)
   pub rows : Rows w.coordinator.rows (written_in w) w.ledger.journal
   pub terms : Terms w.coordinator.rows (tablet_in w) w.wire.messages
   pub cover : Cover w.coordinator.rows (written_in w) (tablet_in w) (records_in w) w.wire.messages
