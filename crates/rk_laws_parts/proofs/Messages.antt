@@ -36,7 +36,6 @@ use Rattle.rk_message.specs.declared.pulling.Pulled.{Pulled}
 use Rattle.rk_message.specs.declared.rebuilding.CopySegment.{CopySegment}
 use Rattle.rk_message.specs.declared.rebuilding.Rebuild.{Rebuild}
 use Rattle.rk_message.specs.declared.rebuilding.Rebuilt.{Rebuilt}
-use Rattle.rk_world.specs.declared.work.Merged.{Merged}
 use Rattle.rk_world.specs.Material.{as_entries}
 use Rattle.rk_world.specs.Tablet.{Tablet}
 use Rattle.rk_world.specs.Coordinator.{Handed}
@@ -143,7 +142,7 @@ rebuilt_looks (Rebuilding lineage to) old new applied applied' term master rebui
   says.0,
   looks.term ∙ says.1,
   looks.role.rebuilt applied' rebuilt.place (rw same says.2),
-  says.3 ∙ ap (λ (merged : Merged). merged.ends) (sym looks.merged),
+  says.3 ∙ sym looks.merged,
 )
 rebuilt_looks phase old new applied applied' term master rebuilt looks same says = says
 

@@ -17,6 +17,7 @@ use Rattle.rk_transfer.specs.Handover.{is_serving}
 use Rattle.rk_transfer.specs.declared.role.Role.{Role}
 use Rattle.rk_transfer.specs.declared.role.Role.TheVariants as roles
 use Rattle.rk_tablet_map.specs.declared.row.Row.{Row}
+use Rattle.rk_world.specs.declared.work.Merged.{Merged}
 use Rattle.rk_world.specs.Ranges.{has_key}
 use Rattle.rk_world.specs.Ends.{items_of}
 use Rattle.rk_world.specs.Marks.{Mark, is_marked, unmarked_from}
@@ -57,8 +58,8 @@ piece_push first past xs ys within =
     (cases_lt (length xs) first)
 
 -- the piece of a rebuild stands where it did, and still nothing of its range stands behind it
-piece_staged : (number from : ℕ) (tablet : Tablet) (w : Written) (item : Held) (entry : ℕ) → All (λ mark. mark.past ≤ length w.entries) w.marks → has_key tablet.handover.range item.table item.key ≡ false → IsPieceOf number from tablet w entry → IsPieceOf number from tablet (with_one_more w (entries.Held item)) entry
-piece_staged number from tablet w item entry marked outside piece =
+piece_staged : (number from : ℕ) (tablet : Tablet) (merged : Merged) (w : Written) (item : Held) (entry : ℕ) → All (λ mark. mark.past ≤ length w.entries) w.marks → has_key tablet.handover.range item.table item.key ≡ false → IsPieceOf number from tablet merged w entry → IsPieceOf number from tablet merged (with_one_more w (entries.Held item)) entry
+piece_staged number from tablet merged w item entry marked outside piece =
     let inside : piece.mark.past ≤ length w.entries = All-contains (λ (mark : Mark). mark.past ≤ length w.entries) w.marks piece.mark marked piece.marked in
     let within : suc entry ≤ length w.entries = omega (arith, inside, piece.past_is) in
     record {
@@ -77,9 +78,10 @@ piece_staged number from tablet w item entry marked outside piece =
 merged_staged : (number from : ℕ) (own : List Entry) (tablet : Tablet) (w : Written) (item : Held) (entry : ℕ) → All (λ mark. mark.past ≤ length w.entries) w.marks → has_key tablet.handover.range item.table item.key ≡ false → IsMergedOf number from own tablet w entry → IsMergedOf number from own tablet (with_one_more w (entries.Held item)) entry
 merged_staged number from own tablet w item entry marked outside merged = record {
   gathered_all = merged.gathered_all;
-  members = merged.members;
   merged = merged.merged;
-  piece = piece_staged number from tablet w item entry marked outside merged.piece;
+  merged_is = merged.merged_is;
+  ends_are = merged.ends_are;
+  piece = piece_staged number from tablet merged.merged w item entry marked outside merged.piece;
   counter = merged.counter;
   completions = merged.completions;
 }

@@ -36,7 +36,7 @@ pub record LooksAs (old new : Tablet) : Type 0 where
   pub term : new.handover.term ≡ old.handover.term
   pub range : new.handover.range ≡ old.handover.range
   pub role : GoesOn old.handover.role new.handover.role
-  pub merged : new.merged ≡ old.merged
+  pub merged : new.merged_ends ≡ old.merged_ends
   pub counter : old.handover.role ≡ roles.Frozen → new.handover.counter ≡ old.handover.counter
   pub completions : old.handover.role ≡ roles.Frozen → new.completions ≡ old.completions
 

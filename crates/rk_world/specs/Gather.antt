@@ -8,16 +8,15 @@ use Rattle.rk_types.specs.declared.range.Range.{Range}
 use Rattle.rk_outside.specs.Segments.{bytes_of}
 use Rattle.rk_entry.specs.Entries.{entries_of}
 use Rattle.rk_entry.specs.declared.entry.Entry.{Entry}
-use Rattle.rk_log.specs.Stored.{spelled_in}
 use Rattle.rk_world.specs.declared.work.Reading.{Reading}
 use Rattle.rk_world.specs.Material.{material_of, named}
 
 -- what was read of a member of a lineage: its main segments, whether the last one was passed, and its side segments
 pub record Gathered : Type 0 where
   pub member : Member
-  pub main : List (List ℕ)
+  pub main : List (List Entry)
   pub main_read : Bool
-  pub sides : NumberMap (List ℕ)
+  pub sides : NumberMap (List Entry)
 
 -- a rebuild that gathers for a range: the rebuilding master, the lineage, and what was read of each
 -- member but that master itself
@@ -46,11 +45,11 @@ no_gather = gather_begun (record { table = 0; first = 0; last = 0 }) [] 0
 
 -- the entries of a member from its place on, each segment up to the first place where no whole entry stands
 abbrev pub main_entries : Gathered → List Entry
-main_entries gathered = drop gathered.member.from (spelled_in gathered.main)
+main_entries gathered = drop gathered.member.from (flat_map (λ entries. entries) gathered.main)
 
 -- the entries of a side segment that was read
 abbrev pub side_read : Gathered → ℕ → List Entry
-side_read gathered segment = entries_of (get_or [] gathered.sides segment)
+side_read gathered segment = get_or [] gathered.sides segment
 
 -- the side segment that is read next: the first one that the main entries name and that was not read
 abbrev pub next_side : Range → Gathered → Option ℕ
@@ -89,7 +88,7 @@ LAST_MAIN_SEGMENT = 2147483648
 abbrev pub with_main : Gathered → Option (List ℕ) → Gathered
 with_main gathered None = record gathered { main_read = true }
 with_main gathered (Some bytes) = record gathered {
-  main = gathered.main ++ bytes ∷ [];
+  main = gathered.main ++ entries_of bytes ∷ [];
   main_read = length gathered.main + 1 == LAST_MAIN_SEGMENT;
 }
 
@@ -97,7 +96,7 @@ with_main gathered (Some bytes) = record gathered {
 abbrev pub with_segment : Gathered → ℕ → Option (List ℕ) → Gathered
 with_segment gathered segment bytes =
     if gathered.main_read
-    then record gathered { sides = insert gathered.sides segment (bytes_of bytes) }
+    then record gathered { sides = insert gathered.sides segment (entries_of (bytes_of bytes)) }
     else with_main gathered bytes
 
 -- a segment of a master was read, among these members

@@ -82,7 +82,7 @@ abbrev pub rebuilt_duty : Master → ℕ → Tablet → ℕ → ℕ → Worked
 rebuilt_duty master number tablet from entry =
     if nat_lt entry master.applied
     then sending master (from_master master nodes.Coordinator
-    (bodies.Rebuilt (record { tenure = tenure_at number tablet; place = from; ends = tablet.merged.ends })))
+    (bodies.Rebuilt (record { tenure = tenure_at number tablet; place = from; ends = tablet.merged_ends })))
     else changed master
 
 -- a rebuilding master reads the next segment from backup 1

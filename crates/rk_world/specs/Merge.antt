@@ -12,10 +12,6 @@ use Rattle.rk_overlay.specs.Overlay.{newest_items}
 use Rattle.rk_world.specs.declared.work.Merged.{Merged}
 use Rattle.rk_world.specs.Ends.{told, items_of}
 
--- nothing was merged
-abbrev pub no_merge : Merged
-no_merge = record { copies = []; floor = 1; ends = [] }
-
 -- whether an item of a key and version stands among these
 abbrev pub has_version : List Held → Held → Bool
 has_version items item =

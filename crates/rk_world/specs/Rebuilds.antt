@@ -17,7 +17,7 @@ use Rattle.rk_world.specs.Marks.{Mark}
 use Rattle.rk_world.specs.Material.{material_of, side_entries, as_entries}
 use Rattle.rk_world.specs.Lineage.{own_member}
 use Rattle.rk_world.specs.Gather.{by_member, gather_begun, gathering, is_awaited, next_reading}
-use Rattle.rk_world.specs.Merge.{merge, no_merge}
+use Rattle.rk_world.specs.Merge.{merge}
 use Rattle.rk_world.specs.Tablet.{Tablet, pulling_from}
 use Rattle.rk_world.specs.RoleTests.{is_gathering}
 use Rattle.rk_world.specs.Master.{Master, tablet_at, with_tablet, with_appended, with_all, without_items}
@@ -44,20 +44,19 @@ rebuilt_entry tablet merged = entries.Carried (record {
   ends = ends_of (completions_from [] merged.ends);
 })
 
--- a tablet goes on with what was merged of these entries, member by member
-abbrev pub with_merged : Tablet → List (List Entry) → Merged → Handover → Tablet
-with_merged tablet members merged handover = record tablet {
+-- a tablet goes on with what was merged
+abbrev pub with_merged : Tablet → Merged → Handover → Tablet
+with_merged tablet merged handover = record tablet {
   handover = handover;
   completions = completions_from [] merged.ends;
-  merged = merged;
-  merged_of = members;
+  merged_ends = merged.ends;
 }
 
 -- what was gathered is merged: the copies and the entry that closes the rebuild are appended
-abbrev pub rebuild_merged : Master → ℕ → Tablet → List (List Entry) → Merged → Handover → Master
-rebuild_merged master number tablet members merged handover =
+abbrev pub rebuild_merged : Master → ℕ → Tablet → Merged → Handover → Master
+rebuild_merged master number tablet merged handover =
     with_tablet (with_appended (with_all master (as_entries merged.copies)) (rebuilt_entry tablet merged)) number
-    (with_merged tablet members merged handover)
+    (with_merged tablet merged handover)
 
 -- the piece of the log that a merge makes
 abbrev pub piece_of : Master → ℕ → Merged → Handover → Mark
@@ -70,20 +69,20 @@ piece_of master number merged handover = record {
 }
 
 -- what was gathered is merged, where that move applies, as one piece of the log
-abbrev pub merging : Master → ℕ → Tablet → List (List Entry) → Merged → Option Handover → Worked
-merging master number tablet members merged None = changed master
-merging master number tablet members merged (Some handover) = record {
-  master = rebuild_merged master number tablet members merged handover;
+abbrev pub merging : Master → ℕ → Tablet → Merged → Option Handover → Worked
+merging master number tablet merged None = changed master
+merging master number tablet merged (Some handover) = record {
+  master = rebuild_merged master number tablet merged handover;
   sends = [];
   served = [];
   marked = piece_of master number merged handover ∷ [];
 }
 
 -- all is gathered, and merged: the copies and the entry that closes the rebuild are appended
-abbrev pub merged_at : Master → ℕ → Tablet → List (List Entry) → Merged → Worked
-merged_at master number tablet members merged =
+abbrev pub merged_at : Master → ℕ → Tablet → Merged → Worked
+merged_at master number tablet merged =
     let place = length (with_all master (as_entries merged.copies)).log.entries in
-    merging master number tablet members merged (carried tablet.handover tablet.handover.term place merged.floor)
+    merging master number tablet merged (carried tablet.handover tablet.handover.term place merged.floor)
 
 -- a rebuild goes on: it gathers while there is a segment to read, and then merges
 abbrev pub rebuilding_on : Master → ℕ → Option Reading → Worked
@@ -91,7 +90,7 @@ rebuilding_on master number (Some reading) = changed master
 rebuilding_on master number None =
     let tablet = tablet_at master number in
     let members = by_member tablet.gather (own_material master tablet) in
-    merged_at master number tablet members (merge (own_material master tablet) members)
+    merged_at master number tablet (merge (own_material master tablet) members)
 
 -- a rebuild goes on by what it has gathered
 abbrev pub rebuild_goes_on : Master → ℕ → Worked
@@ -117,8 +116,7 @@ with_begun master rebuild (Some handover) =
       handover = handover;
       pulling = pulling_from tablet.pulling.source;
       gather = gather_begun rebuild.range rebuild.lineage master.number;
-      merged = no_merge;
-      merged_of = [];
+      merged_ends = [];
     })
 
 -- a rebuild begins

@@ -1,16 +1,14 @@
 -- What a master has of a tablet.
 use Rattle.std.specs.Prelude.{ℕ, List, [], ◌∷◌}
+use Rattle.rk_types.specs.declared.call.Ended.{Ended}
 use Rattle.rk_types.specs.declared.held.Held.{Held}
 use Rattle.rk_types.specs.declared.held.Token.{Token}
-use Rattle.rk_entry.specs.declared.entry.Entry.{Entry}
 use Rattle.rk_table.specs.Scans.{first}
 use Rattle.rk_done.specs.Completions.{Completions}
 use Rattle.rk_transfer.specs.declared.handover.Handover.{Handover}
 use Rattle.rk_transfer.specs.declared.role.Role.TheVariants as roles
 use Rattle.rk_priority.specs.Hashes.{Hashes, no_hashes}
-use Rattle.rk_world.specs.declared.work.Merged.{Merged}
 use Rattle.rk_world.specs.Gather.{Gather, no_gather}
-use Rattle.rk_world.specs.Merge.{no_merge}
 
 -- what a target has while it pulls: whom it pulls from, the token that it has come to, how many batches it took, the
 -- hashes that it wants first, and what was pulled: for each of four workers the items that are not sealed, and then the
@@ -35,14 +33,13 @@ pulling_from source = record {
 }
 
 -- what a master has of a tablet: its role, term, range and counter; the last end of each client; what it pulls; what
--- it gathers for a rebuild, what it merged, and of which entries, member by member
+-- it gathers for a rebuild, and the ends that it merged
 pub record Tablet : Type 0 where
   pub handover : Handover
   pub completions : Completions
   pub pulling : Pulling
   pub gather : Gather
-  pub merged : Merged
-  pub merged_of : List (List Entry)
+  pub merged_ends : List Ended
 
 -- a tablet that a master does not know
 abbrev pub no_tablet : Tablet
@@ -51,8 +48,7 @@ no_tablet = record {
   completions = [];
   pulling = pulling_from 0;
   gather = no_gather;
-  merged = no_merge;
-  merged_of = [];
+  merged_ends = [];
 }
 
 -- the tablet with another handover
@@ -61,7 +57,7 @@ with_handover tablet handover = record tablet { handover = handover }
 
 -- the tablet with nothing gathered or merged
 abbrev pub without_merged : Tablet → Tablet
-without_merged tablet = record tablet { gather = no_gather; merged = no_merge; merged_of = [] }
+without_merged tablet = record tablet { gather = no_gather; merged_ends = [] }
 
 -- the tablet with nothing pulled
 abbrev pub without_pulled : Tablet → Tablet

@@ -195,7 +195,7 @@ HasRebuilt role applied place = ⊥
 abbrev pub RebuiltIn : Phase → Tablet → ℕ → ℕ → ℕ → Rebuilt → Type 0
 RebuiltIn (Rebuilding lineage to) tablet applied term master rebuilt =
     (to ≡ master) × (tablet.handover.term ≡ term) × HasRebuilt tablet.handover.role applied rebuilt.place
-    × (rebuilt.ends ≡ tablet.merged.ends)
+    × (rebuilt.ends ≡ tablet.merged_ends)
 RebuiltIn (Owned owner from) tablet applied term master rebuilt = (owner ≡ master) × (from ≡ rebuilt.place)
 RebuiltIn phase tablet applied term master rebuilt = ⊥
 

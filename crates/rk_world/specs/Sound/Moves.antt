@@ -234,7 +234,7 @@ pub record MayBeRebuilt (row : Row) (tablet : Tablet) (written : Written) (linea
   pub phase_is : row.phase ≡ Rebuilding lineage to
   pub term_is : tablet.handover.term ≡ row.term
   pub rebuilt : HasRebuilt tablet.handover.role written.applied place
-  pub ends_are : ends ≡ tablet.merged.ends
+  pub ends_are : ends ≡ tablet.merged_ends
 
 -- a master may be noticed once it has crashed
 pub record MayBeNoticed (count : ℕ) (live : ℕ → Bool) (master : ℕ) : Type 0 where

@@ -8,6 +8,7 @@ use Rattle.rk_types.specs.declared.held.Held.{Held}
 use Rattle.rk_types.specs.declared.lineage.Member.{Member}
 use Rattle.rk_types.specs.declared.range.Range.{Range}
 use Rattle.rk_outside.specs.Segments.{Segments}
+use Rattle.rk_entry.specs.Entries.{entries_of}
 use Rattle.rk_entry.specs.declared.entry.Entry.{Entry}
 use Rattle.rk_entry.specs.declared.entry.Entry.TheVariants as entries
 use Rattle.rk_log.specs.Cut.{ends}
@@ -21,6 +22,7 @@ use Rattle.rk_tablet_map.specs.Phase.{lineage_of, member as member_at}
 use Rattle.rk_tablet_map.specs.declared.phase.Phase.{Phase}
 use Rattle.rk_tablet_map.specs.declared.phase.Phase.TheVariants.{Rebuilding}
 use Rattle.rk_tablet_map.specs.declared.row.Row.{Row}
+use Rattle.rk_world.specs.declared.work.Merged.{Merged}
 use Rattle.rk_world.specs.Ends.{told, items_of}
 use Rattle.rk_world.specs.Marks.{Mark, is_marked, unmarked_from}
 use Rattle.rk_world.specs.Material.{counting, side_entries, material_of, as_entries, named}
@@ -45,16 +47,22 @@ pub record IsReadPart (known : Known) (stored : ℕ → List ℕ) (segment : ℕ
   pub front : IsFirstPart bytes (stored segment)
   pub enough : known_length known segment ≤ length bytes
 
+-- what was read of a segment spells these entries
+pub record AreRead (known : Known) (stored : ℕ → List ℕ) (segment : ℕ) (entries : List Entry) : Type 0 where
+  pub bytes : List ℕ
+  pub read : IsReadPart known stored segment bytes
+  pub spelled : entries ≡ entries_of bytes
+
 -- what is gathered of a member: its main segments from the first one on, and side segments
 pub record IsGathered (known : Known) (stored : ℕ → List ℕ) (gathered : Gathered) : Type 0 where
   pub main :
       (place : ℕ) → place < length gathered.main
-      → IsReadPart known stored (place + 1) (slice_index_or gathered.main place [])
+      → AreRead known stored (place + 1) (slice_index_or gathered.main place [])
   -- once the main segments are passed, nothing was known to be stored behind them
   pub passed :
       gathered.main_read ≡ true → (segment : ℕ) → length gathered.main < segment → is_main segment ≡ true
       → known_length known segment ≡ 0
-  pub sides : EachIn (λ segment bytes. IsReadPart known stored segment bytes) gathered.sides
+  pub sides : EachIn (λ segment entries. AreRead known stored segment entries) gathered.sides
 
 -- the gather is that of a row, by this master
 pub record IsGatherOf (gather : Gather) (range : Range) (lineage : List Member) (own : ℕ) : Type 0 where
@@ -72,7 +80,7 @@ AreGathered known stored members =
 
 -- the piece of the log that a rebuild made, from the place on where its own entries count: the copies and then the entry that
 -- closes it. It bears the only mark of the tablet there, and nothing of the range stands behind it
-pub record IsPieceOf (number from : ℕ) (tablet : Tablet) (written : Written) (entry : ℕ) : Type 0 where
+pub record IsPieceOf (number from : ℕ) (tablet : Tablet) (merged : Merged) (written : Written) (entry : ℕ) : Type 0 where
   pub mark : Mark
   pub marked : Contains written.marks mark
   pub past_is : mark.past ≡ suc entry
@@ -82,18 +90,19 @@ pub record IsPieceOf (number from : ℕ) (tablet : Tablet) (written : Written) (
   pub alone : All (λ other. other.tablet ≡ number → other ≡ mark) written.marks
   pub stands :
       take (suc entry - mark.first) (drop mark.first written.entries)
-      ≡ as_entries tablet.merged.copies ++ rebuilt_entry tablet tablet.merged ∷ []
+      ≡ as_entries merged.copies ++ rebuilt_entry tablet merged ∷ []
   pub last : list_any (touches tablet.handover.range) (drop (suc entry) written.entries) ≡ false
 
 -- what a master merged of a tablet is all that was gathered, member by member, where `own` is what counts of its own unmarked
 -- entries; the tablet's counter and last ends are those of the merge
 pub record IsMergedOf (number from : ℕ) (own : List Entry) (tablet : Tablet) (written : Written) (entry : ℕ) : Type 0 where
   pub gathered_all : next_reading tablet.gather ≡ None
-  pub members : tablet.merged_of ≡ by_member tablet.gather own
-  pub merged : tablet.merged ≡ merge own tablet.merged_of
-  pub piece : IsPieceOf number from tablet written entry
-  pub counter : tablet.handover.counter ≡ tablet.merged.floor
-  pub completions : tablet.completions ≡ completions_from [] tablet.merged.ends
+  pub merged : Merged
+  pub merged_is : merged ≡ merge own (by_member tablet.gather own)
+  pub ends_are : tablet.merged_ends ≡ merged.ends
+  pub piece : IsPieceOf number from tablet merged written entry
+  pub counter : tablet.handover.counter ≡ merged.floor
+  pub completions : tablet.completions ≡ completions_from [] merged.ends
 
 -- ---- the master that rebuilds
 
