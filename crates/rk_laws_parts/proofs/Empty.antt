@@ -43,7 +43,7 @@ not_absent tablet is apart =
     let e : true ≡ false = sym (ap (λ (t : Tablet). is_absent t.handover.role) is) ∙ apart in absurd (cc)
 
 -- no items are in order
-in_order_none : IsInScanOrder []
+pub in_order_none : IsInScanOrder []
 unfolding IsStrictlySortedBy
 in_order_none = tt
 
@@ -56,7 +56,7 @@ length_with : {X : Type 0} (thing : ℕ → X) (numbers : List ℕ) → length {
 length_with {X} thing [] = refl
 length_with {X} thing (n ∷ numbers) = ap (λ (k : ℕ). suc k) (length_with thing numbers)
 
-length_replicated : {X : Type 0} (count : ℕ) (thing : X) → length (replicate count thing) ≡ count
+pub length_replicated : {X : Type 0} (count : ℕ) (thing : X) → length (replicate count thing) ≡ count
 length_replicated zero thing = refl
 length_replicated (suc count) thing = ap (λ (k : ℕ). suc k) (length_replicated count thing)
 

@@ -4,6 +4,7 @@ pub mod Differs
 pub mod Lists
 pub mod Fresh
 pub mod Empty
+pub mod Formed
 pub mod Shares
 pub mod WorldFrozen
 pub mod Apart

@@ -7,6 +7,12 @@ ghost use Rattle.rk_tablet_map.specs.declared.row.Row.{Row};
 ghost use Rattle.rk_transfer.specs.Handover.{is_serving};
 ghost use Rattle.rk_types.specs.declared.call.Call.{Call};
 ghost use Rattle.rk_types.specs.Range.{meets};
+ghost use Rattle.rk_log.specs.declared.copied.TheConstants.{MOST_BACKUPS};
+ghost use Rattle.rk_world.specs.declared.event.Event.TheVariants as events;
+ghost use Rattle.rk_world.specs.Backup.{Called};
+ghost use Rattle.rk_world.specs.Formed.{IsWellFormed};
+ghost use Rattle.rk_world.specs.Premises.{MayHappen};
+ghost use Rattle.rk_world.specs.Step.{happened};
 ghost use Rattle.rk_world.specs.Sound.Logs.{stored_of};
 ghost use Rattle.rk_world.specs.Sound.Small.{MayComeTo, MayFreeze, MaySave, MaySend, MayStage, write_staged_in, client_come, message_forgotten, message_sent, request_saved, tablet_frozen_in};
 ghost use Rattle.rk_world.specs.Sound.Whole.{IsSound};
@@ -50,4 +56,22 @@ pub fn what_is_applied_is_stored()
         → IsSound w → IsBackup (log_in w master) backup → place < (written_in w master).applied
         → IfSome (slice_get (ends (written_in w master).entries) place)
         (λ end. end.offset ≤ length (stored_of (backup_at w) master backup end.segment)) }
+{}
+
+/// A lane where nothing has happened is well formed, with any number of masters and one to four backups.
+pub fn new_lanes_are_well_formed()
+    ensures new { (lane masters backups : ℕ)
+        → 1 ≤ backups → backups ≤ MOST_BACKUPS → IsWellFormed (new_world lane masters backups) }
+{}
+
+/// A well formed lane stays so when a message is lost, when a client comes, and when a master stops.
+pub fn events_keep_lanes_well_formed()
+    ensures forgotten { (w : World) (number : ℕ) (called : Called)
+        → IsWellFormed w → IsWellFormed (happened w (events.Forget number) called).world }
+    ensures come { (w : World) (client : ℕ) (called : Called)
+        → MayHappen w (events.AddClient client) → IsWellFormed w
+        → IsWellFormed (happened w (events.AddClient client) called).world }
+    ensures crashed { (w : World) (master : ℕ) (called : Called)
+        → MayHappen w (events.Crash master) → IsWellFormed w
+        → IsWellFormed (happened w (events.Crash master) called).world }
 {}

@@ -35,6 +35,7 @@ pub mod Refusals
 pub mod Step
 pub mod Calls
 pub mod Premises
+pub mod Formed
 pub mod Runs
 pub mod Cluster
 pub mod Justified

@@ -1,0 +1,154 @@
+-- Well formed: a new lane is, and it stays so when a message is lost, a client comes, or a master stops.
+use Rattle.std.proofs.Common.{◌≡◌, ◌≤◌, ℕ, Bool, true, false, cond, List, [], ◌∷◌, replicate, None, Some, refl, sym, ap, subst, ◌∙◌, ⊎_elim, arith}
+use Rattle.std.specs.List.{range_with_len}
+use Rattle.std.proofs.lemmas.List.Elements.{All-nil, All-push, All-replicate}
+use Rattle.rk_types.proofs.NumberMaps.{each_insert, each_less, in_order_insert, in_order_remove, remove_less}
+use Rattle.rk_types.specs.NumberMap.{EachIn, IsInOrder, get, numbers, remove}
+use Rattle.rk_log.specs.Known.{nothing}
+use Rattle.rk_log.specs.declared.copied.TheConstants.{MOST_BACKUPS}
+use Rattle.rk_world.specs.declared.event.Event.TheVariants as events
+use Rattle.rk_world.specs.Master.{new_master}
+use Rattle.rk_world.specs.Backup.{Called}
+use Rattle.rk_world.specs.Ledger.{is_added, with_client}
+use Rattle.rk_world.specs.World.{World, new_world, new_masters, with_top, with_ledger}
+use Rattle.rk_world.specs.Step.{happened}
+use Rattle.rk_world.specs.Premises.{IsMaster, MayHappen}
+use Rattle.rk_world.specs.Formed.{IsWellFormed, IsFormedMaster}
+use Rattle.rk_laws_parts.proofs.Fresh.{with_numbers, found_numbered}
+use Rattle.rk_laws_parts.proofs.Empty.{in_order_none, length_replicated}
+
+-- the numbers of things that were numbered
+numbers_are : {X : Type 0} (thing : ℕ → X) (list : List ℕ) → numbers (with_numbers thing list) ≡ list
+numbers_are thing [] = refl
+numbers_are thing (number ∷ list) = ap (λ (rest : List ℕ). number ∷ rest) (numbers_are thing list)
+
+-- nothing stands in an empty map
+nothing_in_it : {X : Type 0} (Fits : ℕ → X → Type 0) → EachIn Fits []
+nothing_in_it Fits number thing found = absurd (cc found)
+
+-- a new master is well formed
+new_is_formed : (masters backups number : ℕ) → IsFormedMaster masters backups number (new_master number (replicate backups nothing))
+new_is_formed masters backups number = record {
+  number_is = refl;
+  known = length_replicated backups nothing;
+  lengths = All-replicate IsInOrder backups nothing tt;
+  entries = All-nil _;
+  sides = refl;
+  items = All-nil _;
+  records = All-nil _;
+  scanned = in_order_none;
+  applied = omega arith;
+  calls_order = tt;
+  calls = nothing_in_it _;
+  tablets_order = tt;
+  tablets = nothing_in_it _;
+}
+
+-- what is found among new masters is one of them
+each_new : (masters backups count : ℕ) → EachIn (IsFormedMaster masters backups) (new_masters count backups)
+each_new masters backups count number master found =
+    ⊎_elim
+    (λ (none : get (new_masters count backups) number ≡ None). absurd (cc (sym none ∙ found)))
+    (λ (some : get (new_masters count backups) number ≡ Some (new_master number (replicate backups nothing))).
+    let same : Some (new_master number (replicate backups nothing)) ≡ Some master = sym some ∙ found in
+    let master_is : new_master number (replicate backups nothing) ≡ master = cc same in
+    subst (IsFormedMaster masters backups number) master_is (new_is_formed masters backups number))
+    (found_numbered (λ n. new_master n (replicate backups nothing)) (range_with_len 1 count) number)
+
+-- a new lane is well formed, with at most four backups
+pub new_is_well_formed : (lane masters backups : ℕ) → 1 ≤ backups → backups ≤ MOST_BACKUPS → IsWellFormed (new_world lane masters backups)
+new_is_well_formed lane masters backups some few = record {
+  masters_are = numbers_are (λ number. new_master number (replicate backups nothing)) (range_with_len 1 masters);
+  backed = some;
+  few_backups = few;
+  masters = each_new masters backups masters;
+  coordinator = record {
+    rows = tt;
+    ranges = All-nil _;
+    named = λ master. All-nil _;
+    noticed = All-nil _;
+    handed_order = tt;
+    handed = nothing_in_it _;
+  };
+  ledger = record {
+    clients_order = tt;
+    clients = nothing_in_it _;
+    requests_order = tt;
+    requests = nothing_in_it _;
+  };
+  wire = record { order = tt; numbered = nothing_in_it _; each = nothing_in_it _ };
+  crashed = All-nil _;
+  base = All-nil _;
+}
+
+-- it stays so when a message is lost
+pub formed_forgotten : (w : World) (number : ℕ) (called : Called) → IsWellFormed w → IsWellFormed (happened w (events.Forget number) called).world
+formed_forgotten w number called formed = record {
+  masters_are = formed.masters_are;
+  backed = formed.backed;
+  few_backups = formed.few_backups;
+  masters = formed.masters;
+  coordinator = formed.coordinator;
+  ledger = formed.ledger;
+  wire = record {
+    order = in_order_remove w.wire.messages number formed.wire.order;
+    numbered = each_less _ (remove w.wire.messages number) w.wire.messages (remove_less w.wire.messages number) formed.wire.numbered;
+    each = each_less _ (remove w.wire.messages number) w.wire.messages (remove_less w.wire.messages number) formed.wire.each;
+  };
+  crashed = formed.crashed;
+  base = formed.base;
+}
+
+-- when a master stops
+pub formed_crashed : (w : World) (master : ℕ) (called : Called) → MayHappen w (events.Crash master) → IsWellFormed w → IsWellFormed (happened w (events.Crash master) called).world
+formed_crashed w master called there formed = record {
+  masters_are = formed.masters_are;
+  backed = formed.backed;
+  few_backups = formed.few_backups;
+  masters = formed.masters;
+  coordinator = formed.coordinator;
+  ledger = formed.ledger;
+  wire = formed.wire;
+  crashed = All-push (IsMaster w.coordinator.masters) w.crashed master formed.crashed there;
+  base = formed.base;
+}
+
+-- and when a client comes
+pub formed_come : (w : World) (client : ℕ) (called : Called) → MayHappen w (events.AddClient client) → IsWellFormed w → IsWellFormed (happened w (events.AddClient client) called).world
+formed_come w client called number formed =
+    go (is_added w.ledger client)
+  where
+    comes : IsWellFormed (with_top (with_ledger w (with_client w.ledger client)))
+    comes = record {
+      masters_are = formed.masters_are;
+      backed = formed.backed;
+      few_backups = formed.few_backups;
+      masters = formed.masters;
+      coordinator = formed.coordinator;
+      ledger = record {
+        clients_order = in_order_insert w.ledger.clients client None formed.ledger.clients_order;
+        clients = each_insert _ w.ledger.clients client None formed.ledger.clients (number, tt);
+        requests_order = formed.ledger.requests_order;
+        requests = formed.ledger.requests;
+      };
+      wire = formed.wire;
+      crashed = formed.crashed;
+      base = formed.base;
+    }
+
+    same : IsWellFormed (with_top w)
+    same = record {
+      masters_are = formed.masters_are;
+      backed = formed.backed;
+      few_backups = formed.few_backups;
+      masters = formed.masters;
+      coordinator = formed.coordinator;
+      ledger = formed.ledger;
+      wire = formed.wire;
+      crashed = formed.crashed;
+      base = formed.base;
+    }
+
+    go : (added : Bool) → IsWellFormed (with_top (cond added w (with_ledger w (with_client w.ledger client))))
+    go true = same
+    go false = comes

@@ -1,0 +1,11 @@
+use Rattle.rk_laws_parts.proofs.Formed.{formed_forgotten, formed_come, formed_crashed}
+use Rattle.rk_laws_parts.proofs.laws.events_keep_lanes_well_formed.Goals as goal
+
+pub returns-clause-forgotten : goal.returns-clause-forgotten
+returns-clause-forgotten c = formed_forgotten
+
+pub returns-clause-come : goal.returns-clause-come
+returns-clause-come c = formed_come
+
+pub returns-clause-crashed : goal.returns-clause-crashed
+returns-clause-crashed c = formed_crashed
