@@ -1,12 +1,12 @@
 -- Runs: what a list of events makes of a world, and which lists of events are calm.
-use Rattle.std.specs.Prelude.{◌≡◌, ℕ, ◌==◌, Bool, true, not, List, [], ◌∷◌, Result, Ok, Err, ⊤, IfSome}
-use Rattle.std.specs.List.{list_any}
+use Rattle.std.specs.Prelude.{◌≡◌, ℕ, ◌==◌, Bool, true, ◌&&◌, not, List, [], ◌∷◌, Result, Ok, Err, ⊤, IfSome}
+use Rattle.std.specs.List.{list_any, range_with_len}
 use Rattle.rk_world.specs.declared.error.StepError.{StepError}
 use Rattle.rk_world.specs.declared.event.Event.{Event}
 use Rattle.rk_world.specs.declared.event.Event.TheVariants as events
 use Rattle.rk_world.specs.Backup.{Called}
 use Rattle.rk_world.specs.Client.{Session}
-use Rattle.rk_world.specs.World.{World, live_masters}
+use Rattle.rk_world.specs.World.{World, lives}
 use Rattle.rk_world.specs.Step.{Stepped, step}
 use Rattle.rk_world.specs.Calls.{Visited, ask, accept}
 use Rattle.rk_world.specs.Premises.{MayAct, MayHappen, IsAfterStart}
@@ -39,9 +39,10 @@ abbrev pub run : World → List Happening → World
 run w [] = w
 run w (happening ∷ later) = run (after w happening) later
 
--- whether another master than this one lives
+-- whether another master of the lane than this one lives
 abbrev pub lives_another : World → ℕ → Bool
-lives_another w master = list_any (λ entry. not (entry.0 == master)) (live_masters w)
+lives_another w master =
+    list_any (λ other. lives w other && not (other == master)) (range_with_len 1 w.coordinator.masters)
 
 -- a crash comes only while another master lives
 abbrev pub IsCalmEvent : World → Event → Type 0

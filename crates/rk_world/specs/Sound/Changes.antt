@@ -89,9 +89,10 @@ pub record MayBeStored (log : Log) (known : Known) (stored : ℕ → List ℕ) (
   pub goes_on : IsFirstPart (stored segment ++ bytes) (bytes_of log segment)
   pub in_order : bytes ≢ [] → IsKnownBefore log known segment
 
--- a living master may believe that a backup stores so many bytes where it does
-pub record MayBeTold (stored : ℕ → List ℕ) (live : Bool) (segment size : ℕ) : Type 0 where
+-- a living master may believe that a backup of the lane stores so many bytes where it does
+pub record MayBeTold (log : Log) (stored : ℕ → List ℕ) (live : Bool) (backup segment size : ℕ) : Type 0 where
   pub lives : live ≡ true
+  pub there : IsBackup log backup
   pub is_stored : size ≤ length (stored segment)
 
 -- ---- calls

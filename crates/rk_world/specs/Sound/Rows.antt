@@ -11,9 +11,9 @@ use Rattle.rk_tablet_map.specs.declared.phase.Phase.TheVariants.{Owned, Opening,
 use Rattle.rk_tablet_map.specs.declared.row.Row.{Row}
 use Rattle.rk_world.specs.Written.{Written}
 
--- a lineage has at most two members, and two are different masters
+-- a lineage has one member, or two that are different masters
 abbrev pub AreApart : List Member → Type 0
-AreApart [] = ⊤
+AreApart [] = ⊥
 AreApart (member ∷ []) = ⊤
 AreApart (first ∷ last ∷ []) = first.master ≢ last.master
 AreApart (first ∷ second ∷ third ∷ more) = ⊥
