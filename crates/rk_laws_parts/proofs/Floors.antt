@@ -8,7 +8,6 @@ use Rattle.rk_entry.specs.declared.entry.Entry.TheVariants as entries
 use Rattle.rk_overlay.proofs.Members.{none_stands, stands_cases}
 use Rattle.rk_world.specs.Ends.{items_of}
 use Rattle.rk_world.specs.Merge.{floor_by, floor_of}
-use Rattle.rk_world.specs.Step.{step}
 
 -- a floor does not fall with an entry
 floor_step : (floor : ℕ) (entry : Entry) → floor ≤ floor_by floor entry

@@ -1,9 +1,11 @@
--- Well formed: a new lane is, and it stays so when a message is lost, a client comes, or a master stops.
-use Rattle.std.proofs.Common.{◌≡◌, ◌≤◌, ℕ, Bool, true, false, cond, List, [], ◌∷◌, replicate, None, Some, refl, sym, ap, subst, ◌∙◌, ⊎_elim, arith}
+-- Well formed: a new lane is, and it stays so when a message is lost, a client comes, a master stops, or a request is sent again.
+use Rattle.std.proofs.Common.{◌≡◌, ◌≤◌, ℕ, ◌+◌, Bool, true, false, cond, List, [], ◌∷◌, replicate, Option, None, Some, refl, sym, ap, subst, ◌∙◌, ⊎_elim, arith}
 use Rattle.std.specs.List.{range_with_len}
 use Rattle.std.proofs.lemmas.List.Elements.{All-nil, All-push, All-replicate}
-use Rattle.rk_types.proofs.NumberMaps.{each_insert, each_less, in_order_insert, in_order_remove, remove_less}
+use Rattle.rk_types.proofs.NumberMaps.{each_insert, each_less, each_weaker, in_order_insert, in_order_remove, remove_less}
 use Rattle.rk_types.specs.NumberMap.{EachIn, IsInOrder, get, numbers, remove}
+use Rattle.rk_message.specs.Wire.{Traffic, with_message}
+use Rattle.rk_message.specs.declared.message.Message.{Message}
 use Rattle.rk_log.specs.Known.{nothing}
 use Rattle.rk_log.specs.declared.copied.TheConstants.{MOST_BACKUPS}
 use Rattle.rk_world.specs.declared.event.Event.TheVariants as events
@@ -11,9 +13,9 @@ use Rattle.rk_world.specs.Master.{new_master}
 use Rattle.rk_world.specs.Backup.{Called}
 use Rattle.rk_world.specs.Ledger.{is_added, with_client}
 use Rattle.rk_world.specs.World.{World, new_world, new_masters, with_top, with_ledger}
-use Rattle.rk_world.specs.Step.{happened}
+use Rattle.rk_world.specs.Step.{happened, sent_again}
 use Rattle.rk_world.specs.Premises.{IsMaster, MayHappen}
-use Rattle.rk_world.specs.Formed.{IsWellFormed, IsFormedMaster}
+use Rattle.rk_world.specs.Formed.{IsWellFormed, IsFormedMaster, IsFormedMessage, IsFormedWire}
 use Rattle.rk_laws_parts.proofs.Fresh.{with_numbers, found_numbered}
 use Rattle.rk_laws_parts.proofs.Empty.{in_order_none, length_replicated}
 
@@ -81,6 +83,20 @@ new_is_well_formed lane masters backups some few = record {
   base = All-nil _;
 }
 
+-- the greatest number that stood in a lane does not matter
+topped : (w : World) → IsWellFormed w → IsWellFormed (with_top w)
+topped w formed = record {
+  masters_are = formed.masters_are;
+  backed = formed.backed;
+  few_backups = formed.few_backups;
+  masters = formed.masters;
+  coordinator = formed.coordinator;
+  ledger = formed.ledger;
+  wire = formed.wire;
+  crashed = formed.crashed;
+  base = formed.base;
+}
+
 -- it stays so when a message is lost
 pub formed_forgotten : (w : World) (number : ℕ) (called : Called) → IsWellFormed w → IsWellFormed (happened w (events.Forget number) called).world
 formed_forgotten w number called formed = record {
@@ -113,7 +129,7 @@ formed_crashed w master called there formed = record {
   base = formed.base;
 }
 
--- and when a client comes
+-- when a client comes
 pub formed_come : (w : World) (client : ℕ) (called : Called) → MayHappen w (events.AddClient client) → IsWellFormed w → IsWellFormed (happened w (events.AddClient client) called).world
 formed_come w client called number formed =
     go (is_added w.ledger client)
@@ -136,19 +152,47 @@ formed_come w client called number formed =
       base = formed.base;
     }
 
-    same : IsWellFormed (with_top w)
-    same = record {
+    go : (added : Bool) → IsWellFormed (with_top (cond added w (with_ledger w (with_client w.ledger client))))
+    go true = topped w formed
+    go false = comes
+
+-- a number that was given before another message was sent
+given_before : (n sent : ℕ) → (1 ≤ n) × (n ≤ sent) → (1 ≤ n) × (n ≤ sent + 1)
+given_before n sent (first, last) = (first, omega arith)
+
+-- the number that the next message gets
+given_now : (sent : ℕ) → (1 ≤ sent + 1) × (sent + 1 ≤ sent + 1)
+given_now sent = (omega arith, omega arith)
+
+-- the wire after another message that is well formed
+wire_sent : (masters backups : ℕ) (wire : Traffic) (message : Message) → IsFormedWire masters backups wire → IsFormedMessage masters backups message → IsFormedWire masters backups (with_message message wire)
+wire_sent masters backups wire message formed new = record {
+  order = in_order_insert wire.messages (wire.sent + 1) message formed.order;
+  numbered =
+      each_insert (λ n other. (1 ≤ n) × (n ≤ wire.sent + 1)) wire.messages (wire.sent + 1) message
+      (each_weaker (λ n other. (1 ≤ n) × (n ≤ wire.sent)) (λ n other. (1 ≤ n) × (n ≤ wire.sent + 1)) wire.messages
+      (λ n other given. given_before n wire.sent given) formed.numbered)
+      (given_now wire.sent);
+  each = each_insert (λ n other. IsFormedMessage masters backups other) wire.messages (wire.sent + 1) message formed.each new;
+}
+
+-- and when a client's last request is sent again
+pub formed_again : (w : World) (client : ℕ) (called : Called) → IsWellFormed w → IsWellFormed (happened w (events.Again client) called).world
+formed_again w client called formed =
+    go (get w.ledger.requests client) refl
+  where
+    go : (request : Option Message) → get w.ledger.requests client ≡ request → IsWellFormed (sent_again w request).world
+    go None found = topped w formed
+    go (Some message) found = record {
       masters_are = formed.masters_are;
       backed = formed.backed;
       few_backups = formed.few_backups;
       masters = formed.masters;
       coordinator = formed.coordinator;
       ledger = formed.ledger;
-      wire = formed.wire;
+      wire =
+          wire_sent w.coordinator.masters w.backup_count w.wire message formed.wire
+          (formed.ledger.requests client message found);
       crashed = formed.crashed;
       base = formed.base;
     }
-
-    go : (added : Bool) → IsWellFormed (with_top (cond added w (with_ledger w (with_client w.ledger client))))
-    go true = same
-    go false = comes

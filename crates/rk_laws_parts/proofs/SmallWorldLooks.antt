@@ -8,7 +8,6 @@ use Rattle.rk_types.proofs.NumberMaps.{each_insert}
 use Rattle.rk_types.specs.NumberMap.{EachIn, get}
 use Rattle.rk_outside.specs.Segments.{Segments}
 use Rattle.rk_tablet_map.specs.declared.row.Row.{Row}
-use Rattle.rk_message.specs.Wire.{silent}
 use Rattle.rk_message.specs.declared.message.Message.{Message}
 use Rattle.rk_world.specs.Tablet.{Tablet, no_tablet}
 use Rattle.rk_world.specs.Master.{Master, new_master, tablet_at}

@@ -25,7 +25,6 @@ use Rattle.rk_world.specs.Lineage.{last_of}
 use Rattle.rk_world.specs.Tablet.{Tablet}
 use Rattle.rk_world.specs.RoleTests.{is_idle, may_have_staged}
 use Rattle.rk_world.specs.Master.{touches}
-use Rattle.rk_world.specs.Client.{busy}
 use Rattle.rk_world.specs.Ledger.{LastCall}
 use Rattle.rk_world.specs.Written.{Written}
 use Rattle.rk_world.specs.Sound.Rows.{AreApart, IsFormed}

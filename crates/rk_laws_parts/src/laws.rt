@@ -64,7 +64,8 @@ pub fn new_lanes_are_well_formed()
         → 1 ≤ backups → backups ≤ MOST_BACKUPS → IsWellFormed (new_world lane masters backups) }
 {}
 
-/// A well formed lane stays so when a message is lost, when a client comes, and when a master stops.
+/// A well formed lane stays so when a message is lost, when a client comes, when a master stops, and when the last request
+/// of a client is sent again.
 pub fn events_keep_lanes_well_formed()
     ensures forgotten { (w : World) (number : ℕ) (called : Called)
         → IsWellFormed w → IsWellFormed (happened w (events.Forget number) called).world }
@@ -74,4 +75,6 @@ pub fn events_keep_lanes_well_formed()
     ensures crashed { (w : World) (master : ℕ) (called : Called)
         → MayHappen w (events.Crash master) → IsWellFormed w
         → IsWellFormed (happened w (events.Crash master) called).world }
+    ensures again { (w : World) (client : ℕ) (called : Called)
+        → IsWellFormed w → IsWellFormed (happened w (events.Again client) called).world }
 {}

@@ -1,4 +1,4 @@
-use Rattle.rk_laws_parts.proofs.Formed.{formed_forgotten, formed_come, formed_crashed}
+use Rattle.rk_laws_parts.proofs.Formed.{formed_forgotten, formed_come, formed_crashed, formed_again}
 use Rattle.rk_laws_parts.proofs.laws.events_keep_lanes_well_formed.Goals as goal
 
 pub returns-clause-forgotten : goal.returns-clause-forgotten
@@ -9,3 +9,6 @@ returns-clause-come c = formed_come
 
 pub returns-clause-crashed : goal.returns-clause-crashed
 returns-clause-crashed c = formed_crashed
+
+pub returns-clause-again : goal.returns-clause-again
+returns-clause-again c = formed_again
