@@ -84,7 +84,7 @@ new_is_well_formed lane masters backups some few = record {
 }
 
 -- the greatest number that stood in a lane does not matter
-topped : (w : World) → IsWellFormed w → IsWellFormed (with_top w)
+pub topped : (w : World) → IsWellFormed w → IsWellFormed (with_top w)
 topped w formed = record {
   masters_are = formed.masters_are;
   backed = formed.backed;

@@ -5,6 +5,7 @@ pub mod Lists
 pub mod Fresh
 pub mod Empty
 pub mod Formed
+pub mod FormedMoves
 pub mod Shares
 pub mod WorldFrozen
 pub mod Apart

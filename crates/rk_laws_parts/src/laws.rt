@@ -64,8 +64,8 @@ pub fn new_lanes_are_well_formed()
         → 1 ≤ backups → backups ≤ MOST_BACKUPS → IsWellFormed (new_world lane masters backups) }
 {}
 
-/// A well formed lane stays so when a message is lost, when a client comes, when a master stops, and when the last request
-/// of a client is sent again.
+/// A well formed lane stays so when a message is lost, when a client comes, when a master stops, when the last request of a
+/// client is sent again, and when a tablet begins to move.
 pub fn events_keep_lanes_well_formed()
     ensures forgotten { (w : World) (number : ℕ) (called : Called)
         → IsWellFormed w → IsWellFormed (happened w (events.Forget number) called).world }
@@ -77,4 +77,7 @@ pub fn events_keep_lanes_well_formed()
         → IsWellFormed (happened w (events.Crash master) called).world }
     ensures again { (w : World) (client : ℕ) (called : Called)
         → IsWellFormed w → IsWellFormed (happened w (events.Again client) called).world }
+    ensures migrates { (w : World) (tablet to : ℕ) (called : Called)
+        → MayHappen w (events.Migrate tablet to) → IsWellFormed w
+        → IsWellFormed (happened w (events.Migrate tablet to) called).world }
 {}

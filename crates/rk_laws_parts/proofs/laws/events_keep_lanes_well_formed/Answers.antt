@@ -1,4 +1,5 @@
 use Rattle.rk_laws_parts.proofs.Formed.{formed_forgotten, formed_come, formed_crashed, formed_again}
+use Rattle.rk_laws_parts.proofs.FormedMoves.{formed_migrates}
 use Rattle.rk_laws_parts.proofs.laws.events_keep_lanes_well_formed.Goals as goal
 
 pub returns-clause-forgotten : goal.returns-clause-forgotten
@@ -12,3 +13,6 @@ returns-clause-crashed c = formed_crashed
 
 pub returns-clause-again : goal.returns-clause-again
 returns-clause-again c = formed_again
+
+pub returns-clause-migrates : goal.returns-clause-migrates
+returns-clause-migrates c = formed_migrates
