@@ -5,7 +5,9 @@ pub mod Lists
 pub mod Fresh
 pub mod Empty
 pub mod Formed
-pub mod FormedMoves
+pub mod FormedRows
+pub mod FormedMasters
+pub mod FormedAdded
 pub mod Shares
 pub mod WorldFrozen
 pub mod Apart

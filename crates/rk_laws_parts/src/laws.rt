@@ -1,5 +1,5 @@
 // The headline laws of sound lanes. Each function does nothing: its contract is the law.
-ghost use Rattle.std.specs.Prelude.{◌≡◌, ◌<◌, ◌≤◌, ℕ, true, List, Option, Contains, IfSome, length, slice_get};
+ghost use Rattle.std.specs.Prelude.{◌≡◌, ◌<◌, ◌≤◌, ℕ, true, List, None, Option, Contains, IfSome, length, slice_get};
 ghost use Rattle.rk_log.specs.Cut.{ends};
 ghost use Rattle.rk_log.specs.Log.{IsBackup};
 ghost use Rattle.rk_message.specs.declared.message.Message.{Message};
@@ -7,11 +7,13 @@ ghost use Rattle.rk_tablet_map.specs.declared.row.Row.{Row};
 ghost use Rattle.rk_transfer.specs.Handover.{is_serving};
 ghost use Rattle.rk_types.specs.declared.call.Call.{Call};
 ghost use Rattle.rk_types.specs.Range.{meets};
+ghost use Rattle.rk_types.specs.declared.range.Range.{Range};
 ghost use Rattle.rk_log.specs.declared.copied.TheConstants.{MOST_BACKUPS};
 ghost use Rattle.rk_world.specs.declared.event.Event.TheVariants as events;
 ghost use Rattle.rk_world.specs.Backup.{Called};
 ghost use Rattle.rk_world.specs.Formed.{IsWellFormed};
 ghost use Rattle.rk_world.specs.Premises.{MayHappen};
+ghost use Rattle.rk_world.specs.Refusals.{refusal};
 ghost use Rattle.rk_world.specs.Step.{happened};
 ghost use Rattle.rk_world.specs.Sound.Logs.{stored_of};
 ghost use Rattle.rk_world.specs.Sound.Small.{MayComeTo, MayFreeze, MaySave, MaySend, MayStage, write_staged_in, client_come, message_forgotten, message_sent, request_saved, tablet_frozen_in};
@@ -65,7 +67,7 @@ pub fn new_lanes_are_well_formed()
 {}
 
 /// A well formed lane stays so when a message is lost, when a client comes, when a master stops, when the last request of a
-/// client is sent again, and when a tablet begins to move.
+/// client is sent again, when a tablet begins to move, and when a tablet is added that is not refused.
 pub fn events_keep_lanes_well_formed()
     ensures forgotten { (w : World) (number : ℕ) (called : Called)
         → IsWellFormed w → IsWellFormed (happened w (events.Forget number) called).world }
@@ -80,4 +82,7 @@ pub fn events_keep_lanes_well_formed()
     ensures migrates { (w : World) (tablet to : ℕ) (called : Called)
         → MayHappen w (events.Migrate tablet to) → IsWellFormed w
         → IsWellFormed (happened w (events.Migrate tablet to) called).world }
+    ensures added { (w : World) (tablet : ℕ) (range : Range) (master : ℕ) (called : Called)
+        → MayHappen w (events.AddTablet tablet range master) → refusal w (events.AddTablet tablet range master) ≡ None
+        → IsWellFormed w → IsWellFormed (happened w (events.AddTablet tablet range master) called).world }
 {}

@@ -1,5 +1,6 @@
 use Rattle.rk_laws_parts.proofs.Formed.{formed_forgotten, formed_come, formed_crashed, formed_again}
-use Rattle.rk_laws_parts.proofs.FormedMoves.{formed_migrates}
+use Rattle.rk_laws_parts.proofs.FormedAdded.{formed_added}
+use Rattle.rk_laws_parts.proofs.FormedRows.{formed_migrates}
 use Rattle.rk_laws_parts.proofs.laws.events_keep_lanes_well_formed.Goals as goal
 
 pub returns-clause-forgotten : goal.returns-clause-forgotten
@@ -16,3 +17,6 @@ returns-clause-again c = formed_again
 
 pub returns-clause-migrates : goal.returns-clause-migrates
 returns-clause-migrates c = formed_migrates
+
+pub returns-clause-added : goal.returns-clause-added
+returns-clause-added c = formed_added

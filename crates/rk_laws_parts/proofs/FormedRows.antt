@@ -2,6 +2,7 @@
 use Rattle.std.proofs.Common.{◌≡◌, ℕ, ◌+◌, ◌==◌, true, false, ◌||◌, cond, List, [], ◌∷◌, All, Option, None, Some, refl, sym, ap, subst, ◌∙◌, ⊎_elim}
 use Rattle.std.proofs.lemmas.Bool.{eqb-true, eq-eqb, cases_Bool}
 use Rattle.std.proofs.lemmas.List.Elements.{All-cons, All-head, All-tail}
+use Rattle.rk_types.specs.Hashing.{hash_of}
 use Rattle.rk_types.specs.Range.{has}
 use Rattle.rk_entry.specs.Ends.{IsLawfulRange}
 use Rattle.rk_tablet_map.proofs.Lawful.{lawful_turned}
@@ -88,24 +89,31 @@ turned_covers rows tablet term phase None table hash found = refl
 turned_covers rows tablet term phase (Some row) table hash found =
     covered_replaced row (at_term row term phase) tablet rows table hash found refl
 
--- a lane stays well formed when a row goes to the next term, with a phase that names masters that are there
-pub formed_with_term : (w : World) (row : Row) (phase : Phase) → ((master : ℕ) → names phase master ≡ true → IsMaster w.coordinator.masters master) → IsWellFormed w → IsWellFormed (with_top (with_coordinator w (with_term w.coordinator row phase)))
-formed_with_term w row phase there formed = record {
+-- a lane stays well formed with other rows that are, and that cover what its history starts from
+pub formed_with_rows : (w : World) (rows : List Row) → IsFormedCoordinator (record w.coordinator { rows = rows }) → All (λ item. is_covered rows item.table (hash_of item.key) ≡ true) w.base.items → IsWellFormed w → IsWellFormed (with_coordinator w (record w.coordinator { rows = rows }))
+formed_with_rows w rows coordinator base formed = record {
   masters_are = formed.masters_are;
   backed = formed.backed;
   few_backups = formed.few_backups;
   masters = formed.masters;
-  coordinator =
-      turned_is_formed w.coordinator row.tablet (row.term + 1) phase (row_of w.coordinator.rows row.tablet) refl there
-      formed.coordinator;
+  coordinator = coordinator;
   ledger = formed.ledger;
   wire = formed.wire;
   crashed = formed.crashed;
-  base =
-      λ k d lt.
-      turned_covers w.coordinator.rows row.tablet (row.term + 1) phase (row_of w.coordinator.rows row.tablet) _ _ refl
-      ∙ formed.base k d lt;
+  base = base;
 }
+
+-- a lane stays well formed when a row goes to the next term, with a phase that names masters that are there
+pub formed_with_term : (w : World) (row : Row) (phase : Phase) → ((master : ℕ) → names phase master ≡ true → IsMaster w.coordinator.masters master) → IsWellFormed w → IsWellFormed (with_coordinator w (with_term w.coordinator row phase))
+formed_with_term w row phase there formed =
+    formed_with_rows w (turned found w.coordinator.rows row.tablet (row.term + 1) phase)
+    (turned_is_formed w.coordinator row.tablet (row.term + 1) phase found refl there formed.coordinator)
+    (λ k d lt.
+    turned_covers w.coordinator.rows row.tablet (row.term + 1) phase found _ _ refl ∙ formed.base k d lt)
+    formed
+  where
+    found : Option Row
+    found = row_of w.coordinator.rows row.tablet
 
 -- the master that owns a row or the other one: all that a row names when it begins to move
 opening_names : (count master from to : ℕ) → IsMaster count master → IsMaster count to → (q : ℕ) → names (Opening master from to None) q ≡ true → IsMaster count q
@@ -124,13 +132,14 @@ formed_migrates w tablet to called there formed =
   where
     of_phase : (row : Row) (phase : Phase) → row.phase ≡ phase → row_of w.coordinator.rows tablet ≡ Some row → IsWellFormed (with_top (with_coordinator w (migrating w.coordinator row phase to)))
     of_phase row (Owned master from) is found =
-        formed_with_term w row (Opening master from to None)
+        topped (with_coordinator w (with_term w.coordinator row (Opening master from to None)))
+        (formed_with_term w row (Opening master from to None)
         (opening_names w.coordinator.masters master from to
         (all_found (λ r. names r.phase master ≡ true → IsMaster w.coordinator.masters master) row tablet w.coordinator.rows
         found (formed.coordinator.named master)
         (ap (λ p. names p master) is ∙ eq-eqb master master refl))
         there)
-        formed
+        formed)
     of_phase row (Opening source sfrom target dfrom) is found = topped w formed
     of_phase row (Moving source sfrom target dfrom) is found = topped w formed
     of_phase row (Rebuilding lineage rebuilder) is found = topped w formed
