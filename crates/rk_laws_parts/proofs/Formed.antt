@@ -14,7 +14,7 @@ use Rattle.rk_world.specs.Backup.{Called}
 use Rattle.rk_world.specs.Ledger.{is_added, with_client}
 use Rattle.rk_world.specs.World.{World, new_world, new_masters, with_top, with_ledger}
 use Rattle.rk_world.specs.Step.{happened, sent_again}
-use Rattle.rk_world.specs.Premises.{IsMaster, MayHappen}
+use Rattle.rk_world.specs.Premises.{MOST_MASTERS, IsMaster, MayHappen}
 use Rattle.rk_world.specs.Formed.{IsWellFormed, IsFormedMaster, IsFormedMessage, IsFormedWire}
 use Rattle.rk_laws_parts.proofs.Fresh.{with_numbers, found_numbered}
 use Rattle.rk_laws_parts.proofs.Empty.{in_order_none, length_replicated}
@@ -57,15 +57,17 @@ each_new masters backups count number master found =
     subst (IsFormedMaster masters backups number) master_is (new_is_formed masters backups number))
     (found_numbered (λ n. new_master n (replicate backups nothing)) (range_with_len 1 count) number)
 
--- a new lane is well formed, with at most four backups
-pub new_is_well_formed : (lane masters backups : ℕ) → 1 ≤ backups → backups ≤ MOST_BACKUPS → IsWellFormed (new_world lane masters backups)
-new_is_well_formed lane masters backups some few = record {
+-- a new lane is well formed, with at most eight masters and four backups
+pub new_is_well_formed : (lane masters backups : ℕ) → masters ≤ MOST_MASTERS → 1 ≤ backups → backups ≤ MOST_BACKUPS → IsWellFormed (new_world lane masters backups)
+new_is_well_formed lane masters backups few some few_backups = record {
   masters_are = numbers_are (λ number. new_master number (replicate backups nothing)) (range_with_len 1 masters);
+  few_masters = few;
   backed = some;
-  few_backups = few;
+  few_backups = few_backups;
   masters = each_new masters backups masters;
   coordinator = record {
     rows = tt;
+    numbered = All-nil _;
     ranges = All-nil _;
     named = λ master. All-nil _;
     noticed = All-nil _;
@@ -87,6 +89,7 @@ new_is_well_formed lane masters backups some few = record {
 pub topped : (w : World) → IsWellFormed w → IsWellFormed (with_top w)
 topped w formed = record {
   masters_are = formed.masters_are;
+  few_masters = formed.few_masters;
   backed = formed.backed;
   few_backups = formed.few_backups;
   masters = formed.masters;
@@ -101,6 +104,7 @@ topped w formed = record {
 pub formed_forgotten : (w : World) (number : ℕ) (called : Called) → IsWellFormed w → IsWellFormed (happened w (events.Forget number) called).world
 formed_forgotten w number called formed = record {
   masters_are = formed.masters_are;
+  few_masters = formed.few_masters;
   backed = formed.backed;
   few_backups = formed.few_backups;
   masters = formed.masters;
@@ -119,6 +123,7 @@ formed_forgotten w number called formed = record {
 pub formed_crashed : (w : World) (master : ℕ) (called : Called) → MayHappen w (events.Crash master) → IsWellFormed w → IsWellFormed (happened w (events.Crash master) called).world
 formed_crashed w master called there formed = record {
   masters_are = formed.masters_are;
+  few_masters = formed.few_masters;
   backed = formed.backed;
   few_backups = formed.few_backups;
   masters = formed.masters;
@@ -137,6 +142,7 @@ formed_come w client called number formed =
     comes : IsWellFormed (with_top (with_ledger w (with_client w.ledger client)))
     comes = record {
       masters_are = formed.masters_are;
+      few_masters = formed.few_masters;
       backed = formed.backed;
       few_backups = formed.few_backups;
       masters = formed.masters;
@@ -185,6 +191,7 @@ formed_again w client called formed =
     go None found = topped w formed
     go (Some message) found = record {
       masters_are = formed.masters_are;
+      few_masters = formed.few_masters;
       backed = formed.backed;
       few_backups = formed.few_backups;
       masters = formed.masters;

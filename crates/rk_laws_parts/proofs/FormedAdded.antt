@@ -128,9 +128,10 @@ not_refused rows row none =
 -- ---- the lane
 
 -- the coordinator with a new row of a range that is not empty, whose owner is there
-with_row_is_formed : (c : Coordinator) (tablet : ℕ) (range : Range) (master : ℕ) → IsNew (new_row tablet range master) c.rows → IsLawfulRange range → IsMaster c.masters master → IsFormedCoordinator c → IsFormedCoordinator (record c { rows = placed (new_row tablet range master) c.rows })
-with_row_is_formed c tablet range master new lawful there formed = record {
+with_row_is_formed : (c : Coordinator) (tablet : ℕ) (range : Range) (master : ℕ) → IsNew (new_row tablet range master) c.rows → IsNumber w32 1 tablet → IsLawfulRange range → IsMaster c.masters master → IsFormedCoordinator c → IsFormedCoordinator (record c { rows = placed (new_row tablet range master) c.rows })
+with_row_is_formed c tablet range master new number lawful there formed = record {
   rows = lawful_placed (new_row tablet range master) c.rows formed.rows new;
+  numbered = all_placed (λ row. IsNumber w32 1 row.tablet) (new_row tablet range master) c.rows number formed.numbered;
   ranges = all_placed (λ row. IsLawfulRange row.range) (new_row tablet range master) c.rows lawful formed.ranges;
   named = λ q.
       all_placed (λ row. names row.phase q ≡ true → IsMaster c.masters q) (new_row tablet range master) c.rows
@@ -154,7 +155,7 @@ pub formed_added : (w : World) (tablet : ℕ) (range : Range) (master : ℕ) (ca
 formed_added w tablet range master called (number, lawful, there) none formed =
     topped (tablet_added w tablet range master)
     (formed_with_rows served_there (placed (new_row tablet range master) w.coordinator.rows)
-    (with_row_is_formed w.coordinator tablet range master new lawful there formed.coordinator)
+    (with_row_is_formed w.coordinator tablet range master new number lawful there formed.coordinator)
     (λ k d lt. covered_placed (new_row tablet range master) w.coordinator.rows _ _ (formed.base k d lt))
     (formed_with_master w master (with_added (master_at w master) tablet range) there
     (formed_with_tablet w.coordinator.masters w.backup_count master (master_at w master) tablet

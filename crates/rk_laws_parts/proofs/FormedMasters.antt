@@ -116,6 +116,7 @@ pub formed_with_master : (w : World) (number : ℕ) (master : Master) → IsMast
 formed_with_master w number master there new formed = record {
   masters_are =
       numbers_kept w.masters w.coordinator.masters number master formed.masters_are there ∙ formed.masters_are;
+  few_masters = formed.few_masters;
   backed = formed.backed;
   few_backups = formed.few_backups;
   masters =

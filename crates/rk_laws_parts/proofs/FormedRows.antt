@@ -1,10 +1,11 @@
 -- Well formed: a lane stays so when the row of a tablet takes another term and phase, as when the tablet begins to move.
-use Rattle.std.proofs.Common.{◌≡◌, ℕ, ◌+◌, ◌==◌, true, false, ◌||◌, cond, List, [], ◌∷◌, All, Option, None, Some, refl, sym, ap, subst, ◌∙◌, ⊎_elim}
+use Rattle.std.proofs.Common.{◌≡◌, ℕ, w32, ◌+◌, ◌==◌, true, false, ◌||◌, cond, List, [], ◌∷◌, All, Option, None, Some, refl, sym, ap, subst, ◌∙◌, ⊎_elim}
 use Rattle.std.proofs.lemmas.Bool.{eqb-true, eq-eqb, cases_Bool}
 use Rattle.std.proofs.lemmas.List.Elements.{All-cons, All-head, All-tail}
 use Rattle.rk_types.specs.Hashing.{hash_of}
 use Rattle.rk_types.specs.Range.{has}
 use Rattle.rk_entry.specs.Ends.{IsLawfulRange}
+use Rattle.rk_entry.specs.Numbers.{IsNumber}
 use Rattle.rk_tablet_map.proofs.Lawful.{lawful_turned}
 use Rattle.rk_tablet_map.specs.Rows.{is_covered, replaced, row_of, turned}
 use Rattle.rk_tablet_map.specs.declared.phase.Phase.{Phase}
@@ -64,6 +65,7 @@ at_term row term phase = record row { term = term; phase = phase }
 turned_is_formed : (c : Coordinator) (tablet term : ℕ) (phase : Phase) (found : Option Row) → row_of c.rows tablet ≡ found → ((master : ℕ) → names phase master ≡ true → IsMaster c.masters master) → IsFormedCoordinator c → IsFormedCoordinator (record c { rows = turned found c.rows tablet term phase })
 turned_is_formed c tablet term phase None found there formed = record {
   rows = formed.rows;
+  numbered = formed.numbered;
   ranges = formed.ranges;
   named = formed.named;
   noticed = formed.noticed;
@@ -72,6 +74,9 @@ turned_is_formed c tablet term phase None found there formed = record {
 }
 turned_is_formed c tablet term phase (Some row) found there formed = record {
   rows = lawful_turned c.rows tablet row (at_term row term phase) found refl refl formed.rows;
+  numbered =
+      all_replaced (λ r. IsNumber w32 1 r.tablet) (at_term row term phase) tablet c.rows
+      (all_found (λ r. IsNumber w32 1 r.tablet) row tablet c.rows found formed.numbered) formed.numbered;
   ranges =
       all_replaced (λ r. IsLawfulRange r.range) (at_term row term phase) tablet c.rows
       (all_found (λ r. IsLawfulRange r.range) row tablet c.rows found formed.ranges) formed.ranges;
@@ -93,6 +98,7 @@ turned_covers rows tablet term phase (Some row) table hash found =
 pub formed_with_rows : (w : World) (rows : List Row) → IsFormedCoordinator (record w.coordinator { rows = rows }) → All (λ item. is_covered rows item.table (hash_of item.key) ≡ true) w.base.items → IsWellFormed w → IsWellFormed (with_coordinator w (record w.coordinator { rows = rows }))
 formed_with_rows w rows coordinator base formed = record {
   masters_are = formed.masters_are;
+  few_masters = formed.few_masters;
   backed = formed.backed;
   few_backups = formed.few_backups;
   masters = formed.masters;

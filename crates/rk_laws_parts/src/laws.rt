@@ -12,7 +12,7 @@ ghost use Rattle.rk_log.specs.declared.copied.TheConstants.{MOST_BACKUPS};
 ghost use Rattle.rk_world.specs.declared.event.Event.TheVariants as events;
 ghost use Rattle.rk_world.specs.Backup.{Called};
 ghost use Rattle.rk_world.specs.Formed.{IsWellFormed};
-ghost use Rattle.rk_world.specs.Premises.{MayHappen};
+ghost use Rattle.rk_world.specs.Premises.{MOST_MASTERS, MayHappen};
 ghost use Rattle.rk_world.specs.Refusals.{refusal};
 ghost use Rattle.rk_world.specs.Step.{happened};
 ghost use Rattle.rk_world.specs.Sound.Logs.{stored_of};
@@ -60,10 +60,10 @@ pub fn what_is_applied_is_stored()
         (λ end. end.offset ≤ length (stored_of (backup_at w) master backup end.segment)) }
 {}
 
-/// A lane where nothing has happened is well formed, with any number of masters and one to four backups.
+/// A lane where nothing has happened is well formed, with at most eight masters and one to four backups.
 pub fn new_lanes_are_well_formed()
     ensures new { (lane masters backups : ℕ)
-        → 1 ≤ backups → backups ≤ MOST_BACKUPS → IsWellFormed (new_world lane masters backups) }
+        → masters ≤ MOST_MASTERS → 1 ≤ backups → backups ≤ MOST_BACKUPS → IsWellFormed (new_world lane masters backups) }
 {}
 
 /// A well formed lane stays so when a message is lost, when a client comes, when a master stops, when the last request of a

@@ -9,7 +9,6 @@ use Rattle.rk_message.specs.declared.message.Body.TheVariants as bodies
 use Rattle.rk_message.specs.declared.message.Message.{Message}
 use Rattle.rk_message.specs.declared.rebuilding.ReadSegment.{ReadSegment}
 use Rattle.rk_message.specs.declared.replication.Append.{Append}
-use Rattle.rk_message.specs.declared.replication.Stored.{Stored}
 
 -- no segment was ever written
 abbrev pub no_segments : Segments

@@ -1,6 +1,6 @@
 -- Commits: what a master makes of what a backup tells. What every backup holds by then is applied, entry by entry: an item goes
 -- into the records, and the client of a call is told how it ended.
-use Rattle.std.specs.Prelude.{ℕ, ◌+◌, ◌&&◌, not, if◌then◌else◌, List, [], ◌∷◌, length, take, drop, map, Option, Some, None}
+use Rattle.std.specs.Prelude.{ℕ, ◌+◌, ◌&&◌, not, if◌then◌else◌, List, [], ◌∷◌, take, drop, map, Option, Some, None}
 use Rattle.rk_types.specs.NumberMap.{get, remove}
 use Rattle.rk_types.specs.declared.call.Answer.TheVariants as answers
 use Rattle.rk_types.specs.declared.call.Call.{Call}

@@ -30,7 +30,7 @@ use Rattle.rk_world.specs.Notices.{names}
 use Rattle.rk_world.specs.Client.{call_lane}
 use Rattle.rk_world.specs.Ledger.{Ledger, LastCall}
 use Rattle.rk_world.specs.World.{World}
-use Rattle.rk_world.specs.Premises.{IsMaster, IsLawfulCall, IsAfterStart}
+use Rattle.rk_world.specs.Premises.{MOST_MASTERS, IsMaster, IsLawfulCall, IsAfterStart}
 
 -- a tablet at a master: its number counts from 1, its range is not empty, its completions are in order and can be spelled, it has a
 -- list of pulled items for each of four workers, and the master that it pulls from is there
@@ -106,9 +106,10 @@ pub record IsFormedHanded (tablet : ℕ) (handed : Handed) : Type 0 where
   pub floor : IsNumber w64 1 handed.floor
   pub ends : All IsLawfulEnd handed.ends
 
--- the coordinator: its rows are a tablet map of ranges that are not empty, which name masters that are there
+-- the coordinator: its rows are a tablet map of ranges that are not empty, with numbers from 1 on, and name masters that are there
 pub record IsFormedCoordinator (coordinator : Coordinator) : Type 0 where
   pub rows : IsTabletMap coordinator.rows
+  pub numbered : All (λ row. IsNumber w32 1 row.tablet) coordinator.rows
   pub ranges : All (λ row. IsLawfulRange row.range) coordinator.rows
   pub named : (master : ℕ) → All (λ row. names row.phase master ≡ true → IsMaster coordinator.masters master) coordinator.rows
   pub noticed : All (IsMaster coordinator.masters) coordinator.noticed
@@ -137,8 +138,9 @@ pub record IsFormedWire (masters backups : ℕ) (wire : Traffic) : Type 0 where
 
 -- a lane is well formed
 pub record IsWellFormed (w : World) : Type 0 where
-  -- the masters are those from 1 to their count, and so are the backups; at most four of these
+  -- the masters are those from 1 to their count, at most eight; and so are the backups, at most four
   pub masters_are : numbers w.masters ≡ range_with_len 1 w.coordinator.masters
+  pub few_masters : w.coordinator.masters ≤ MOST_MASTERS
   pub backed : 1 ≤ w.backup_count
   pub few_backups : w.backup_count ≤ MOST_BACKUPS
   pub masters : EachIn (IsFormedMaster w.coordinator.masters w.backup_count) w.masters

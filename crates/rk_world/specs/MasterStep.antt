@@ -1,5 +1,5 @@
 -- What a master makes of each message.
-use Rattle.std.specs.Prelude.{ℕ, length}
+use Rattle.std.specs.Prelude.{ℕ}
 use Rattle.rk_types.specs.declared.node.Node.{Node}
 use Rattle.rk_types.specs.declared.node.Node.TheVariants as nodes
 use Rattle.rk_log.specs.Log.{overreach}

@@ -16,6 +16,10 @@ use Rattle.rk_world.specs.Base.{Base, ends_told}
 use Rattle.rk_world.specs.Client.{Session}
 use Rattle.rk_world.specs.World.{World}
 
+-- how many masters a lane may have
+abbrev pub MOST_MASTERS : ℕ
+MOST_MASTERS = 8
+
 -- the masters of a lane are numbered from 1
 pub record IsMaster (count number : ℕ) : Type 0 where
   pub first : 1 ≤ number

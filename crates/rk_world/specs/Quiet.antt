@@ -6,7 +6,6 @@ use Rattle.rk_tablet_map.specs.declared.phase.Phase.{Phase}
 use Rattle.rk_tablet_map.specs.declared.phase.Phase.TheVariants.{Owned}
 use Rattle.rk_tablet_map.specs.declared.row.Row.{Row}
 use Rattle.rk_world.specs.Master.{Master, staged}
-use Rattle.rk_world.specs.CoordinatorStep.{answered}
 use Rattle.rk_world.specs.Client.{Session}
 
 -- a row is owned by a master that lives

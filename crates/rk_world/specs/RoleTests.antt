@@ -2,7 +2,6 @@
 use Rattle.std.specs.Prelude.{ℕ, Bool, true, false, ◌==◌, ◌&&◌, None}
 use Rattle.rk_transfer.specs.declared.role.Role.{Role}
 use Rattle.rk_transfer.specs.declared.role.Role.TheVariants as roles
-use Rattle.rk_tablet_map.specs.declared.phase.Phase.TheVariants.{Rebuilding}
 use Rattle.rk_world.specs.Tablet.{Tablet}
 
 -- whether a role is that of a target that pulls

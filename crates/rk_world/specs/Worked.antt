@@ -1,5 +1,5 @@
 -- What a master makes of a message or of its turn, and work that goes on after other work.
-use Rattle.std.specs.Prelude.{◌+◌, List, [], ◌∷◌, ◌++◌}
+use Rattle.std.specs.Prelude.{List, [], ◌∷◌, ◌++◌}
 use Rattle.rk_types.specs.declared.node.Node.{Node}
 use Rattle.rk_types.specs.declared.node.Node.TheVariants as nodes
 use Rattle.rk_message.specs.declared.message.Body.{Body}
