@@ -171,7 +171,7 @@ given_now : (sent : ℕ) → (1 ≤ sent + 1) × (sent + 1 ≤ sent + 1)
 given_now sent = (omega arith, omega arith)
 
 -- the wire after another message that is well formed
-wire_sent : (masters backups : ℕ) (wire : Traffic) (message : Message) → IsFormedWire masters backups wire → IsFormedMessage masters backups message → IsFormedWire masters backups (with_message message wire)
+pub wire_sent : (masters backups : ℕ) (wire : Traffic) (message : Message) → IsFormedWire masters backups wire → IsFormedMessage masters backups message → IsFormedWire masters backups (with_message message wire)
 wire_sent masters backups wire message formed new = record {
   order = in_order_insert wire.messages (wire.sent + 1) message formed.order;
   numbered =

@@ -8,6 +8,7 @@ pub mod Formed
 pub mod FormedRows
 pub mod FormedMasters
 pub mod FormedAdded
+pub mod FormedLookups
 pub mod Shares
 pub mod WorldFrozen
 pub mod Apart

@@ -1,12 +1,16 @@
 // The headline laws of sound lanes. Each function does nothing: its contract is the law.
-ghost use Rattle.std.specs.Prelude.{◌≡◌, ◌<◌, ◌≤◌, ℕ, true, List, None, Option, Contains, IfSome, length, slice_get};
+ghost use Rattle.std.specs.Prelude.{◌≡◌, ◌<◌, ◌≤◌, ℕ, true, List, None, Some, Option, Contains, IfSome, length, slice_get};
 ghost use Rattle.rk_log.specs.Cut.{ends};
 ghost use Rattle.rk_log.specs.Log.{IsBackup};
+ghost use Rattle.rk_message.specs.declared.calls.Lookup.{Lookup};
+ghost use Rattle.rk_message.specs.declared.message.Body.TheVariants as bodies;
 ghost use Rattle.rk_message.specs.declared.message.Message.{Message};
 ghost use Rattle.rk_tablet_map.specs.declared.row.Row.{Row};
 ghost use Rattle.rk_transfer.specs.Handover.{is_serving};
 ghost use Rattle.rk_types.specs.declared.call.Call.{Call};
+ghost use Rattle.rk_types.specs.NumberMap.{get};
 ghost use Rattle.rk_types.specs.Range.{meets};
+ghost use Rattle.rk_types.specs.declared.node.Node.TheVariants as nodes;
 ghost use Rattle.rk_types.specs.declared.range.Range.{Range};
 ghost use Rattle.rk_log.specs.declared.copied.TheConstants.{MOST_BACKUPS};
 ghost use Rattle.rk_world.specs.declared.event.Event.TheVariants as events;
@@ -67,7 +71,8 @@ pub fn new_lanes_are_well_formed()
 {}
 
 /// A well formed lane stays so when a message is lost, when a client comes, when a master stops, when the last request of a
-/// client is sent again, when a tablet begins to move, and when a tablet is added that is not refused.
+/// client is sent again, when a tablet begins to move, when a tablet is added that is not refused, and when the
+/// coordinator takes a client's Lookup.
 pub fn events_keep_lanes_well_formed()
     ensures forgotten { (w : World) (number : ℕ) (called : Called)
         → IsWellFormed w → IsWellFormed (happened w (events.Forget number) called).world }
@@ -85,4 +90,8 @@ pub fn events_keep_lanes_well_formed()
     ensures added { (w : World) (tablet : ℕ) (range : Range) (master : ℕ) (called : Called)
         → MayHappen w (events.AddTablet tablet range master) → refusal w (events.AddTablet tablet range master) ≡ None
         → IsWellFormed w → IsWellFormed (happened w (events.AddTablet tablet range master) called).world }
+    ensures looked_up { (w : World) (number client : ℕ) (lookup : Lookup) (called : Called)
+        → get w.wire.messages number
+        ≡ Some (record { from = nodes.Client client; to = nodes.Coordinator; body = bodies.Lookup lookup })
+        → IsWellFormed w → IsWellFormed (happened w (events.Deliver number) called).world }
 {}

@@ -1,5 +1,6 @@
 use Rattle.rk_laws_parts.proofs.Formed.{formed_forgotten, formed_come, formed_crashed, formed_again}
 use Rattle.rk_laws_parts.proofs.FormedAdded.{formed_added}
+use Rattle.rk_laws_parts.proofs.FormedLookups.{formed_looked_up}
 use Rattle.rk_laws_parts.proofs.FormedRows.{formed_migrates}
 use Rattle.rk_laws_parts.proofs.laws.events_keep_lanes_well_formed.Goals as goal
 
@@ -20,3 +21,6 @@ returns-clause-migrates c = formed_migrates
 
 pub returns-clause-added : goal.returns-clause-added
 returns-clause-added c = formed_added
+
+pub returns-clause-looked_up : goal.returns-clause-looked_up
+returns-clause-looked_up c = formed_looked_up
