@@ -114,15 +114,15 @@ impl Kind {
     }
 }
 
-// Whether the number is at least `least` and at most `most`.
-fn is_within(least: u32, most: u32, number: u32) -> bool
+/// Whether the number is at least `least` and at most `most`.
+pub fn is_within(least: u32, most: u32, number: u32) -> bool
     ensures { result ≡ is_in_range least most number }
 {
     least <= number && number <= most
 }
 
-// Whether so many bytes, at most `most`, are `first` bytes and some members of `each` bytes.
-fn is_list(first: u32, each: u32, most: u32, number: u32) -> bool
+/// Whether so many bytes, at most `most`, are `first` bytes and some members of `each` bytes.
+pub fn is_list(first: u32, each: u32, most: u32, number: u32) -> bool
     requires { 0 < each }
     ensures { result ≡ is_list_length first each most number }
 {

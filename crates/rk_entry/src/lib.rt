@@ -12,7 +12,7 @@ pub use error::{
 };
 pub use kind::{
     CARRIED_BYTES, END_BYTES, HEAD_BYTES, JOINED_BYTES, Kind, LONGEST_BODY, OBJECT_BYTES,
-    REFUSED_BYTES, TOMBSTONE_BYTES,
+    REFUSED_BYTES, TOMBSTONE_BYTES, is_list, is_within,
 };
 pub use laws::{item_length, one_spelling, round_trip};
 pub use lists::FIRST_SIDE_SEGMENT;

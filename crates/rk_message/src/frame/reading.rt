@@ -1,7 +1,5 @@
-ghost use Rattle.std.specs.Prelude.{◌≡◌, ◌<◌, ◌++◌, List, ℕ, length, drop, Ok, IfOk};
+ghost use Rattle.std.specs.Prelude.{◌≡◌, ◌++◌, List, ℕ, length, drop, Ok, IfOk};
 ghost use Rattle.rk_message.specs.declared.message.Message.{Message};
-ghost use Rattle.rk_entry.specs.Kinds.{is_list_length};
-ghost use Rattle.std.specs.Int.{is_in_range};
 ghost use Rattle.rk_entry.specs.Steps.{Gives};
 ghost use Rattle.rk_message.specs.Frames.{frame_bytes, IsLawfulMessage, StandsFirst, is_size, is_body_length, read_kind, read_size, read_fields, read_frame};
 
@@ -26,24 +24,11 @@ use crate::rebuilding::{
 };
 use crate::replication::{APPEND_BYTES, STORED_BYTES, read_append, read_stored};
 use rk_entry::fields::{read_u8, read_u32};
-use rk_entry::{BAD_BODY_LENGTH, BAD_KIND, DecodeError, END_BYTES, LONGEST_BODY};
+use rk_entry::{
+    BAD_BODY_LENGTH, BAD_KIND, DecodeError, END_BYTES, LONGEST_BODY, is_list, is_within,
+};
 use rk_types::{LONGEST_KEY, LONGEST_VALUE};
 use std::alloc::Global;
-
-// Whether the number is at least `least` and at most `most`.
-fn is_within(least: u32, most: u32, number: u32) -> bool
-    ensures { result ≡ is_in_range least most number }
-{
-    least <= number && number <= most
-}
-
-// Whether so many bytes are `first` bytes and some members of `each` bytes, and no more than a body has.
-fn is_list(first: u32, each: u32, number: u32) -> bool
-    requires { 0 < each }
-    ensures { result ≡ is_list_length first each LONGEST_BODY number }
-{
-    first <= number && number <= LONGEST_BODY && (number - first) % each == 0
-}
 
 // Whether the fields of some lawful message of this kind take so many bytes, as far as their number alone tells.
 #[tactic(auto, unfolding(crate::specs::Frames::is_size))]
@@ -63,16 +48,18 @@ fn is_size(kind: Kind, size: u32) -> bool
         Kind::Prepare => size == PREPARE_BYTES,
         Kind::Ready => size == READY_BYTES,
         Kind::Close | Kind::Joined | Kind::Own | Kind::Release => size == TENURE_BYTES,
-        Kind::Transfer => is_list(TRANSFER_BYTES, END_BYTES, size),
-        Kind::Grant => is_list(GRANT_BYTES, END_BYTES, size),
+        Kind::Transfer => is_list(TRANSFER_BYTES, END_BYTES, LONGEST_BODY, size),
+        Kind::Grant => is_list(GRANT_BYTES, END_BYTES, LONGEST_BODY, size),
         Kind::Pull => size == PULL_BYTES,
         Kind::Pulled => size == PULLED_BYTES || size >= PULLED_BYTES + SHORTEST_ENTRY,
-        Kind::Want => is_list(WANT_BYTES, HASH_BYTES, size),
-        Kind::Got => { is_list(GOT_BYTES, HASH_BYTES, size) || size >= GOT_BYTES + SHORTEST_ENTRY }
-        Kind::Rebuild => is_list(REBUILD_BYTES, MEMBER_BYTES, size),
+        Kind::Want => is_list(WANT_BYTES, HASH_BYTES, LONGEST_BODY, size),
+        Kind::Got => {
+            is_list(GOT_BYTES, HASH_BYTES, LONGEST_BODY, size) || size >= GOT_BYTES + SHORTEST_ENTRY
+        }
+        Kind::Rebuild => is_list(REBUILD_BYTES, MEMBER_BYTES, LONGEST_BODY, size),
         Kind::Read => size == READ_SEGMENT_BYTES,
         Kind::Copy => size >= COPY_BYTES,
-        Kind::Rebuilt => is_list(REBUILT_BYTES, END_BYTES, size),
+        Kind::Rebuilt => is_list(REBUILT_BYTES, END_BYTES, LONGEST_BODY, size),
     }
 }
 

@@ -99,29 +99,29 @@ pub record MayBeReplayed (row : Row) (source target : Member) (written : ℕ →
   pub of_source : Contains (scan_items (member_truth written row.range source)) item
 
 -- items of a source have arrived at a target: they are copied or outdone, and found in its records
-pub record HaveArrived (items own sides table : List Held) : Type 0 where
+pub record HaveArrived (items own sides records : List Held) : Type 0 where
   pub copied : (item : Held) → Contains items item → Contains sides item ⊎ IsOutdone own item
-  pub found : (item : Held) → Contains items item → IsFound table item
+  pub found : (item : Held) → Contains items item → IsFound records item
 
 -- a target may pass on to a token where all items that the token has passed have arrived
-pub record MayPass (row : Row) (source target : Member) (written : ℕ → Written) (tablet : Tablet) (table : List Held) (live : Bool) (next : Token) : Type 0 where
+pub record MayPass (row : Row) (source target : Member) (written : ℕ → Written) (tablet : Tablet) (records : List Held) (live : Bool) (next : Token) : Type 0 where
   pub lives : live ≡ true
   pub lineage_is : lineage_of row.phase ≡ source ∷ target ∷ []
   pub receiving : tablet.handover.role ≡ roles.Receiving
   pub arrived :
       HaveArrived (passed next (scan_items (member_truth written row.range source)))
       (items_of (entries_from row.range target.from (applied_entries (written target.master))))
-      (copied_items roles.Receiving tablet.pulling (written target.master).sides) table
+      (copied_items roles.Receiving tablet.pulling (written target.master).sides) records
 
 -- hashes may be resolved where all items that have them have arrived
-pub record MayResolve (row : Row) (source target : Member) (written : ℕ → Written) (tablet : Tablet) (table : List Held) (live : Bool) (hashes : List ℕ) : Type 0 where
+pub record MayResolve (row : Row) (source target : Member) (written : ℕ → Written) (tablet : Tablet) (records : List Held) (live : Bool) (hashes : List ℕ) : Type 0 where
   pub lives : live ≡ true
   pub lineage_is : lineage_of row.phase ≡ source ∷ target ∷ []
   pub receiving : tablet.handover.role ≡ roles.Receiving
   pub arrived :
       HaveArrived (flat_map (λ hash. at_hash hash (scan_items (member_truth written row.range source))) hashes)
       (items_of (entries_from row.range target.from (applied_entries (written target.master))))
-      (copied_items roles.Receiving tablet.pulling (written target.master).sides) table
+      (copied_items roles.Receiving tablet.pulling (written target.master).sides) records
 
 -- the side lists of a tablet may be sealed once all is pulled
 pub record MayBeSealed (log : Log) (tablet : Tablet) (live : Bool) : Type 0 where

@@ -110,11 +110,11 @@ pub record IsMergedOf (number from : ℕ) (own : List Entry) (tablet : Tablet) (
 abbrev pub applied_from : Range → ℕ → Written → List Entry
 applied_from range from written = material_of range (side_entries written.sides) (drop from (applied_entries written))
 
--- the table of a master that rebuilds
-pub record IsRebuildTable (range : Range) (truth own : List Entry) (table : List Held) : Type 0 where
-  pub found : (item : Held) → Contains (items_of own) item → IsFound table item
+-- the records of a master that rebuilds
+pub record IsRebuildTable (range : Range) (truth own : List Entry) (records : List Held) : Type 0 where
+  pub found : (item : Held) → Contains (items_of own) item → IsFound records item
   pub come :
-      (item : Held) → Contains table item → is_in range item ≡ true
+      (item : Held) → Contains records item → is_in range item ≡ true
       → Contains (items_of own) item ⊎ Contains (items_of truth) item
 
 -- the place of the entry that closes a rebuild, once it is merged
@@ -130,7 +130,7 @@ named_items range from written =
 
 -- a master that rebuilds a row: `truth` is the row's, `own` counts of its own entries that are not marked, and `stored` and `known`
 -- tell what backup 1 stores of each master, and is known to store
-pub record IsRebuilder (row : Row) (lineage : List Member) (master : ℕ) (truth own : List Entry) (known : ℕ → Known) (stored : ℕ → ℕ → List ℕ) (written : Written) (tablet : Tablet) (table : List Held) : Type 0 where
+pub record IsRebuilder (row : Row) (lineage : List Member) (master : ℕ) (truth own : List Entry) (known : ℕ → Known) (stored : ℕ → ℕ → List ℕ) (written : Written) (tablet : Tablet) (records : List Held) : Type 0 where
   pub range_is : tablet.handover.range ≡ row.range
   pub gather : IsGatherOf tablet.gather row.range lineage master
   pub read : AreGathered known stored tablet.gather.members
@@ -139,11 +139,11 @@ pub record IsRebuilder (row : Row) (lineage : List Member) (master : ℕ) (truth
       IfSome (merged_place tablet.handover.role)
       (λ entry. IsMergedOf row.tablet (own_place tablet.handover.role) own tablet written entry)
   pub items :
-      IsRebuildTable row.range truth (applied_from row.range (own_place tablet.handover.role) written) table
-  -- the items of side segments that its own entries name are the truth's, and found in its table
+      IsRebuildTable row.range truth (applied_from row.range (own_place tablet.handover.role) written) records
+  -- the items of side segments that its own entries name are the truth's, and found in its records
   pub sides :
       (item : Held) → Contains (named_items row.range (own_place tablet.handover.role) written) item
-      → Contains (items_of truth) item × IsFound table item
+      → Contains (items_of truth) item × IsFound records item
   -- a master that is not of the lineage has no entries of its own but those that it marked
   pub outside : is_member lineage master ≡ false → own ≡ []
 

@@ -1,5 +1,5 @@
 -- Receives: what a target that pulls has. Each record that arrived is there, beside the log or under a newer one of the target's
--- own, and the table has the newest of all that came; so calls may be answered while records are fetched, and once all is
+-- own, and the records have the newest of all that came; so calls may be answered while records are fetched, and once all is
 -- fetched the target's log alone has the tablet. The steps that replay, seal, and take a Joined need it.
 use Rattle.std.specs.Prelude.{◌≡◌, ◌≤◌, ◌<◌, ℕ, Bool, true, false, List, [], ◌∷◌, Option, Some, Contains, IfSome, All, drop, take, fold, filter, is_some, length, slice_get, ⊤, ◌⊎◌, if◌then◌else◌, None}
 use Rattle.std.specs.List.{flat_map, list_any}
@@ -52,22 +52,22 @@ pub record IsOutdone (own : List Held) (item : Held) : Type 0 where
   pub same_key : is_of item.table item.key newer ≡ true
   pub above : item.version < newer.version
 
--- the table has the key, with as great a version
-pub record IsFound (table : List Held) (item : Held) : Type 0 where
+-- the records have the key, with as great a version
+pub record IsFound (records : List Held) (item : Held) : Type 0 where
   pub there : Held
-  pub stands : Contains table there
+  pub stands : Contains records there
   pub same_key : is_of item.table item.key there ≡ true
   pub as_new : item.version ≤ there.version
 
 -- what has come stands where it should: `items` are the source's, `own` those that the target applied itself, `sides` those
 -- that it copied
-pub record IsReceived (Arrived : Held → Type 0) (range : Range) (items own sides table : List Held) : Type 0 where
+pub record IsReceived (Arrived : Held → Type 0) (range : Range) (items own sides records : List Held) : Type 0 where
   -- what is copied is the source's, and what arrived is copied or outdone
   pub within : (item : Held) → Contains sides item → Contains items item
   pub copied : (item : Held) → Contains items item → Arrived item → Contains sides item ⊎ IsOutdone own item
-  -- the table has nothing else, and of what has come nothing newer is missing
-  pub come : (item : Held) → Contains table item → is_in range item ≡ true → Contains own item ⊎ Contains sides item
-  pub found : (item : Held) → HasCome Arrived items own item → IsFound table item
+  -- the records have nothing else, and of what has come nothing newer is missing
+  pub come : (item : Held) → Contains records item → is_in range item ≡ true → Contains own item ⊎ Contains sides item
+  pub found : (item : Held) → HasCome Arrived items own item → IsFound records item
 
 -- a target's own entries of a range: those of its log from a place on
 abbrev pub entries_from : Range → ℕ → List Entry → List Entry
@@ -121,14 +121,14 @@ before_closing (Some place) entries = take place entries
 
 -- a target that pulls, or has all: `truth` counts for the range of what is applied at its source, `material` of all that the source
 -- has written, and its own entries count from the place `from` on
-pub record IsTarget (range : Range) (source : ℕ) (truth material : List Entry) (from : ℕ) (written : Written) (tablet : Tablet) (handed : Option Handed) (table : List Held) : Type 0 where
+pub record IsTarget (range : Range) (source : ℕ) (truth material : List Entry) (from : ℕ) (written : Written) (tablet : Tablet) (handed : Option Handed) (records : List Held) : Type 0 where
   pub from_source : tablet.pulling.source ≡ source
   pub workers : length tablet.pulling.sides ≡ 4
   pub pulled : is_joining tablet.handover.role ≡ true → HasPulled tablet.pulling
   pub received :
       IsReceived (HasArrived tablet.handover.role tablet.pulling (scan_items truth)) range (scan_items truth)
       (items_of (entries_from range from (applied_entries written)))
-      (copied_items tablet.handover.role tablet.pulling written.sides) table
+      (copied_items tablet.handover.role tablet.pulling written.sides) records
   -- each of its own versions is above each of the source's
   pub above :
       All (λ own. All (λ other. other.version < own.version) (items_of material))
@@ -167,10 +167,10 @@ HandedFits row tablets handed (source ∷ target ∷ []) =
 HandedFits row tablets handed _ = ⊤
 
 -- a master that made ready for a tablet has nothing of it: its entries begin at this place, and none stands there, nor in its table
-pub record IsBare (range : Range) (from : ℕ) (written : Written) (table : List Held) : Type 0 where
+pub record IsBare (range : Range) (from : ℕ) (written : Written) (records : List Held) : Type 0 where
   pub placed : from ≤ length written.entries
   pub nothing : list_any (touches range) (drop from written.entries) ≡ false
-  pub empty : list_any (is_in range) table ≡ false
+  pub empty : list_any (is_in range) records ≡ false
 
 -- the place from which the entries of a master that made ready are to count, if it did
 abbrev pub wanted_place : Role → Option ℕ

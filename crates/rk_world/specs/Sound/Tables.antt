@@ -17,11 +17,11 @@ use Rattle.rk_world.specs.Tablet.{Tablet}
 use Rattle.rk_world.specs.Written.{Written, member_truth}
 use Rattle.rk_world.specs.Sound.Posts.{Post, Owner, OpeningSource, MovingSource, OnlyRebuilder, FirstRebuilder, post_of}
 
--- a table has, of a range, the newest item of each key of these entries
+-- records have, of a range, the newest item of each key of these entries
 abbrev pub IsTableOf : Range → List Entry → List Held → Type 0
-IsTableOf range material table =
+IsTableOf range material records =
     (item : Held) → is_in range item ≡ true
-    → (Contains table item ↔ (newest (items_of material) item.table item.key ≡ Some item))
+    → (Contains records item ↔ (newest (items_of material) item.table item.key ≡ Some item))
 
 -- whether a master's records have all of the tablet: it owns it or gives it away, or it gave it away or is to rebuild it and
 -- has not begun
@@ -33,14 +33,14 @@ has_all_items (OnlyRebuilder place) handover term = nat_lt handover.term term
 has_all_items (FirstRebuilder place) handover term = nat_lt handover.term term
 has_all_items _ handover term = false
 
--- the table has what is applied at the first member of a row's lineage
+-- the records have what is applied at the first member of a row's lineage
 abbrev pub HasItems : Row → (ℕ → Written) → List Held → Type 0
-HasItems row written table =
+HasItems row written records =
     IfSome (first_of (lineage_of row.phase))
-    (λ member. IsTableOf row.range (member_truth written row.range member) table)
+    (λ member. IsTableOf row.range (member_truth written row.range member) records)
 
 pub record Tables (rows : List Row) (written : ℕ → Written) (tablets : ℕ → ℕ → Tablet) (records : ℕ → List Held) (live : ℕ → Bool) : Type 0 where
-  -- a table is in scan order, so no key stands in it twice
+  -- records are in scan order, so no key stands there twice
   pub ordered : (master : ℕ) → IsInScanOrder (records master)
   pub items :
       (master : ℕ) → live master ≡ true

@@ -1,5 +1,5 @@
--- Terms: no master and no message speaks of a tablet at a term that its row has not come to, and of a range at none that
--- another row there has come to. So the row's own order is greater wherever it should act, and what is late has a smaller term or an equal one;
+-- Terms: no master and no message speaks of a tablet at a term above its row's, nor of a range at a term that another row there
+-- has reached. So the row's own order is greater wherever it should act, and what is late has a smaller term or an equal one;
 -- the steps that take a Prepare, a Close or a Rebuild need it.
 use Rattle.std.specs.Prelude.{◌≡◌, ◌≢◌, ◌≤◌, ◌<◌, ℕ, true, false, List, Option, Some, None, IfSome, All}
 use Rattle.rk_types.specs.NumberMap.{NumberMap, EachIn}
