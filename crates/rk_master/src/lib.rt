@@ -1,0 +1,10 @@
+//! A master in one lane: what it makes of clients' requests and of what backups tell.
+//!
+//! It stands on `rk_world`, whose definitions say what a master does. What it promises: [`StagedCalls`] is the map of
+//! the calls that wait for their entries, by the place of the entry, and finds by a search whether a call is staged.
+#![tactic(auto)]
+
+pub use staged_calls::StagedCalls;
+
+mod call_counts;
+mod staged_calls;
