@@ -7,4 +7,5 @@
 pub use staged_calls::StagedCalls;
 
 mod call_counts;
+mod choice;
 mod staged_calls;
