@@ -5,7 +5,9 @@
 #![tactic(auto)]
 
 pub use staged_calls::StagedCalls;
+pub use staged_items::Kept;
 
 mod call_counts;
 mod choice;
 mod staged_calls;
+mod staged_items;
