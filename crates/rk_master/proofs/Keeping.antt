@@ -1,19 +1,24 @@
 -- What is kept of the staged items, after an item was staged at the end, and after the first one was applied.
-use Rattle.std.proofs.Common.{◌≡◌, ℕ, ◌+◌, ◌≤◌, ◌<◌, Bool, true, false, cond, eqb, ltb, ◌&&◌, List, [], ◌∷◌, ◌++◌, Option, Some, None, is_some, refl, sym, ap, ◌∙◌, subst, ⊎_elim, arith}
+use Rattle.std.proofs.Common.{◌≡◌, ℕ, ◌+◌, ◌-◌, ◌≤◌, ◌<◌, Bool, true, false, cond, eqb, ltb, ◌&&◌, List, [], ◌∷◌, ◌++◌, take, Option, Some, None, is_some, refl, sym, ap, ◌∙◌, subst, ⊎_elim, arith}
 use Rattle.std.specs.Prelude.{bytes_eq}
 use Rattle.std.specs.Ordering.{nat_cmp, is_eq}
 use Rattle.std.specs.Cmp.{unsigned_tied, tied_then}
 use Rattle.std.specs.Cmp.Lexicographic.{slice_cmp}
 use Rattle.std.specs.BTreeMap.{BTreeMap, get as found_in, Updates}
 use Rattle.std.proofs.lemmas.Map.Text.{is_eq-slice_cmp}
-use Rattle.std.proofs.lemmas.Bool.{cases_Bool, cases_lt, cond-true, cond-false}
+use Rattle.std.proofs.lemmas.Bool.{cases_Bool, cases_lt, cond-true, cond-false, false≢true}
 use Rattle.rk_types.specs.declared.held.Held.{Held}
+use Rattle.std.proofs.lemmas.Grind.{flat_map-append}
+use Rattle.std.proofs.lemmas.List.{append-nil}
+use Rattle.rk_entry.specs.declared.entry.Entry.{Entry}
+use Rattle.rk_entry.specs.declared.entry.Entry.TheVariants as entries
+use Rattle.rk_world.specs.Ends.{items_in, items_of}
 use Rattle.rk_overlay.specs.Newest.{is_of, Found, none_found, newer_of, with_newer, newest_from, newest, HasNone}
 use Rattle.rk_overlay.proofs.Folds.{newest_from-append, newest_from-same, with_newer_here, with_newer_other, newer_item, newer_old, newer_cases, none_in}
 use Rattle.rk_overlay.proofs.Members.{first_stands, behind_stands}
-use Rattle.rk_overlay.proofs.Names.{is_of_parts}
+use Rattle.rk_overlay.proofs.Names.{is_of_parts, is_of_from}
 use Rattle.rk_master.specs.declared.staged_items.Kept.{Kept}
-use Rattle.rk_master.specs.Kept.{Name, name_cmp, many_of, kept_of, kept, kept_with, IsKept}
+use Rattle.rk_master.specs.Kept.{Name, name_cmp, many_of, kept_of, kept, kept_with, IsKept, newer_in}
 
 -- two names are one where their tables are, and their keys
 pub same_name : (a b : Name) → is_eq (name_cmp a b) ≡ (eqb a.0 b.0 && bytes_eq a.1 b.1)
@@ -134,3 +139,109 @@ kept_apart item items table key apart =
     let zero_here : one (is_of table key item) ≡ 0 = cond-false (is_of table key item) 1 0 apart in
     let count : many_of (item ∷ items) table key ≡ many_of items table key = omega (arith, zero_here) in
     λ i. kept_of (found i) (count i)
+
+-- none is found where there are none
+none_many : (found : Found) (items : List Held) (table : ℕ) (key : List ℕ) → many_of items table key ≡ 0 → newest_from found items table key ≡ found table key
+none_many found [] table key none = refl
+none_many found (first ∷ items) table key none =
+    ⊎_elim
+    (λ (here : is_of table key first ≡ true).
+    let one_here : one (is_of table key first) ≡ 1 = cond-true (is_of table key first) 1 0 here in
+    absurd (omega (arith, none, one_here)))
+    (λ (apart : is_of table key first ≡ false).
+    none_many (with_newer found first) items table key (omega (arith, none)) ∙ with_newer_other found first table key apart)
+    (cases_Bool (is_of table key first))
+
+-- how many are left
+many_left : (item : Held) (items : List Held) (table : ℕ) (key : List ℕ) (old : Kept) → is_of table key item ≡ true → Some old ≡ kept (item ∷ items) table key
+    → old.count ≡ many_of items table key + 1
+many_left item items table key old here is = go (newest (item ∷ items) table key) is
+  where
+    go : (o : Option Held) → Some old ≡ kept_of o (many_of (item ∷ items) table key) → old.count ≡ many_of items table key + 1
+    go None told = cc told
+    go (Some found) told =
+        let same : old ≡ record { version = found.version; is_live = is_some found.value; count = many_of (item ∷ items) table key } = cc told in
+        let count : old.count ≡ many_of (item ∷ items) table key = ap (λ (k : Kept). k.count) same in
+        let one_here : one (is_of table key item) ≡ 1 = cond-true (is_of table key item) 1 0 here in
+        omega (arith, count, one_here)
+
+-- nothing is left of one
+pub kept_none : (item : Held) (items : List Held) (table : ℕ) (key : List ℕ) (old : Kept) → is_of table key item ≡ true → Some old ≡ kept (item ∷ items) table key
+    → old.count ≤ 1 → None ≡ kept items table key
+kept_none item items table key old here is few =
+    let none : many_of items table key ≡ 0 = omega (arith, many_left item items table key old here is, few) in
+    sym (ap (λ (o : Option Held). kept_of o (many_of items table key)) (none_many none_found items table key none))
+
+-- a newest one that is newer than the first is left
+pub kept_newer : (item : Held) (items : List Held) (table : ℕ) (key : List ℕ) (old : Kept) → is_of table key item ≡ true → Some old ≡ kept (item ∷ items) table key
+    → item.version < old.version → Some (record { version = old.version; is_live = old.is_live; count = old.count - 1 }) ≡ kept items table key
+kept_newer item items table key old here is newer = go (newest (item ∷ items) table key) refl is
+  where
+    go : (o : Option Held) → newest (item ∷ items) table key ≡ o → Some old ≡ kept_of o (many_of (item ∷ items) table key)
+        → Some (record { version = old.version; is_live = old.is_live; count = old.count - 1 }) ≡ kept items table key
+    go None found told = cc told
+    go (Some x) found told =
+        let same : old ≡ record { version = x.version; is_live = is_some x.value; count = many_of (item ∷ items) table key } = cc told in
+        let version : old.version ≡ x.version = ap (λ (k : Kept). k.version) same in
+        let live : old.is_live ≡ is_some x.value = ap (λ (k : Kept). k.is_live) same in
+        let count : old.count - 1 ≡ many_of items table key = omega (arith, many_left item items table key old here is) in
+        let later : item.version < x.version = omega (arith, version, newer) in
+        let first_found : with_newer none_found item table key ≡ Some item = with_newer_here none_found item table key here in
+        let left : newest items table key ≡ Some x = ahead (with_newer none_found item) none_found items table key item x first_found (λ y none. absurd (cc none)) found later in
+        (λ i. Some (record { version = version i; is_live = live i; count = count i }))
+        ∙ sym (ap (λ (o : Option Held). kept_of o (many_of items table key)) left)
+
+-- the newest one of what is left
+pub kept_left : (item : Held) (items : List Held) (table : ℕ) (key : List ℕ) (old : Kept) (found : Option Held) → is_of table key item ≡ true → Some old ≡ kept (item ∷ items) table key
+    → found ≡ newest items table key → kept_of found (old.count - 1) ≡ kept items table key
+kept_left item items table key old found here is found_is =
+    let count : old.count - 1 ≡ many_of items table key = omega (arith, many_left item items table key old here is) in
+    λ i. kept_of (found_is i) (count i)
+
+-- a tree of which the first item was taken out
+pub kept_subtracted : (old new : BTreeMap Name Kept) (name : Name) (item : Held) (items : List Held) (left : Option Kept)
+    → item.table ≡ name.0 → item.key ≡ name.1 → Updates name_cmp old new name left → left ≡ kept items name.0 name.1
+    → IsKept old (item ∷ items) → IsKept new items
+kept_subtracted old new name item items left its_table its_key updates left_is was table key =
+    updates.0 (table, key)
+    ∙ ap (λ (b : Bool). cond b left (found_in name_cmp old (table, key))) (same_name name (table, key))
+    ∙ go (eqb name.0 table && bytes_eq name.1 key) refl
+  where
+    test_is : (eqb name.0 table && bytes_eq name.1 key) ≡ is_of table key item
+    test_is = λ i. eqb (sym its_table i) table && bytes_eq (sym its_key i) key
+
+    go : (b : Bool) → (eqb name.0 table && bytes_eq name.1 key) ≡ b → cond b left (found_in name_cmp old (table, key)) ≡ kept items table key
+    go true same =
+        let its = is_of_parts table key item (sym test_is ∙ same) in
+        left_is ∙ (λ i. kept items ((sym its_table ∙ its.0) i) ((sym its_key ∙ its.1) i))
+    go false apart = was table key ∙ kept_apart item items table key (sym test_is ∙ apart)
+
+-- an item that has the table and the key is of the record
+pub is_named : (table : ℕ) (key : List ℕ) (item : Held) → item.table ≡ table → item.key ≡ key → is_of table key item ≡ true
+is_named = is_of_from
+
+-- ---- the newest among entries
+
+-- what is found with one more entry
+newest_in_next : (found : Option Held) (entry : Entry) (items : List Held) (table : ℕ) (key : List ℕ) → found ≡ newest items table key → newer_in found entry table key ≡ newest (items ++ items_in entry) table key
+newest_in_next found (entries.Held item) items table key was =
+    ap (λ (o : Option Held). newer_in o (entries.Held item) table key) was ∙ sym (newest_more items item table key)
+newest_in_next found (entries.Refused refused) items table key was = was ∙ ap (λ (xs : List Held). newest xs table key) (sym (append-nil items))
+newest_in_next found (entries.Carried carried) items table key was = was ∙ ap (λ (xs : List Held). newest xs table key) (sym (append-nil items))
+newest_in_next found (entries.Joined joined) items table key was = was ∙ ap (λ (xs : List Held). newest xs table key) (sym (append-nil items))
+
+-- what is found among so many first entries, and one more
+pub newest_taken : (all : List Entry) (place : ℕ) (entry : Entry) (found : Option Held) (table : ℕ) (key : List ℕ) → take (place + 1) all ≡ take place all ++ entry ∷ []
+    → found ≡ newest (items_of (take place all)) table key → newer_in found entry table key ≡ newest (items_of (take (place + 1) all)) table key
+newest_taken all place entry found table key more was =
+    newest_in_next found entry (items_of (take place all)) table key was
+    ∙ ap (λ (xs : List Held). newest (items_of (take place all) ++ xs) table key) (sym (append-nil (items_in entry)))
+    ∙ ap (λ (xs : List Held). newest xs table key) (sym (flat_map-append items_in (take place all) (entry ∷ [])) ∙ ap items_of (sym more))
+
+-- something is kept of a record that has an item
+pub kept_some : (item : Held) (items : List Held) (table : ℕ) (key : List ℕ) → is_of table key item ≡ true → None ≡ kept (item ∷ items) table key → ⊥
+kept_some item items table key here none = go (newest (item ∷ items) table key) refl none
+  where
+    go : (o : Option Held) → newest (item ∷ items) table key ≡ o → None ≡ kept_of o (many_of (item ∷ items) table key) → ⊥
+    go None found told = false≢true (sym (none_in none_found (item ∷ items) table key found item (first_stands item items)) ∙ here)
+    go (Some x) found told = cc told

@@ -6,7 +6,9 @@ use Rattle.std.specs.Ordering.{nat_cmp, ordering_then}
 use Rattle.std.specs.Cmp.Lexicographic.{slice_cmp}
 use Rattle.std.specs.BTreeMap.{BTreeMap, get}
 use Rattle.rk_types.specs.declared.held.Held.{Held}
-use Rattle.rk_overlay.specs.Newest.{is_of, newest}
+use Rattle.rk_entry.specs.declared.entry.Entry.{Entry}
+use Rattle.rk_entry.specs.declared.entry.Entry.TheVariants as entries
+use Rattle.rk_overlay.specs.Newest.{is_of, newer_of, newest}
 use Rattle.rk_master.specs.declared.staged_items.Kept.{Kept}
 
 -- a table and a key of it
@@ -42,3 +44,8 @@ kept_with (Some old) item =
 -- a tree keeps just what is kept of items
 abbrev pub IsKept : BTreeMap Name Kept → List Held → Type 0
 IsKept tree items = (table : ℕ) (key : List ℕ) → get name_cmp tree (table, key) ≡ kept items table key
+
+-- the newer of what was found of a record and of an entry, where that is an item of the record
+abbrev pub newer_in : Option Held → Entry → ℕ → List ℕ → Option Held
+newer_in found (entries.Held item) table key = if is_of table key item then Some (newer_of found item) else found
+newer_in found _ table key = found
