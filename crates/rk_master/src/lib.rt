@@ -4,10 +4,13 @@
 //! the calls that wait for their entries, by the place of the entry, and finds by a search whether a call is staged.
 #![tactic(auto)]
 
+pub use choice::Seen;
 pub use staged_calls::StagedCalls;
 pub use staged_items::Kept;
+pub use tablet_lane::TabletLane;
 
 mod call_counts;
 mod choice;
 mod staged_calls;
 mod staged_items;
+mod tablet_lane;

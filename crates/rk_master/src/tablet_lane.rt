@@ -1,0 +1,41 @@
+ghost use Rattle.std.specs.Prelude.{◌≡◌, Option, is_some};
+ghost use Rattle.rk_types.specs.Hashing.{hash_of};
+ghost use Rattle.rk_types.specs.declared.held.Held.{Held as Item};
+ghost use Rattle.rk_world.specs.Ranges.{has_key};
+ghost use Rattle.rk_world.specs.Master.{serves_key};
+ghost use Rattle.rk_world.specs.Requests.{is_known as is_known_lem};
+ghost use Rattle.rk_master.specs.Parts.{tablet_of};
+
+use crate::choice::is_receiving;
+use rk_done::Completions;
+use rk_priority::Wanted;
+use rk_transfer::Handover;
+use rk_types::{Key, Token, bucket_of, hash};
+
+/// What a master has of a tablet, as far as calls need it.
+#[derive(Drop)]
+pub struct TabletLane {
+    pub handover: Handover,
+    pub completions: Completions,
+    pub wanted: Wanted,
+    pub token: Token,
+}
+
+impl TabletLane {
+    /// Whether the tablet is served here and has the key.
+    pub(crate) fn serves(&self, table: u64, key: &Key) -> bool
+        ensures { result ≡ serves_key table key.now (tablet_of self.now) }
+    {
+        self.handover.serves() && self.handover.range.has(table, hash(key.bytes()))
+    }
+
+    /// Whether what was found of a record with this hash is all that there is.
+    pub(crate) fn is_known(&self, hash: u64, is_there: bool) -> bool
+        ensures { (state : Option Item) → is_there ≡ is_some state → result ≡ is_known_lem (tablet_of self.now) hash state }
+    {
+        is_there
+            || !is_receiving(self.handover.role)
+            || self.wanted.resolved(hash)
+            || bucket_of(hash) < self.token.bucket
+    }
+}
