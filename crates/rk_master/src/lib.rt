@@ -5,12 +5,14 @@
 #![tactic(auto)]
 
 pub use choice::Seen;
+pub use master_lane::MasterLane;
 pub use staged_calls::StagedCalls;
 pub use staged_items::Kept;
 pub use tablet_lane::TabletLane;
 
 mod call_counts;
 mod choice;
+mod master_lane;
 mod staged_calls;
 mod staged_items;
 mod tablet_lane;
