@@ -4,13 +4,14 @@ ghost use Rattle.std.specs.Option.{option_copied};
 ghost use Rattle.rk_model.specs.Merged.{is_mutation as is_mutation_lem};
 ghost use Rattle.rk_overlay.specs.Live.{record_of};
 ghost use Rattle.rk_types.specs.declared.held.Held.{Held as Item};
+ghost use Rattle.rk_world.specs.Ends.{outcome_of as outcome_of_lem};
 ghost use Rattle.rk_world.specs.Requests as requests;
 ghost use Rattle.rk_master.specs.Parts.{seen_of, tablet_of};
 ghost use Rattle.rk_world.specs.RoleTests.{is_receiving as is_receiving_lem};
 
 use crate::tablet_lane::TabletLane;
 use rk_transfer::Role;
-use rk_types::{Call, Held, NoMemory, Op, Outcome, hash};
+use rk_types::{Call, End, Held, NoMemory, Op, Outcome, hash};
 use rk_world::Choice;
 
 /// Whether an operation is a mutation: all but a read are.
@@ -135,6 +136,18 @@ pub(crate) fn fresh_read(
         return Ok(Choice::Wants(number));
     }
     Ok(Choice::Reads(read_of(there)?))
+}
+
+/// The outcome that an end tells.
+pub(crate) fn outcome_of(end: End) -> Outcome
+    ensures { result ≡ outcome_of_lem end }
+{
+    match end {
+        End::Written(version) => Outcome::Written(version),
+        End::Deleted(version) => Outcome::Deleted(version),
+        End::Absent => Outcome::Absent,
+        End::Mismatch(version) => Outcome::Mismatch(version),
+    }
 }
 
 // What a removal does.

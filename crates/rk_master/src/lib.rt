@@ -16,3 +16,5 @@ mod master_lane;
 mod staged_calls;
 mod staged_items;
 mod tablet_lane;
+#[cfg(test)]
+mod tests;

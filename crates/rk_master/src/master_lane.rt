@@ -1,4 +1,5 @@
-ghost use Rattle.std.specs.Prelude.{◌≡◌, List, Option, true, IfOk};
+ghost use Rattle.std.specs.Prelude.{◌≡◌, ◌≤◌, List, Option, true, replicate, IfOk};
+ghost use Rattle.rk_log.specs.Known.{nothing};
 ghost use Rattle.std.specs.List.{find};
 ghost use Rattle.std.specs.Option.{option_copied, option_map, option_or};
 ghost use Rattle.rk_types.specs.declared.held.Held.{Held as Item};
@@ -7,7 +8,7 @@ ghost use Rattle.rk_overlay.specs.Newest.{newest};
 ghost use Rattle.rk_table.specs.Items.{found};
 ghost use Rattle.rk_table.specs.Sorted.{items_of as records_of};
 ghost use Rattle.rk_done.specs.Completions.{look as look_lem};
-ghost use Rattle.rk_world.specs.Master.{serves_key};
+ghost use Rattle.rk_world.specs.Master.{new_master, serves_key};
 ghost use Rattle.rk_world.specs.Requests as requests;
 ghost use Rattle.rk_master.specs.Kept.{IsKept};
 ghost use Rattle.rk_master.specs.Parts.{seen_of, tablet_of, tablets_of};
@@ -17,10 +18,12 @@ use crate::staged_calls::StagedCalls;
 use crate::staged_items::StagedItems;
 use crate::tablet_lane::TabletLane;
 use rk_done::Look;
-use rk_log::MasterLog;
+use rk_log::{MOST_BACKUPS, MasterLog};
+use rk_message::{Body, Message, Reply};
 use rk_table::{RecordTable, SortedTable};
-use rk_types::{Call, Key, NoMemory};
+use rk_types::{Answer, Call, Key, NoMemory, Node};
 use rk_world::Choice;
+use std::alloc::Global;
 use std::marker::Model;
 
 /// A master in one lane. Contracts see the master that the definitions speak of, with nothing pulled, gathered or
@@ -49,6 +52,39 @@ impl Model for MasterLane {
 }
 
 impl MasterLane {
+    /// A master that knows nothing yet, with so many backups, which are numbered from 1.
+    pub fn new(alloc: Global, number: u8, backups: u8) -> Result<MasterLane, NoMemory>
+        requires first { 1 ≤ backups }
+        requires last { backups ≤ MOST_BACKUPS }
+        ensures { IfOk result (λ master. master ≡ new_master number (replicate backups nothing)) }
+    {
+        Ok(MasterLane {
+            number,
+            log: MasterLog::new(alloc, backups)?,
+            applied: 0,
+            calls: StagedCalls::new(alloc),
+            items: StagedItems::new(alloc),
+            records: SortedTable::new(alloc),
+            tablets: Vec::new(alloc),
+        })
+    }
+
+    /// An answer to the client of a call; stamp and place are filled in where the call's record is made.
+    pub fn answering(&self, call: &Call, answer: Answer) -> Message
+        ensures { result ≡ requests.answering self.now call.now answer }
+    {
+        Message {
+            from: Node::Master(self.number),
+            to: Node::Client(call.client),
+            body: Body::Reply(Reply {
+                seq: call.seq,
+                stamp: 0,
+                place: 0,
+                answer,
+            }),
+        }
+    }
+
     /// What is done with a call. A look at each tablet, and a few searches.
     pub fn choice_of(&self, call: &Call) -> Result<Choice, NoMemory>
         ensures { IfOk result (λ choice. choice ≡ requests.choice_of self.now call.now) }
