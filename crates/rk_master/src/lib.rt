@@ -12,6 +12,7 @@ pub use tablet_lane::TabletLane;
 
 mod call_counts;
 mod choice;
+mod commit;
 mod master_lane;
 mod staged_calls;
 mod staged_items;

@@ -3,13 +3,14 @@ ghost use Rattle.rk_types.specs.Hashing.{hash_of};
 ghost use Rattle.rk_types.specs.declared.held.Held.{Held as Item};
 ghost use Rattle.rk_world.specs.Ranges.{has_key};
 ghost use Rattle.rk_world.specs.Master.{serves_key};
+ghost use Rattle.rk_world.specs.RoleTests.{is_absent as is_absent_lem};
 ghost use Rattle.rk_world.specs.Requests.{is_known as is_known_lem};
 ghost use Rattle.rk_master.specs.Parts.{tablet_of};
 
 use crate::choice::is_receiving;
 use rk_done::Completions;
 use rk_priority::Wanted;
-use rk_transfer::Handover;
+use rk_transfer::{Handover, Role};
 use rk_types::{Key, Token, bucket_of, hash};
 
 /// What a master has of a tablet, as far as calls need it.
@@ -26,7 +27,21 @@ impl TabletLane {
     pub(crate) fn serves(&self, table: u64, key: &Key) -> bool
         ensures { result ≡ serves_key table key.now (tablet_of self.now) }
     {
-        self.handover.serves() && self.handover.range.has(table, hash(key.bytes()))
+        self.handover.serves() && self.has_key(table, key)
+    }
+
+    /// Whether the key is in the tablet's range.
+    pub(crate) fn has_key(&self, table: u64, key: &Key) -> bool
+        ensures { result ≡ has_key self.now.handover.range table key.now }
+    {
+        self.handover.range.has(table, hash(key.bytes()))
+    }
+
+    /// Whether the master does nothing for the tablet.
+    pub(crate) fn is_absent(&self) -> bool
+        ensures { result ≡ is_absent_lem self.now.handover.role }
+    {
+        matches!(self.handover.role, Role::Absent)
     }
 
     /// Whether what was found of a record with this hash is all that there is.
