@@ -1,5 +1,5 @@
 -- What the parts of a master in code stand for.
-use Rattle.std.specs.Prelude.{ℕ, List, Option, Some, None, is_some, map}
+use Rattle.std.specs.Prelude.{ℕ, List, [], ◌∷◌, Option, Some, None, is_some, map}
 use Rattle.rk_types.specs.declared.held.Held.{Held}
 use Rattle.rk_types.specs.NumberMap.{NumberMap}
 use Rattle.rk_world.specs.Tablet.{Tablet, no_tablet, pulling_from}
@@ -22,3 +22,8 @@ tablets_of tablets = map (λ entry. (entry.0, tablet_of entry.1)) tablets
 abbrev pub seen_of : Option Held → Option Seen
 seen_of None = None
 seen_of (Some item) = Some (record { version = item.version; is_live = is_some item.value })
+
+-- what is there, as a list
+abbrev pub listed : {X : Type 0} → Option X → List X
+listed None = []
+listed (Some thing) = thing ∷ []

@@ -13,6 +13,7 @@ pub use tablet_lane::TabletLane;
 mod call_counts;
 mod choice;
 mod commit;
+mod effects;
 mod master_lane;
 mod staged_calls;
 mod staged_items;

@@ -1,17 +1,17 @@
-ghost use Rattle.std.specs.Prelude.{◌≡◌, Option, is_some};
+ghost use Rattle.std.specs.Prelude.{◌≡◌, ◌<◌, ◌^◌, Option, is_some, OnOk, OnErr};
 ghost use Rattle.rk_types.specs.Hashing.{hash_of};
 ghost use Rattle.rk_types.specs.declared.held.Held.{Held as Item};
 ghost use Rattle.rk_world.specs.Ranges.{has_key};
 ghost use Rattle.rk_world.specs.Master.{serves_key};
 ghost use Rattle.rk_world.specs.RoleTests.{is_absent as is_absent_lem};
-ghost use Rattle.rk_world.specs.Requests.{is_known as is_known_lem};
+ghost use Rattle.rk_world.specs.Requests.{counted_up, is_known as is_known_lem, with_wanted};
 ghost use Rattle.rk_master.specs.Parts.{tablet_of};
 
 use crate::choice::is_receiving;
 use rk_done::Completions;
 use rk_priority::Wanted;
 use rk_transfer::{Handover, Role};
-use rk_types::{Key, Token, bucket_of, hash};
+use rk_types::{Key, NoMemory, Token, bucket_of, hash};
 
 /// What a master has of a tablet, as far as calls need it.
 #[derive(Drop)]
@@ -52,5 +52,25 @@ impl TabletLane {
             || !is_receiving(self.handover.role)
             || self.wanted.resolved(hash)
             || bucket_of(hash) < self.token.bucket
+    }
+
+    /// Wants a hash. After `NoMemory` nothing has changed.
+    pub(crate) fn want(&mut self, hash: u64) -> Result<(), NoMemory>
+        ensures ok { OnOk result (tablet_of self.new ≡ with_wanted (tablet_of self.old) hash) }
+        ensures err { OnErr result (tablet_of self.new ≡ tablet_of self.old) }
+    {
+        self.wanted.want(hash)?;
+        Ok(())
+    }
+
+    /// Gives the next version: the counter rises by one.
+    pub(crate) fn next_version(&mut self) -> u64
+        requires { self.old.handover.counter < 2 ^ 63 }
+        ensures version { result ≡ (tablet_of self.old).handover.counter }
+        ensures counter { tablet_of self.new ≡ counted_up (tablet_of self.old) }
+    {
+        let version = self.handover.counter;
+        self.handover.counter = version + 1;
+        version
     }
 }
