@@ -1,5 +1,5 @@
 -- What is kept of the staged items, after an item was staged at the end, and after the first one was applied.
-use Rattle.std.proofs.Common.{◌≡◌, ℕ, ◌+◌, ◌-◌, ◌≤◌, ◌<◌, Bool, true, false, cond, eqb, ltb, ◌&&◌, List, [], ◌∷◌, ◌++◌, take, Option, Some, None, is_some, refl, sym, ap, ◌∙◌, subst, ⊎_elim, arith}
+use Rattle.std.proofs.Common.{◌≡◌, ℕ, ◌+◌, ◌-◌, ◌≤◌, ◌<◌, Bool, true, false, cond, eqb, ltb, ◌&&◌, List, [], ◌∷◌, ◌++◌, take, Option, Some, None, is_some, refl, sym, ap, ◌∙◌, subst, ⊎_elim, arith, drop, slice_get, suc, zero}
 use Rattle.std.specs.Prelude.{bytes_eq}
 use Rattle.std.specs.Ordering.{nat_cmp, is_eq}
 use Rattle.std.specs.Cmp.{unsigned_tied, tied_then}
@@ -245,3 +245,28 @@ kept_some item items table key here none = go (newest (item ∷ items) table key
     go : (o : Option Held) → newest (item ∷ items) table key ≡ o → None ≡ kept_of o (many_of (item ∷ items) table key) → ⊥
     go None found told = false≢true (sym (none_in none_found (item ∷ items) table key found item (first_stands item items)) ∙ here)
     go (Some x) found told = cc told
+
+-- ---- an entry of the log is applied
+
+-- the entries from a place on are the one there and those behind it
+from_place : (all : List Entry) (place : ℕ) (entry : Entry) → slice_get all place ≡ Some entry → drop place all ≡ entry ∷ drop (place + 1) all
+from_place [] place entry at = cc at
+from_place (first ∷ all) zero entry at = let same : first ≡ entry = cc at in ap (λ (x : Entry). x ∷ all) same
+from_place (first ∷ all) (suc place) entry at = from_place all place entry at ∙ ap (λ (n : ℕ). entry ∷ drop n (first ∷ all)) (one_later place)
+  where
+    one_later : (n : ℕ) → suc (n + 1) ≡ suc n + 1
+    one_later n = omega arith
+
+-- an item, and those of the entries behind it
+pub items_from : (all : List Entry) (place : ℕ) (entry : Entry) (item : Held) → slice_get all place ≡ Some entry → entry ≡ entries.Held item → items_of (drop place all) ≡ item ∷ items_of (drop (place + 1) all)
+items_from all place entry item at is = ap items_of (from_place all place entry at) ∙ ap (λ (x : Entry). items_in x ++ items_of (drop (place + 1) all)) is
+
+-- an entry that is no item leaves the items as they are
+pub items_behind : (all : List Entry) (place : ℕ) (entry : Entry) → slice_get all place ≡ Some entry → ((item : Held) → entry ≡ entries.Held item → ⊥) → items_of (drop place all) ≡ items_of (drop (place + 1) all)
+items_behind all place entry at other = ap items_of (from_place all place entry at) ∙ none_in_it entry other
+  where
+    none_in_it : (e : Entry) → ((item : Held) → e ≡ entries.Held item → ⊥) → items_in e ++ items_of (drop (place + 1) all) ≡ items_of (drop (place + 1) all)
+    none_in_it (entries.Held item) not_it = absurd (not_it item refl)
+    none_in_it (entries.Refused refused) not_it = refl
+    none_in_it (entries.Carried carried) not_it = refl
+    none_in_it (entries.Joined joined) not_it = refl

@@ -1,12 +1,15 @@
 // What a commit does with an entry: the end that it tells, noted in each tablet that has the key.
-ghost use Rattle.std.specs.Prelude.{◌≡◌, ◌<◌, slice_get};
+ghost use Rattle.std.specs.Prelude.{◌≡◌, ◌<◌, ◌+◌, length, drop, slice_get, OnOk, OnErr};
 ghost use Rattle.rk_world.specs.Commits.{noting};
-ghost use Rattle.rk_world.specs.Ends.{end_of_item as item_end_lem, end_of_refusal as refusal_end_lem, told_by};
+ghost use Rattle.rk_world.specs.Ends.{end_of_item as item_end_lem, end_of_refusal as refusal_end_lem, items_of, told_by};
+ghost use Rattle.rk_master.specs.Kept.{IsKept};
 ghost use Rattle.rk_master.specs.Parts.{tablet_of};
 
+use crate::staged_items::StagedItems;
 use crate::tablet_lane::TabletLane;
 use rk_entry::{Entry, Refused};
-use rk_types::{Call, End, Ended, Held};
+use rk_log::MasterLog;
+use rk_types::{Call, End, Ended, Held, NoMemory};
 
 /// The first end that an entry tells.
 pub(crate) fn first_end(entry: &Entry) -> Option<Ended>
@@ -58,4 +61,30 @@ pub(crate) fn note(tablet: &mut TabletLane, call: &Call, end: Ended)
         return;
     }
     tablet.completions.note(end);
+}
+
+/// The entry at a place is applied: an item is staged no more. After `NoMemory` nothing has changed.
+pub(crate) fn pass(items: &mut StagedItems, log: &MasterLog, place: u64) -> Result<(), NoMemory>
+    requires { place < length log.now.entries }
+    ensures ok { OnOk result (IsKept items.old.newest (items_of (drop place log.now.entries))
+        → IsKept items.new.newest (items_of (drop (place + 1) log.now.entries))) }
+    ensures err { OnErr result (items.new ≡ items.old) }
+{
+    let Entry::Held(held) = log.entry(place) else {
+        return Ok(());
+    };
+    let name = (held.table, held.key.duplicate()?);
+    let rest = log.entries_from(next_place(log, place));
+    items.subtract(&name, held.version, rest);
+    Ok(())
+}
+
+/// The place after this one, where an entry stands.
+pub(crate) fn next_place(log: &MasterLog, place: u64) -> u64
+    requires { place < length log.now.entries }
+    ensures { result ≡ place + 1 }
+{
+    let length = log.length();
+    prove!(place < length);
+    place + 1
 }

@@ -1,7 +1,9 @@
 //! A master in one lane: what it makes of clients' requests and of what backups tell.
 //!
-//! It stands on `rk_world`, whose definitions say what a master does. What it promises: [`StagedCalls`] is the map of
-//! the calls that wait for their entries, by the place of the entry, and finds by a search whether a call is staged.
+//! It stands on `rk_world`, whose definitions say what a master does. What it promises: [`MasterLane::choice_of`] is the
+//! choice of the definitions, found by a look at each tablet and a few searches; [`StagedCalls`] is the map of the calls
+//! that wait for their entries, by the place of the entry, and finds by a search whether a call is staged;
+//! [`MasterLane::apply_next`] applies one more entry, with no walk over the log.
 #![tactic(auto)]
 
 pub use choice::Seen;

@@ -1,4 +1,4 @@
-ghost use Rattle.std.specs.Prelude.{◌≡◌, ◌≤◌, List, Option, true, replicate, IfOk};
+ghost use Rattle.std.specs.Prelude.{◌≡◌, ◌≤◌, ◌<◌, List, Option, true, length, replicate, IfOk, OnOk, OnErr};
 ghost use Rattle.rk_log.specs.Known.{nothing};
 ghost use Rattle.std.specs.List.{find};
 ghost use Rattle.std.specs.Option.{option_copied, option_map, option_or};
@@ -8,12 +8,14 @@ ghost use Rattle.rk_overlay.specs.Newest.{newest};
 ghost use Rattle.rk_table.specs.Items.{found};
 ghost use Rattle.rk_table.specs.Sorted.{items_of as records_of};
 ghost use Rattle.rk_done.specs.Completions.{look as look_lem};
+ghost use Rattle.rk_world.specs.Commits.{with_applied};
 ghost use Rattle.rk_world.specs.Master.{new_master, serves_key};
 ghost use Rattle.rk_world.specs.Requests as requests;
 ghost use Rattle.rk_master.specs.Kept.{IsKept};
 ghost use Rattle.rk_master.specs.Parts.{seen_of, tablet_of, tablets_of};
 
 use crate::choice::{Seen, fresh_mutation, fresh_read, is_mutation};
+use crate::commit::{next_place, pass};
 use crate::staged_calls::StagedCalls;
 use crate::staged_items::StagedItems;
 use crate::tablet_lane::TabletLane;
@@ -98,6 +100,17 @@ impl MasterLane {
         }
         let there = self.records.get(call.table, &call.key);
         fresh_read(entry.0, &entry.1, call, there)
+    }
+
+    /// One more entry is applied: its item is staged no more. After `NoMemory` nothing has changed.
+    pub fn apply_next(&mut self) -> Result<(), NoMemory>
+        requires { self.old.applied < length self.old.log.entries }
+        ensures ok { OnOk result (self.new ≡ with_applied self.old) }
+        ensures err { OnErr result (self.new ≡ self.old) }
+    {
+        pass(&mut self.items, &self.log, self.applied)?;
+        self.applied = next_place(&self.log, self.applied);
+        Ok(())
     }
 
     // What is done with a mutation at a tablet.
