@@ -1,4 +1,4 @@
-ghost use Rattle.std.specs.Prelude.{◌≡◌, ◌+◌, ◌<◌, ◌≤◌, ◌^◌, length, replicate, slice_get, Some, None, IfOk, OnOk, OnErr, MatchResult};
+ghost use Rattle.std.specs.Prelude.{◌≡◌, ◌+◌, ◌<◌, ◌≤◌, ◌^◌, length, drop, replicate, slice_get, Some, None, IfOk, OnOk, OnErr, MatchResult};
 ghost use Rattle.rk_log.specs.Known.{nothing};
 ghost use Rattle.rk_entry.specs.Spelling.{spelled};
 ghost use Rattle.rk_entry.specs.Lawful.{IsLawfulEntry};
@@ -213,6 +213,14 @@ impl MasterLog {
         ensures { slice_get self.now.entries place ≡ Some result.now }
     {
         &self.entries[place as usize]
+    }
+
+    /// The entries from a place on, lent in constant time.
+    pub fn entries_from(&self, place: u64) -> &[Entry]
+        requires { place ≤ length self.now.entries }
+        ensures { result.now ≡ drop place self.now.entries }
+    {
+        self.entries.split_at(place as usize).1
     }
 
     /// The bytes of a main or side segment, lent in constant time; none where there is no segment of this number.

@@ -25,28 +25,13 @@ use Rattle.rk_overlay.specs.Newest.{newest}
 use Rattle.rk_message.specs.declared.calls.Request.{Request}
 use Rattle.rk_message.specs.declared.message.Body.TheVariants as bodies
 use Rattle.rk_message.specs.declared.message.Message.{Message}
+use Rattle.rk_world.specs.declared.choice.Choice.{Choice}
+use Rattle.rk_world.specs.declared.choice.Choice.TheVariants.{Redirects, Repeats, Ignores, Wants, Reads, Writes, Refuses}
 use Rattle.rk_world.specs.Ends.{outcome_of, items_of}
 use Rattle.rk_world.specs.Tablet.{Tablet}
 use Rattle.rk_world.specs.RoleTests.{is_receiving}
 use Rattle.rk_world.specs.Master.{Master, tablet_at, staged, is_staged, serving, with_tablet, with_appended, with_call}
 use Rattle.rk_world.specs.Worked.{Worked, changed, sending, from_master}
-
--- what is to be done with a call, at the tablet of this number
-pub data Choice : Type 0 where
-  -- no tablet that is served here has the key: the client is told that it has moved
-  Redirects : Choice
-  -- the call has ended so
-  Repeats : (end : End) → Choice
-  -- nothing is done: the call is staged, or a later one of its client has ended
-  Ignores : Choice
-  -- the record may not have arrived yet: its hash is wanted
-  Wants : (tablet : ℕ) → Choice
-  -- the read tells this
-  Reads : (outcome : Outcome) → Choice
-  -- the mutation writes or removes the record
-  Writes : (tablet : ℕ) (value : Option (List ℕ)) → Choice
-  -- the mutation is refused: it found this version, or was the removal of a record that is not there
-  Refuses : (found : ℕ) (absent : Bool) → Choice
 
 -- the item of a key that a call finds: for a mutation the newest staged one, else that of the records; for a read that of
 -- the records

@@ -5,10 +5,12 @@
 //! proved to do what it says, and laws are proved of it.
 #![tactic(auto)]
 
+pub use choice::Choice;
 pub use error::{MoveError, StepError};
 pub use event::{Event, Seen, Taken};
 pub use work::{Merged, Reading, Served};
 
+mod choice;
 mod error;
 mod event;
 mod work;

@@ -1,0 +1,51 @@
+-- What is done with a call, at the tablet that is served here and has its key.
+use Rattle.std.proofs.Common.{◌≡◌, ℕ, Bool, true, false, cond, List, Option, Some, None, sym, ap, ◌∙◌, subst}
+use Rattle.std.specs.Option.{option_or, option_map, option_copied}
+use Rattle.std.specs.List.{find}
+use denote.Ref.{Bor}
+use Rattle.rk_types.specs.declared.call.Call.{Call}
+use Rattle.rk_model.specs.Merged.{is_mutation}
+use Rattle.rk_overlay.specs.Newest.{newest}
+use Rattle.rk_table.specs.Items.{found}
+use Rattle.rk_done.specs.Completions.{look}
+use Rattle.rk_world.specs.Ends.{items_of}
+use Rattle.rk_world.specs.Tablet.{Tablet}
+use Rattle.rk_world.specs.Master.{Master, serving, serves_key, staged}
+use Rattle.rk_master.specs.declared.tablet_lane.TabletLane.{TabletLane}
+use Rattle.rk_master.specs.Parts.{tablet_of, tablets_of}
+use Rattle.rk_world.specs.Requests.{choice_of, choice_at, mutation_choice, fresh_choice}
+
+-- a row of the tablets that is lent
+abbrev Row : Type 0
+Row = ℕ × TabletLane
+
+-- the tablet that a search found is the one that is served
+pub served_found : (seen master : Master) (rows lent : List Row) (table : ℕ) (key : List ℕ) (result : Option (Bor Row)) (row : Bor Row)
+    → seen.tablets ≡ tablets_of rows → lent ≡ rows
+    → option_map (λ entry. (entry.0, tablet_of entry.1)) (option_copied result) ≡ find (λ entry. serves_key table key entry.1) (tablets_of lent)
+    → result ≡ Some row → seen ≡ master → serving master table key ≡ Some (row.now.0, tablet_of row.now.1)
+served_found seen master rows lent table key result row tablets_are lent_is searched is view_is =
+    subst (λ (m : Master). serving m table key ≡ Some (row.now.0, tablet_of row.now.1)) view_is
+    (ap (find (λ entry. serves_key table key entry.1)) tablets_are
+    ∙ sym (searched ∙ ap (λ (some_rows : List Row). find (λ entry. serves_key table key entry.1) (tablets_of some_rows)) lent_is)
+    ∙ ap (λ (r : Option (Bor Row)). option_map (λ entry. (entry.0, tablet_of entry.1)) (option_copied r)) is)
+
+-- a mutation
+pub mutation_chosen : (master : Master) (call : Call) (number : ℕ) (tablet : Tablet) → serving master call.table call.key ≡ Some (number, tablet) → is_mutation call.op ≡ true
+    → mutation_choice master number tablet call (look tablet.completions call.client call.seq) ≡ choice_of master call
+mutation_chosen master call number tablet served mutates =
+    sym (
+    ap (choice_at master call) served
+    ∙ ap (λ (b : Bool). cond b (mutation_choice master number tablet call (look tablet.completions call.client call.seq))
+    (fresh_choice number tablet call (option_or (cond b (newest (items_of (staged master)) call.table call.key) None) (found call.table call.key master.records)))) mutates
+    )
+
+-- a read
+pub read_chosen : (master : Master) (call : Call) (number : ℕ) (tablet : Tablet) → serving master call.table call.key ≡ Some (number, tablet) → is_mutation call.op ≡ false
+    → fresh_choice number tablet call (found call.table call.key master.records) ≡ choice_of master call
+read_chosen master call number tablet served reads =
+    sym (
+    ap (choice_at master call) served
+    ∙ ap (λ (b : Bool). cond b (mutation_choice master number tablet call (look tablet.completions call.client call.seq))
+    (fresh_choice number tablet call (option_or (cond b (newest (items_of (staged master)) call.table call.key) None) (found call.table call.key master.records)))) reads
+    )

@@ -1,0 +1,12 @@
+use Rattle.std.proofs.Common.{ap, ◌∙◌, nat_lt, ℕ}
+use Rattle.rk_types.specs.NumberMap.{NumberMap}
+use Rattle.rk_types.specs.declared.call.Call.{Call}
+use Rattle.rk_master.specs.Counts.{has_call}
+use Rattle.rk_master.proofs.Counting.{some_counted}
+use Rattle.rk_master.proofs.staged_calls.StagedCalls.is_staged.Goals as goal
+
+pub returns : goal.returns
+returns c =
+    ap (λ (n : ℕ). nat_lt 0 n) (c.count.ensures ∙ c.self.invariant.counts_are c.args.client c.args.seq)
+    ∙ some_counted c.self.inside.calls c.args.client c.args.seq
+    ∙ ap (λ (calls : NumberMap Call). has_call calls c.args.client c.args.seq) c.self.view_is

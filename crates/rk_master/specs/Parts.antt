@@ -1,0 +1,29 @@
+-- What the parts of a master in code stand for.
+use Rattle.std.specs.Prelude.{ℕ, List, [], ◌∷◌, Option, Some, None, is_some, map}
+use Rattle.rk_types.specs.declared.held.Held.{Held}
+use Rattle.rk_types.specs.NumberMap.{NumberMap}
+use Rattle.rk_world.specs.Tablet.{Tablet, no_tablet, pulling_from}
+use Rattle.rk_master.specs.declared.choice.Seen.{Seen}
+use Rattle.rk_master.specs.declared.tablet_lane.TabletLane.{TabletLane}
+
+-- the tablet, with nothing pulled, gathered or merged
+abbrev pub tablet_of : TabletLane → Tablet
+tablet_of lane = record no_tablet {
+  handover = lane.handover;
+  completions = lane.completions.completions;
+  pulling = record (pulling_from 0) { token = lane.token; hashes = lane.wanted };
+}
+
+-- the tablets by number
+abbrev pub tablets_of : List (ℕ × TabletLane) → NumberMap Tablet
+tablets_of tablets = map (λ entry. (entry.0, tablet_of entry.1)) tablets
+
+-- what a mutation sees of an item
+abbrev pub seen_of : Option Held → Option Seen
+seen_of None = None
+seen_of (Some item) = Some (record { version = item.version; is_live = is_some item.value })
+
+-- what is there, as a list
+abbrev pub listed : {X : Type 0} → Option X → List X
+listed None = []
+listed (Some thing) = thing ∷ []

@@ -1,0 +1,24 @@
+//! A master in one lane: what it makes of clients' requests and of what backups tell.
+//!
+//! It stands on `rk_world`, whose definitions say what a master does. What it promises: [`MasterLane::choice_of`] is the
+//! choice of the definitions, found by a look at each tablet and a few searches; [`StagedCalls`] is the map of the calls
+//! that wait for their entries, by the place of the entry, and finds by a search whether a call is staged;
+//! [`MasterLane::apply_next`] applies one more entry, with no walk over the log.
+#![tactic(auto)]
+
+pub use choice::Seen;
+pub use master_lane::MasterLane;
+pub use staged_calls::StagedCalls;
+pub use staged_items::Kept;
+pub use tablet_lane::TabletLane;
+
+mod call_counts;
+mod choice;
+mod commit;
+mod effects;
+mod master_lane;
+mod staged_calls;
+mod staged_items;
+mod tablet_lane;
+#[cfg(test)]
+mod tests;

@@ -1,0 +1,76 @@
+ghost use Rattle.std.specs.Prelude.{◌≡◌, ◌<◌, ◌^◌, Option, is_some, OnOk, OnErr};
+ghost use Rattle.rk_types.specs.Hashing.{hash_of};
+ghost use Rattle.rk_types.specs.declared.held.Held.{Held as Item};
+ghost use Rattle.rk_world.specs.Ranges.{has_key};
+ghost use Rattle.rk_world.specs.Master.{serves_key};
+ghost use Rattle.rk_world.specs.RoleTests.{is_absent as is_absent_lem};
+ghost use Rattle.rk_world.specs.Requests.{counted_up, is_known as is_known_lem, with_wanted};
+ghost use Rattle.rk_master.specs.Parts.{tablet_of};
+
+use crate::choice::is_receiving;
+use rk_done::Completions;
+use rk_priority::Wanted;
+use rk_transfer::{Handover, Role};
+use rk_types::{Key, NoMemory, Token, bucket_of, hash};
+
+/// What a master has of a tablet, as far as calls need it.
+#[derive(Drop)]
+pub struct TabletLane {
+    pub handover: Handover,
+    pub completions: Completions,
+    pub wanted: Wanted,
+    pub token: Token,
+}
+
+impl TabletLane {
+    /// Whether the tablet is served here and has the key.
+    pub(crate) fn serves(&self, table: u64, key: &Key) -> bool
+        ensures { result ≡ serves_key table key.now (tablet_of self.now) }
+    {
+        self.handover.serves() && self.has_key(table, key)
+    }
+
+    /// Whether the key is in the tablet's range.
+    pub(crate) fn has_key(&self, table: u64, key: &Key) -> bool
+        ensures { result ≡ has_key self.now.handover.range table key.now }
+    {
+        self.handover.range.has(table, hash(key.bytes()))
+    }
+
+    /// Whether the master does nothing for the tablet.
+    pub(crate) fn is_absent(&self) -> bool
+        ensures { result ≡ is_absent_lem self.now.handover.role }
+    {
+        matches!(self.handover.role, Role::Absent)
+    }
+
+    /// Whether what was found of a record with this hash is all that there is.
+    pub(crate) fn is_known(&self, hash: u64, is_there: bool) -> bool
+        ensures { (state : Option Item) → is_there ≡ is_some state → result ≡ is_known_lem (tablet_of self.now) hash state }
+    {
+        is_there
+            || !is_receiving(self.handover.role)
+            || self.wanted.resolved(hash)
+            || bucket_of(hash) < self.token.bucket
+    }
+
+    /// Wants a hash. After `NoMemory` nothing has changed.
+    pub(crate) fn want(&mut self, hash: u64) -> Result<(), NoMemory>
+        ensures ok { OnOk result (tablet_of self.new ≡ with_wanted (tablet_of self.old) hash) }
+        ensures err { OnErr result (tablet_of self.new ≡ tablet_of self.old) }
+    {
+        self.wanted.want(hash)?;
+        Ok(())
+    }
+
+    /// Gives the next version: the counter rises by one.
+    pub(crate) fn next_version(&mut self) -> u64
+        requires { self.old.handover.counter < 2 ^ 63 }
+        ensures version { result ≡ (tablet_of self.old).handover.counter }
+        ensures counter { tablet_of self.new ≡ counted_up (tablet_of self.old) }
+    {
+        let version = self.handover.counter;
+        self.handover.counter = version + 1;
+        version
+    }
+}

@@ -1,0 +1,20 @@
+use rk_types::{End, Outcome, Value};
+
+/// What is to be done with a call, at the tablet of a number.
+#[derive(Debug, Drop, PartialEq, Eq)]
+pub enum Choice {
+    /// No tablet that is served here has the key: the client is told that it has moved.
+    Redirects,
+    /// The call has ended so.
+    Repeats(End),
+    /// Nothing is done: the call is staged, or a later one of its client has ended.
+    Ignores,
+    /// The record may not have arrived at this tablet yet: its hash is wanted.
+    Wants(u32),
+    /// The read tells this.
+    Reads(Outcome),
+    /// The mutation writes or removes the record at this tablet.
+    Writes(u32, Option<Value>),
+    /// The mutation is refused: it found this version, or was the removal of a record that is not there.
+    Refuses(u64, bool),
+}
