@@ -3,7 +3,9 @@
 //! It stands on `rk_world`, whose definitions say what a master does. What it promises: [`MasterLane::choice_of`] is the
 //! choice of the definitions, found by a look at each tablet and a few searches; [`StagedCalls`] is the map of the calls
 //! that wait for their entries, by the place of the entry, and finds by a search whether a call is staged;
-//! [`MasterLane::apply_next`] applies one more entry, with no walk over the log.
+//! [`MasterLane::apply_next`] counts one more entry as applied, with no walk over the log.
+//!
+//! It is a first part: nothing adds a tablet or stages a call yet.
 #![tactic(auto)]
 
 pub use choice::Seen;

@@ -87,7 +87,7 @@ impl MasterLane {
         }
     }
 
-    /// What is done with a call. A look at each tablet, and a few searches.
+    /// What is done with a call; nothing is changed. A look at each tablet, and a few searches.
     pub fn choice_of(&self, call: &Call) -> Result<Choice, NoMemory>
         ensures { IfOk result (λ choice. choice ≡ requests.choice_of self.now call.now) }
     {
@@ -102,7 +102,7 @@ impl MasterLane {
         fresh_read(entry.0, &entry.1, call, there)
     }
 
-    /// One more entry is applied: its item is staged no more. After `NoMemory` nothing has changed.
+    /// One more entry counts as applied, and its item is staged no more. After `NoMemory` nothing has changed.
     pub fn apply_next(&mut self) -> Result<(), NoMemory>
         requires { self.old.applied < length self.old.log.entries }
         ensures ok { OnOk result (self.new ≡ with_applied self.old) }

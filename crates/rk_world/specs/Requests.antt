@@ -5,7 +5,6 @@ use Rattle.rk_types.specs.Hashing.{hash_of, bucket_of}
 use Rattle.rk_types.specs.declared.call.Answer.{Answer}
 use Rattle.rk_types.specs.declared.call.Answer.TheVariants as answers
 use Rattle.rk_types.specs.declared.call.Call.{Call}
-use Rattle.rk_types.specs.declared.call.End.{End}
 use Rattle.rk_types.specs.declared.call.Op.{Op}
 use Rattle.rk_types.specs.declared.call.Op.TheVariants as ops
 use Rattle.rk_types.specs.declared.call.Outcome.{Outcome}
