@@ -1,5 +1,5 @@
--- Well formed: a lane stays so when messages are sent that are, as where the coordinator answers a Lookup.
-use Rattle.std.proofs.Common.{◌≡◌, ◌≤◌, ◌==◌, ℕ, w8, w32, Bool, true, false, ◌||◌, cond, fold, List, [], ◌∷◌, All, Option, None, Some, refl, sym, ap, subst, ◌∙◌, arith}
+-- Well formed: a lane stays so when the coordinator answers a Lookup.
+use Rattle.std.proofs.Common.{◌≡◌, ◌≤◌, ◌==◌, ℕ, w8, w32, Bool, true, false, ◌||◌, cond, List, [], ◌∷◌, All, Option, None, Some, refl, sym, ap, subst, ◌∙◌, arith}
 use Rattle.std.proofs.lemmas.Bool.{eq-eqb}
 use Rattle.std.proofs.lemmas.List.Elements.{All-cons, All-head, All-nil, All-tail}
 use Rattle.rk_types.specs.NumberMap.{get}
@@ -15,46 +15,18 @@ use Rattle.rk_tablet_map.specs.declared.phase.Phase.TheVariants.{Owned, Opening,
 use Rattle.rk_tablet_map.specs.declared.row.Row.{Row}
 use Rattle.rk_message.specs.Calls.{IsLawfulOwner}
 use Rattle.rk_message.specs.Fields.{IsAnyRange, IsLawfulNode}
-use Rattle.rk_message.specs.Wire.{Traffic, with_message}
 use Rattle.rk_message.specs.declared.calls.Lookup.{Lookup}
 use Rattle.rk_message.specs.declared.message.Body.TheVariants as bodies
-use Rattle.rk_message.specs.declared.message.Message.{Message}
 use Rattle.rk_world.specs.declared.event.Event.TheVariants as events
 use Rattle.rk_world.specs.Backup.{Called}
 use Rattle.rk_world.specs.Coordinator.{from_coordinator, owner_of}
 use Rattle.rk_world.specs.CoordinatorStep.{located}
-use Rattle.rk_world.specs.Formed.{IsFormedMessage, IsFormedWire, IsThere, IsWellFormed, owners_told}
+use Rattle.rk_world.specs.Formed.{IsFormedMessage, IsThere, IsWellFormed, owners_told}
 use Rattle.rk_world.specs.Notices.{names}
 use Rattle.rk_world.specs.Premises.{IsMaster, MOST_MASTERS}
-use Rattle.rk_world.specs.Step.{delivered, happened, with_sends}
+use Rattle.rk_world.specs.Step.{delivered, happened}
 use Rattle.rk_world.specs.World.{World}
-use Rattle.rk_laws_parts.proofs.Formed.{wire_sent}
-
--- ---- messages that are sent
-
-wire_of_all : (masters backups : ℕ) (wire : Traffic) (messages : List Message) → IsFormedWire masters backups wire → All (IsFormedMessage masters backups) messages → IsFormedWire masters backups (fold (λ w m. with_message m w) wire messages)
-wire_of_all masters backups wire [] formed all = formed
-wire_of_all masters backups wire (first ∷ rest) formed all =
-    wire_of_all masters backups (with_message first wire) rest
-    (wire_sent masters backups wire first formed (All-head (IsFormedMessage masters backups) first rest all))
-    (All-tail (IsFormedMessage masters backups) first rest all)
-
--- a lane stays well formed when messages are sent that are
-pub formed_sends : (w : World) (messages : List Message) → All (IsFormedMessage w.coordinator.masters w.backup_count) messages → IsWellFormed w → IsWellFormed (with_sends w messages).world
-formed_sends w messages all formed = record {
-  masters_are = formed.masters_are;
-  few_masters = formed.few_masters;
-  backed = formed.backed;
-  few_backups = formed.few_backups;
-  masters = formed.masters;
-  coordinator = formed.coordinator;
-  ledger = formed.ledger;
-  wire = wire_of_all w.coordinator.masters w.backup_count w.wire messages formed.wire all;
-  crashed = formed.crashed;
-  base = formed.base;
-}
-
--- ---- the answer to a Lookup
+use Rattle.rk_laws_parts.proofs.Formed.{formed_sends}
 
 -- what holds of all rows holds of the one that is found
 all_with : (P : Row → Type 0) (row : Row) (rows : List Row) (table hash : ℕ) → row_with rows table hash ≡ Some row → All P rows → P row
