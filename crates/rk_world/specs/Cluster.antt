@@ -18,7 +18,7 @@ use Rattle.rk_world.specs.Client.{busy, Session, new_session, session_calling, n
 use Rattle.rk_world.specs.World.{World, new_world, live_masters}
 use Rattle.rk_world.specs.Step.{step, Stepped}
 use Rattle.rk_world.specs.Calls.{ask, accept, Visited}
-use Rattle.rk_world.specs.Premises.{MayHappen, IsLawfulCall, IsAfterStart}
+use Rattle.rk_world.specs.Premises.{MayHappen, MayCome, IsLawfulCall, IsAfterStart}
 use Rattle.rk_world.specs.Runs.{IsCalmEvent}
 use Rattle.rk_world.specs.Quiet.{IsQuiet}
 
@@ -104,7 +104,8 @@ cluster_run cluster occurrences = fold cluster_after cluster occurrences
 -- what may occur in a cluster: an event that names what is there, and calls, turns and answers of sessions that may act, in lanes
 -- that there are; a call that is asked comes after the start of the history of its lane
 abbrev pub ClusterMay : Cluster → Occurrence → Type 0
-ClusterMay cluster (Happens lane event called) = (lane < length cluster.lanes) × MayHappen (lane_at cluster lane) event
+ClusterMay cluster (Happens lane event called) =
+    (lane < length cluster.lanes) × MayHappen (lane_at cluster lane) event × MayCome called
 ClusterMay cluster (Joins client) = IsNumber w32 1 client
 ClusterMay cluster (Calls client table key op) = IsLawfulCall (next_call (session_at cluster client) table key op)
 ClusterMay cluster (Asks lane client) =

@@ -1,120 +1,133 @@
--- Well formed: what the code of a lane needs of its world, below soundness. Maps are in order, masters and backups are there, and
--- what stands in logs, messages and sessions can be spelled. Nothing here reads what a backup stores.
-use Rattle.std.specs.Prelude.{◌≡◌, ◌≤◌, ◌<◌, ℕ, true, List, [], ◌∷◌, length, map, Option, Some, None, All, IfSome, ⊤}
+-- Well formed: what the code of a lane needs of its world, below soundness. Maps are in order, what is named is there, no number is
+-- greater than the greatest that has stood, and what stands in logs, messages and sessions can be spelled. Nothing here reads
+-- what a backup stores.
+use Rattle.std.specs.Prelude.{◌≡◌, ◌≤◌, ◌<◌, ℕ, true, false, List, [], ◌∷◌, ◌++◌, length, map, Option, Some, None, All, IfSome, unwrap_or}
 use Rattle.std.specs.Int.{w32, w64}
-use Rattle.std.specs.List.{flat_map, range_with_len}
+use Rattle.std.specs.List.{IsDistinct, flat_map, range_with_len}
+use Rattle.std.specs.Prelude.{nat_eq}
 use Rattle.rk_types.specs.Hashing.{hash_of}
 use Rattle.rk_types.specs.NumberMap.{EachIn, IsInOrder, numbers}
 use Rattle.rk_types.specs.declared.call.Call.{Call}
-use Rattle.rk_types.specs.declared.node.Node.{Node}
-use Rattle.rk_types.specs.declared.node.Node.TheVariants as nodes
-use Rattle.rk_types.specs.declared.range.Range.{Range}
-use Rattle.rk_entry.specs.Ends.{IsLawfulEnd, IsLawfulRange}
-use Rattle.rk_entry.specs.Lawful.{IsLawfulEntry, IsLawfulHeld}
+use Rattle.rk_types.specs.declared.lineage.Member.{Member}
+use Rattle.rk_entry.specs.Ends.{IsLawfulRange}
+use Rattle.rk_entry.specs.Entries.{spelled_all}
 use Rattle.rk_entry.specs.Numbers.{IsNumber}
+use Rattle.rk_entry.specs.declared.lists.TheConstants.{FIRST_SIDE_SEGMENT}
 use Rattle.rk_log.specs.declared.copied.TheConstants.{MOST_BACKUPS}
+use Rattle.rk_types.specs.declared.held.TheConstants.{SEGMENT_BYTES}
 use Rattle.rk_table.specs.Order.{IsInScanOrder}
 use Rattle.rk_done.specs.Completions.{ends_of}
+use Rattle.rk_tablet_map.specs.Phase.{lineage_of, member}
 use Rattle.rk_tablet_map.specs.Rows.{IsTabletMap, is_covered}
-use Rattle.rk_message.specs.Frames.{IsLawfulMessage}
+use Rattle.rk_tablet_map.specs.declared.phase.Phase.{Phase}
+use Rattle.rk_tablet_map.specs.declared.phase.Phase.TheVariants.{Owned, Opening, Moving, Rebuilding}
+use Rattle.rk_tablet_map.specs.declared.row.Row.{Row}
 use Rattle.rk_message.specs.Wire.{HasSentNumbers, Traffic}
-use Rattle.rk_message.specs.declared.message.Body.{Body}
-use Rattle.rk_message.specs.declared.message.Body.TheVariants as bodies
-use Rattle.rk_message.specs.declared.message.Message.{Message}
+use Rattle.rk_world.specs.Material.{as_entries}
 use Rattle.rk_world.specs.Base.{Base}
+use Rattle.rk_world.specs.Gather.{Gathered, LAST_MAIN_SEGMENT}
 use Rattle.rk_world.specs.Tablet.{Tablet}
 use Rattle.rk_world.specs.RoleTests.{is_receiving}
 use Rattle.rk_world.specs.Master.{Master}
 use Rattle.rk_world.specs.Coordinator.{Coordinator, Handed}
-use Rattle.rk_world.specs.Notices.{names}
 use Rattle.rk_world.specs.Client.{call_lane}
+use Rattle.rk_world.specs.Journal.{last_stamp}
 use Rattle.rk_world.specs.Ledger.{Ledger, LastCall}
-use Rattle.rk_world.specs.World.{World}
+use Rattle.rk_world.specs.World.{World, has_crashed, standing}
+use Rattle.rk_world.specs.Refusals.{MOST_CLIENTS}
 use Rattle.rk_world.specs.Premises.{MOST_MASTERS, IsMaster, IsLawfulCall, IsAfterStart}
+use Rattle.rk_world.specs.Limits.{IsClient, IsFormedEnd, IsFormedEnds, IsFormedEntry, IsFormedFloor, IsFormedHeld, IsFormedMember, IsFormedMessage, Limits, base_clients, limits_of}
 
--- a tablet at a master: its number counts from 1, its range is not empty, its completions are in order and can be spelled, it has a
--- list of pulled items for each of four workers, and the master that it pulls from is there
-pub record IsFormedTablet (masters number : ℕ) (tablet : Tablet) : Type 0 where
+-- ---- masters
+
+-- what a rebuild read of a member
+pub record IsFormedGathered (limits : Limits) (gathered : Gathered) : Type 0 where
+  pub member_is : IsMaster limits.masters gathered.member.master
+  pub main : All (All (IsFormedEntry limits)) gathered.main
+  -- while main segments are read, another one may follow
+  pub more : gathered.main_read ≡ false → length gathered.main < LAST_MAIN_SEGMENT
+  pub sides : EachIn (λ segment entries. All (IsFormedEntry limits) entries) gathered.sides
+
+-- the numbers of side segments, each once
+pub record AreSideSegments (segments : List ℕ) : Type 0 where
+  pub each : All (IsNumber w32 FIRST_SIDE_SEGMENT) segments
+  pub distinct : IsDistinct nat_eq segments
+
+-- a tablet at a master: its number, its term and its counter count from 1, its range is not empty, its completions are in order, it
+-- has a list of pulled items for each of four workers, and the master that it pulls from is there
+pub record IsFormedTablet (limits : Limits) (number : ℕ) (tablet : Tablet) : Type 0 where
   pub number_is : IsNumber w32 1 number
+  pub term : IsFormedFloor limits tablet.handover.term
   pub range : IsLawfulRange tablet.handover.range
+  pub counter : IsFormedFloor limits tablet.handover.counter
   pub order : IsInOrder tablet.completions
-  pub ends : All IsLawfulEnd (ends_of tablet.completions)
-  pub source : is_receiving tablet.handover.role ≡ true → IsMaster masters tablet.pulling.source
+  pub ended : All (IsFormedEnd limits) (ends_of tablet.completions)
+  pub source : is_receiving tablet.handover.role ≡ true → IsMaster limits.masters tablet.pulling.source
   pub workers : length tablet.pulling.sides ≡ 4
-  pub pulled : All IsLawfulHeld (flat_map (λ items. items) tablet.pulling.sides)
-  pub merged : All IsLawfulEnd tablet.merged_ends
+  pub pulled : All (IsFormedHeld limits) (flat_map (λ items. items) tablet.pulling.sides)
+  pub sealed : AreSideSegments tablet.pulling.sealed
+  pub gathered : All (IsFormedGathered limits) tablet.gather.members
+  pub merged : All (IsFormedEnd limits) tablet.merged_ends
 
 -- a call that waits for the entry at a place of a log of so many entries
-pub record IsFormedCall (entries place : ℕ) (call : Call) : Type 0 where
-  pub within : place < entries
+pub record IsFormedCall (limits : Limits) (count place : ℕ) (call : Call) : Type 0 where
+  pub within : place < count
   pub lawful : IsLawfulCall call
+  pub client : IsClient limits call.client
 
--- a master: it has its number and knows of each backup; its maps are in order; its entries, items and calls are lawful
-pub record IsFormedMaster (masters backups number : ℕ) (master : Master) : Type 0 where
+-- a side segment has bytes, and no more than a segment may have
+pub record IsFormedSide (bytes : List ℕ) : Type 0 where
+  pub some : 1 ≤ length bytes
+  pub few : length bytes ≤ SEGMENT_BYTES
+
+-- a master: it has its number and knows of each backup; its maps are in order; its entries, items and calls are well formed
+pub record IsFormedMaster (limits : Limits) (number : ℕ) (master : Master) : Type 0 where
   pub number_is : master.number ≡ number
-  pub known : length master.log.known ≡ backups
+  pub known : length master.log.known ≡ limits.backups
   pub lengths : All IsInOrder master.log.known
-  pub entries : All IsLawfulEntry master.log.entries
-  pub sides : length master.sides ≡ length master.log.sides
-  pub items : All IsLawfulHeld (flat_map (λ items. items) master.sides)
-  pub records : All IsLawfulHeld master.records
+  pub written : All (IsFormedEntry limits) master.log.entries
+  pub spelled : master.log.sides ≡ map (λ items. spelled_all (as_entries items)) master.sides
+  pub sides : All IsFormedSide master.log.sides
+  pub items : All (IsFormedHeld limits) (flat_map (λ items. items) master.sides)
+  pub records : All (IsFormedHeld limits) master.records
   pub scanned : IsInScanOrder master.records
   pub applied : master.applied ≤ length master.log.entries
   pub calls_order : IsInOrder master.calls
-  pub calls : EachIn (IsFormedCall (length master.log.entries)) master.calls
+  pub calls : EachIn (IsFormedCall limits (length master.log.entries)) master.calls
   pub tablets_order : IsInOrder master.tablets
-  pub tablets : EachIn (IsFormedTablet masters) master.tablets
+  pub tablets : EachIn (IsFormedTablet limits) master.tablets
 
--- a node that is there, where there are so many masters and backups
-abbrev pub IsThere : ℕ → ℕ → Node → Type 0
-IsThere masters backups (nodes.Client client) = ⊤
-IsThere masters backups nodes.Coordinator = ⊤
-IsThere masters backups (nodes.Master master) = IsMaster masters master
-IsThere masters backups (nodes.Backup backup) = (1 ≤ backup) × (backup ≤ backups)
+-- ---- the coordinator
 
--- the ranges that a message bears
-abbrev pub ranges_told : Body → List Range
-ranges_told (bodies.Located located) = located.range ∷ []
-ranges_told (bodies.Prepare prepare) = prepare.range ∷ []
-ranges_told (bodies.Rebuild rebuild) = rebuild.range ∷ []
-ranges_told body = []
+-- the masters that a phase names, with the places that it knows of their logs
+abbrev pub named_in : Phase → List Member
+named_in (Owned master from) = member master from ∷ []
+named_in (Opening source sfrom target dfrom) = member source sfrom ∷ member target (unwrap_or dfrom 0) ∷ []
+named_in (Moving source sfrom target dfrom) = member source sfrom ∷ member target dfrom ∷ []
+named_in (Rebuilding lineage to) = lineage ++ member to 0 ∷ []
 
--- a range's owner as a list, where it has one
-abbrev pub owners_told : Option ℕ → List ℕ
-owners_told None = []
-owners_told (Some owner) = owner ∷ []
+-- a row: its number and its term count from 1, its range is not empty, and the masters that it names are there
+pub record IsFormedRow (limits : Limits) (row : Row) : Type 0 where
+  pub number_is : IsNumber w32 1 row.tablet
+  pub term : 1 ≤ row.term
+  pub range : IsLawfulRange row.range
+  pub named : All (IsFormedMember limits) (named_in row.phase)
+  pub few : length (lineage_of row.phase) ≤ 2
 
--- the masters that a message names, beside its sender and its receiver
-abbrev pub masters_told : Body → List ℕ
-masters_told (bodies.Located located) = owners_told located.owner
-masters_told (bodies.Grant grant) = grant.source ∷ []
-masters_told (bodies.Rebuild rebuild) = map (λ member. member.master) rebuild.lineage
-masters_told (bodies.Read read) = read.master ∷ []
-masters_told (bodies.Copy copy) = copy.master ∷ []
-masters_told body = []
+-- what a source told
+pub record IsFormedHanded (limits : Limits) (handed : Handed) : Type 0 where
+  pub floor : IsFormedFloor limits handed.floor
+  pub told : IsFormedEnds limits handed.ends
 
--- a message: it has a frame, its ranges are not empty, and all that it names are there
-pub record IsFormedMessage (masters backups : ℕ) (message : Message) : Type 0 where
-  pub lawful : IsLawfulMessage message
-  pub from : IsThere masters backups message.from
-  pub to : IsThere masters backups message.to
-  pub ranges : All IsLawfulRange (ranges_told message.body)
-  pub named : All (IsMaster masters) (masters_told message.body)
-
--- what a source told can be spelled
-pub record IsFormedHanded (tablet : ℕ) (handed : Handed) : Type 0 where
-  pub floor : IsNumber w64 1 handed.floor
-  pub ends : All IsLawfulEnd handed.ends
-
--- the coordinator: its rows are a tablet map of ranges that are not empty, with numbers from 1 on, and name masters that are there
-pub record IsFormedCoordinator (coordinator : Coordinator) : Type 0 where
-  pub rows : IsTabletMap coordinator.rows
-  pub numbered : All (λ row. IsNumber w32 1 row.tablet) coordinator.rows
-  pub ranges : All (λ row. IsLawfulRange row.range) coordinator.rows
-  pub named : (master : ℕ) → All (λ row. names row.phase master ≡ true → IsMaster coordinator.masters master) coordinator.rows
-  pub noticed : All (IsMaster coordinator.masters) coordinator.noticed
+-- the coordinator: its rows are a tablet map
+pub record IsFormedCoordinator (limits : Limits) (coordinator : Coordinator) : Type 0 where
+  pub map : IsTabletMap coordinator.rows
+  pub rows : All (IsFormedRow limits) coordinator.rows
+  pub noticed : All (IsMaster limits.masters) coordinator.noticed
   pub handed_order : IsInOrder coordinator.handed
-  pub handed : EachIn IsFormedHanded coordinator.handed
+  pub handed : EachIn (λ tablet handed. IsFormedHanded limits handed) coordinator.handed
+
+-- ---- beside the nodes
 
 -- the last call of a client in a lane is lawful and its own, comes after the start of the history, and its key lies there
 pub record IsFormedLast (base : Base) (lane client : ℕ) (last : LastCall) : Type 0 where
@@ -123,18 +136,31 @@ pub record IsFormedLast (base : Base) (lane client : ℕ) (last : LastCall) : Ty
   pub here : call_lane last.call ≡ lane
   pub after : IsAfterStart base last.call
 
--- the ledger: its maps are in order, and what it has of clients is lawful
-pub record IsFormedLedger (base : Base) (lane masters backups : ℕ) (ledger : Ledger) : Type 0 where
+-- the ledger: its maps are in order, what it has of clients is lawful, and the last stamp is the greatest and counts the records
+pub record IsFormedLedger (limits : Limits) (base : Base) (lane : ℕ) (ledger : Ledger) : Type 0 where
   pub clients_order : IsInOrder ledger.clients
   pub clients : EachIn (λ client last. IsNumber w32 1 client × IfSome last (IsFormedLast base lane client)) ledger.clients
+  pub few : length ledger.clients ≤ MOST_CLIENTS
   pub requests_order : IsInOrder ledger.requests
-  pub requests : EachIn (λ client message. IsFormedMessage masters backups message) ledger.requests
+  pub requests : EachIn (λ client message. IsFormedMessage limits message) ledger.requests
+  pub stamps : All (λ placed. placed.stamp ≤ last_stamp ledger.journal) ledger.journal
+  pub records : length ledger.journal ≤ last_stamp ledger.journal
 
 -- the wire: its numbers were given to messages that were sent, and each message is well formed
-pub record IsFormedWire (masters backups : ℕ) (wire : Traffic) : Type 0 where
+pub record IsFormedWire (limits : Limits) (wire : Traffic) : Type 0 where
   pub order : IsInOrder wire.messages
   pub numbered : HasSentNumbers wire
-  pub each : EachIn (λ number message. IsFormedMessage masters backups message) wire.messages
+  pub each : EachIn (λ number message. IsFormedMessage limits message) wire.messages
+
+-- how many clients a history's start may tell of
+abbrev pub MOST_BASE_CLIENTS : ℕ
+MOST_BASE_CLIENTS = 2000
+
+-- a master that has not crashed
+pub record SomeLives (w : World) : Type 0 where
+  pub master : ℕ
+  pub there : IsMaster w.coordinator.masters master
+  pub lives : has_crashed w master ≡ false
 
 -- a lane is well formed
 pub record IsWellFormed (w : World) : Type 0 where
@@ -143,10 +169,16 @@ pub record IsWellFormed (w : World) : Type 0 where
   pub few_masters : w.coordinator.masters ≤ MOST_MASTERS
   pub backed : 1 ≤ w.backup_count
   pub few_backups : w.backup_count ≤ MOST_BACKUPS
-  pub masters : EachIn (IsFormedMaster w.coordinator.masters w.backup_count) w.masters
-  pub coordinator : IsFormedCoordinator w.coordinator
-  pub ledger : IsFormedLedger w.base w.lane w.coordinator.masters w.backup_count w.ledger
-  pub wire : IsFormedWire w.coordinator.masters w.backup_count w.wire
+  pub masters : EachIn (IsFormedMaster (limits_of w)) w.masters
+  pub coordinator : IsFormedCoordinator (limits_of w) w.coordinator
+  pub ledger : IsFormedLedger (limits_of w) w.base w.lane w.ledger
+  pub wire : IsFormedWire (limits_of w) w.wire
+  -- where one has crashed, another one is left; who was noticed dead has crashed
   pub crashed : All (IsMaster w.coordinator.masters) w.crashed
-  -- what the history starts from lies in rows
+  pub left : (master : ℕ) → has_crashed w master ≡ true → SomeLives w
+  pub noticed : All (λ master. has_crashed w master ≡ true) w.coordinator.noticed
+  -- what the history starts from lies in rows, and tells of few clients
   pub base : All (λ item. is_covered w.coordinator.rows item.table (hash_of item.key) ≡ true) w.base.items
+  pub few_base_clients : length (base_clients w.base) ≤ MOST_BASE_CLIENTS
+  -- no number that stands is greater than the greatest
+  pub standing : All (λ number. number ≤ w.top) (standing w)

@@ -35,7 +35,9 @@ pub mod Refusals
 pub mod Step
 pub mod Calls
 pub mod Premises
+pub mod Limits
 pub mod Formed
+pub mod Room
 pub mod Runs
 pub mod Cluster
 pub mod Justified

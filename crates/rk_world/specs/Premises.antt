@@ -12,7 +12,9 @@ use Rattle.rk_message.specs.Calls.{IsLawfulOp}
 use Rattle.rk_message.specs.declared.calls.Located.{Located}
 use Rattle.rk_world.specs.declared.event.Event.{Event}
 use Rattle.rk_world.specs.declared.event.Event.TheVariants as events
+use Rattle.rk_types.specs.declared.held.TheConstants.{SEGMENT_BYTES}
 use Rattle.rk_world.specs.Base.{Base, ends_told}
+use Rattle.rk_world.specs.Backup.{Called, Appended, Gave, Failed}
 use Rattle.rk_world.specs.Client.{Session}
 use Rattle.rk_world.specs.World.{World}
 
@@ -52,8 +54,15 @@ MayHappen w (events.Split tablet at new) = IsNumber w32 1 new
 MayHappen w (events.Crash master) = IsMaster w.coordinator.masters master
 MayHappen w (events.Notice master) = IsMaster w.coordinator.masters master
 
--- a range that a client has cached: it is not empty, and its owner is a master that is there
+-- what the call of a replica may come to: a segment that an append left has no more bytes than a segment may have
+abbrev pub MayCome : Called → Type 0
+MayCome (Appended length) = length ≤ SEGMENT_BYTES
+MayCome (Gave bytes) = ⊤
+MayCome (Failed stored) = ⊤
+
+-- a range that a client has cached: its tablet has a number, it is not empty, and its owner is a master that is there
 pub record IsCached (count : ℕ) (located : Located) : Type 0 where
+  pub tablet : IsNumber w32 0 located.tablet
   pub range : IsLawfulRange located.range
   pub owner : IfSome located.owner (IsMaster count)
 

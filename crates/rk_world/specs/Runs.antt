@@ -9,7 +9,7 @@ use Rattle.rk_world.specs.Client.{Session}
 use Rattle.rk_world.specs.World.{World, lives}
 use Rattle.rk_world.specs.Step.{Stepped, step}
 use Rattle.rk_world.specs.Calls.{Visited, ask, accept}
-use Rattle.rk_world.specs.Premises.{MayAct, MayHappen, IsAfterStart}
+use Rattle.rk_world.specs.Premises.{MayAct, MayHappen, MayCome, IsAfterStart}
 
 -- something that happens in a lane: an event with what the call of a replica came to, or a client's turn or answer, for the session
 -- that the client has then
@@ -60,10 +60,10 @@ abbrev pub IsCalm : World → List Happening → Type 0
 IsCalm w [] = ⊤
 IsCalm w (happening ∷ later) = IsCalmHappening w happening × IsCalm (after w happening) later
 
--- what may happen in a world: an event that names what is there, or a session that may act there; a call that is asked comes after
+-- what may happen in a world: an event that names what is there, with what a replica may come to, or a session that may act there; a call that is asked comes after
 -- the history's start
 abbrev pub MayOccur : World → Happening → Type 0
-MayOccur w (Happens event called) = MayHappen w event
+MayOccur w (Happens event called) = MayHappen w event × MayCome called
 MayOccur w (Asks session) =
     MayAct w.coordinator.masters session × IfSome session.outstanding (IsAfterStart w.base)
 MayOccur w (Accepts number session) = MayAct w.coordinator.masters session

@@ -1,5 +1,5 @@
 -- A tablet is split: when that is refused, its rows then, and what its owner makes of it.
-use Rattle.std.specs.Prelude.{ℕ, ◌+◌, if◌then◌else◌, Option, Some, None}
+use Rattle.std.specs.Prelude.{ℕ, ◌+◌, ◌&&◌, Bool, nat_le, nat_lt, if◌then◌else◌, Option, Some, None}
 use Rattle.std.specs.Option.{option_map}
 use Rattle.rk_types.specs.declared.range.Range.{Range}
 use Rattle.rk_transfer.specs.declared.role.Role.TheVariants as roles
@@ -52,12 +52,21 @@ with_half tablet range term = record (without_merged tablet) {
   handover = record { role = roles.Serving; term = term; range = range; counter = tablet.handover.counter };
 }
 
--- a tablet is split at a hash: both parts are served at the new term, with its counter and its completions
+-- both parts of a tablet are served at the new term, with its counter and its completions
+abbrev pub with_halves : Master → ℕ → Tablet → ℕ → ℕ → ℕ → Master
+with_halves master number tablet at new term =
+    with_tablet (with_tablet master number (with_half tablet (range_below tablet.handover.range at) term)) new
+    (with_half tablet (range_from tablet.handover.range at) term)
+
+-- whether both parts of a range have a hash, where it is split at this one
+abbrev pub has_parts : Range → ℕ → Bool
+has_parts range at = nat_lt range.first at && nat_le at range.last
+
+-- a tablet is split at a hash, where both parts have one
 abbrev pub with_split : Master → ℕ → ℕ → ℕ → ℕ → Master
 with_split master number at new term =
     let tablet = tablet_at master number in
-    with_tablet (with_tablet master number (with_half tablet (range_below tablet.handover.range at) term)) new
-    (with_half tablet (range_from tablet.handover.range at) term)
+    if has_parts tablet.handover.range at then with_halves master number tablet at new term else master
 
 -- the owner of a split tablet serves both parts, where it lives
 abbrev pub owner_split : World → ℕ → Phase → ℕ → ℕ → ℕ → World

@@ -41,10 +41,10 @@ pub record Tablet : Type 0 where
   pub gather : Gather
   pub merged_ends : List Ended
 
--- a tablet that a master does not know
+-- a tablet that a master does not know; counters count from 1
 abbrev pub no_tablet : Tablet
 no_tablet = record {
-  handover = record { role = roles.Absent; term = 0; range = record { table = 0; first = 0; last = 0 }; counter = 0 };
+  handover = record { role = roles.Absent; term = 0; range = record { table = 0; first = 0; last = 0 }; counter = 1 };
   completions = [];
   pulling = pulling_from 0;
   gather = no_gather;

@@ -1,7 +1,7 @@
 -- Room: how great the numbers of a lane get. An event is refused where one of them is too great already, and none rises so far
 -- by one event that it does not fit; the code of each step needs it for its sums. It is said between events, when the greatest
 -- number that has stood is known.
-use Rattle.std.specs.Prelude.{◌≤◌, ◌<◌, ◌^◌, ℕ, List, All, [], ◌∷◌}
+use Rattle.std.specs.Prelude.{◌≤◌, ◌<◌, ℕ, List, All, [], ◌∷◌}
 use Rattle.std.specs.List.{flat_map}
 use Rattle.rk_types.specs.NumberMap.{NumberMap, EachIn}
 use Rattle.rk_entry.specs.declared.entry.Entry.{Entry}
@@ -10,15 +10,8 @@ use Rattle.rk_message.specs.declared.message.Body.{Body}
 use Rattle.rk_message.specs.declared.message.Body.TheVariants as bodies
 use Rattle.rk_message.specs.declared.message.Message.{Message}
 use Rattle.rk_world.specs.Coordinator.{Handed}
+use Rattle.rk_world.specs.Room.{MOST_BYTES, MOST_NUMBER}
 use Rattle.rk_world.specs.Written.{Written}
-
--- each number that grows stays below this
-abbrev pub MOST_NUMBER : ℕ
-MOST_NUMBER = 2 ^ 60
-
--- the bytes of all logs of a lane stay below this
-abbrev pub MOST_BYTES : ℕ
-MOST_BYTES = 2 ^ 30
 
 -- the numbers that an entry tells: the version of an item, the floor of a Carried
 abbrev pub numbers_of : Entry → List ℕ
