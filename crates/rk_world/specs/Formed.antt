@@ -1,7 +1,7 @@
 -- Well formed: what the code of a lane needs of its world, below soundness. Maps are in order, what is named is there, no number is
 -- greater than the greatest that has stood, and what stands in logs, messages and sessions can be spelled. Nothing here reads
 -- what a backup stores.
-use Rattle.std.specs.Prelude.{◌≡◌, ◌≤◌, ◌<◌, ℕ, true, false, List, [], ◌∷◌, ◌++◌, length, map, Option, Some, None, All, IfSome, unwrap_or}
+use Rattle.std.specs.Prelude.{◌≡◌, ◌≤◌, ◌<◌, ℕ, true, false, List, [], ◌∷◌, ◌++◌, length, map, All, IfSome, unwrap_or}
 use Rattle.std.specs.Int.{w32, w64}
 use Rattle.std.specs.List.{IsDistinct, flat_map, range_with_len}
 use Rattle.std.specs.Prelude.{nat_eq}
@@ -22,11 +22,14 @@ use Rattle.rk_tablet_map.specs.Rows.{IsTabletMap, is_covered}
 use Rattle.rk_tablet_map.specs.declared.phase.Phase.{Phase}
 use Rattle.rk_tablet_map.specs.declared.phase.Phase.TheVariants.{Owned, Opening, Moving, Rebuilding}
 use Rattle.rk_tablet_map.specs.declared.row.Row.{Row}
+use Rattle.rk_transfer.specs.declared.role.Role.{Role}
+use Rattle.rk_transfer.specs.declared.role.Role.TheVariants as roles
+use Rattle.rk_message.specs.Fields.{IsLawfulToken}
 use Rattle.rk_message.specs.Wire.{HasSentNumbers, Traffic}
 use Rattle.rk_world.specs.Material.{as_entries}
 use Rattle.rk_world.specs.Base.{Base}
 use Rattle.rk_world.specs.Gather.{Gathered, LAST_MAIN_SEGMENT}
-use Rattle.rk_world.specs.Tablet.{Tablet}
+use Rattle.rk_world.specs.Tablet.{Pulling, Tablet}
 use Rattle.rk_world.specs.RoleTests.{is_receiving}
 use Rattle.rk_world.specs.Master.{Master}
 use Rattle.rk_world.specs.Coordinator.{Coordinator, Handed}
@@ -36,7 +39,7 @@ use Rattle.rk_world.specs.Ledger.{Ledger, LastCall}
 use Rattle.rk_world.specs.World.{World, has_crashed, standing}
 use Rattle.rk_world.specs.Refusals.{MOST_CLIENTS}
 use Rattle.rk_world.specs.Premises.{MOST_MASTERS, IsMaster, IsLawfulCall, IsAfterStart}
-use Rattle.rk_world.specs.Limits.{IsClient, IsFormedEnd, IsFormedEnds, IsFormedEntry, IsFormedFloor, IsFormedHeld, IsFormedMember, IsFormedMessage, Limits, base_clients, limits_of}
+use Rattle.rk_world.specs.Limits.{IsClient, IsFormedEnd, IsFormedEnds, IsFormedEntry, IsFormedNumber, IsFormedHeld, IsFormedMember, IsFormedMessage, Limits, base_clients, limits_of}
 
 -- ---- masters
 
@@ -53,19 +56,33 @@ pub record AreSideSegments (segments : List ℕ) : Type 0 where
   pub each : All (IsNumber w32 FIRST_SIDE_SEGMENT) segments
   pub distinct : IsDistinct nat_eq segments
 
--- a tablet at a master: its number, its term and its counter count from 1, its range is not empty, its completions are in order, it
--- has a list of pulled items for each of four workers, and the master that it pulls from is there
+-- the place that a role knows of the master's log, 0 where it knows none
+abbrev pub place_in : Role → ℕ
+place_in (roles.Wanting from) = from
+place_in (roles.Rebuilding from entry) = from
+place_in role = 0
+
+-- what a target has while it pulls: its token and its hashes can be spelled, and it has a list of items for each of four workers
+pub record IsFormedPulling (limits : Limits) (pulling : Pulling) : Type 0 where
+  pub token : IsLawfulToken pulling.token
+  pub wanted : All (IsNumber w64 0) pulling.hashes.wanted
+  pub outstanding : All (IsNumber w64 0) pulling.hashes.outstanding
+  pub workers : length pulling.sides ≡ 4
+  pub items : All (IsFormedHeld limits) (flat_map (λ items. items) pulling.sides)
+  pub sealed : AreSideSegments pulling.sealed
+
+-- a tablet at a master: its number, its term and its counter count from 1, its range is not empty, its completions are in order,
+-- and the master that it pulls from is there
 pub record IsFormedTablet (limits : Limits) (number : ℕ) (tablet : Tablet) : Type 0 where
   pub number_is : IsNumber w32 1 number
-  pub term : IsFormedFloor limits tablet.handover.term
+  pub term : IsFormedNumber limits tablet.handover.term
+  pub place : IsNumber w64 0 (place_in tablet.handover.role)
   pub range : IsLawfulRange tablet.handover.range
-  pub counter : IsFormedFloor limits tablet.handover.counter
+  pub counter : IsFormedNumber limits tablet.handover.counter
   pub order : IsInOrder tablet.completions
   pub ended : All (IsFormedEnd limits) (ends_of tablet.completions)
   pub source : is_receiving tablet.handover.role ≡ true → IsMaster limits.masters tablet.pulling.source
-  pub workers : length tablet.pulling.sides ≡ 4
-  pub pulled : All (IsFormedHeld limits) (flat_map (λ items. items) tablet.pulling.sides)
-  pub sealed : AreSideSegments tablet.pulling.sealed
+  pub pulled : IsFormedPulling limits tablet.pulling
   pub gathered : All (IsFormedGathered limits) tablet.gather.members
   pub merged : All (IsFormedEnd limits) tablet.merged_ends
 
@@ -116,7 +133,7 @@ pub record IsFormedRow (limits : Limits) (row : Row) : Type 0 where
 
 -- what a source told
 pub record IsFormedHanded (limits : Limits) (handed : Handed) : Type 0 where
-  pub floor : IsFormedFloor limits handed.floor
+  pub floor : IsFormedNumber limits handed.floor
   pub told : IsFormedEnds limits handed.ends
 
 -- the coordinator: its rows are a tablet map

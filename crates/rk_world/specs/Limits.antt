@@ -1,6 +1,6 @@
 -- Limits: what there is in a lane, and what keeps to it. Ends, items, entries and messages are lawful, tell no number that is
 -- greater than the greatest that has stood, and name only masters, backups and clients that are there.
-use Rattle.std.specs.Prelude.{◌≡◌, ◌≤◌, ◌+◌, ℕ, true, List, [], ◌∷◌, ◌++◌, length, Option, Some, None, All, IfSome, ⊤}
+use Rattle.std.specs.Prelude.{◌≡◌, ◌≤◌, ◌+◌, ℕ, true, List, [], ◌++◌, length, All, IfSome, ⊤}
 use Rattle.std.specs.Int.{w32, w64}
 use Rattle.rk_types.specs.NumberMap.{numbers}
 use Rattle.rk_types.specs.declared.call.End.{End}
@@ -129,21 +129,20 @@ IsFormedEntry limits (entries.Joined joined) = IsFormedJoined limits joined
 
 -- ---- messages
 
+-- a number that counts from 1, as a term, a counter or a floor does
+pub record IsFormedNumber (limits : Limits) (number : ℕ) : Type 0 where
+  pub first : 1 ≤ number
+  pub last : number ≤ limits.top
+
 -- a tablet, from 1 on, at a term, from 1 on
 pub record IsFormedTenure (limits : Limits) (tenure : Tenure) : Type 0 where
   pub tablet : IsNumber w32 1 tenure.tablet
-  pub first : 1 ≤ tenure.term
-  pub term : tenure.term ≤ limits.top
+  pub term : IsFormedNumber limits tenure.term
 
 -- a member of a lineage
 pub record IsFormedMember (limits : Limits) (member : Member) : Type 0 where
   pub master : IsMaster limits.masters member.master
   pub from : IsNumber w64 0 member.from
-
--- a floor, which is above 0
-pub record IsFormedFloor (limits : Limits) (floor : ℕ) : Type 0 where
-  pub first : 1 ≤ floor
-  pub last : floor ≤ limits.top
 
 -- a request of a client
 pub record IsFormedRequest (limits : Limits) (client : ℕ) (request : Request) : Type 0 where
@@ -164,14 +163,14 @@ pub record IsFormedLocated (limits : Limits) (located : Located) : Type 0 where
 -- what a source tells
 pub record IsFormedTransfer (limits : Limits) (transfer : Transfer) : Type 0 where
   pub tenure : IsFormedTenure limits transfer.tenure
-  pub floor : IsFormedFloor limits transfer.floor
+  pub floor : IsFormedNumber limits transfer.floor
   pub told : IsFormedEnds limits transfer.ends
 
 -- what is granted
 pub record IsFormedGrant (limits : Limits) (grant : Grant) : Type 0 where
   pub tenure : IsFormedTenure limits grant.tenure
   pub source : IsMaster limits.masters grant.source
-  pub floor : IsFormedFloor limits grant.floor
+  pub floor : IsFormedNumber limits grant.floor
   pub told : IsFormedEnds limits grant.ends
 
 -- what is to be rebuilt
