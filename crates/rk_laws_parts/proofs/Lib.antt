@@ -4,11 +4,6 @@ pub mod Differs
 pub mod Lists
 pub mod Fresh
 pub mod Empty
-pub mod Formed
-pub mod FormedRows
-pub mod FormedMasters
-pub mod FormedAdded
-pub mod FormedLookups
 pub mod Shares
 pub mod WorldFrozen
 pub mod Apart

@@ -2,23 +2,11 @@
 ghost use Rattle.std.specs.Prelude.{◌≡◌, ◌<◌, ◌≤◌, ℕ, true, List, None, Some, Option, Contains, IfSome, length, slice_get};
 ghost use Rattle.rk_log.specs.Cut.{ends};
 ghost use Rattle.rk_log.specs.Log.{IsBackup};
-ghost use Rattle.rk_message.specs.declared.calls.Lookup.{Lookup};
-ghost use Rattle.rk_message.specs.declared.message.Body.TheVariants as bodies;
 ghost use Rattle.rk_message.specs.declared.message.Message.{Message};
 ghost use Rattle.rk_tablet_map.specs.declared.row.Row.{Row};
 ghost use Rattle.rk_transfer.specs.Handover.{is_serving};
 ghost use Rattle.rk_types.specs.declared.call.Call.{Call};
-ghost use Rattle.rk_types.specs.NumberMap.{get};
 ghost use Rattle.rk_types.specs.Range.{meets};
-ghost use Rattle.rk_types.specs.declared.node.Node.TheVariants as nodes;
-ghost use Rattle.rk_types.specs.declared.range.Range.{Range};
-ghost use Rattle.rk_log.specs.declared.copied.TheConstants.{MOST_BACKUPS};
-ghost use Rattle.rk_world.specs.declared.event.Event.TheVariants as events;
-ghost use Rattle.rk_world.specs.Backup.{Called};
-ghost use Rattle.rk_world.specs.Formed.{IsWellFormed};
-ghost use Rattle.rk_world.specs.Premises.{MOST_MASTERS, MayHappen};
-ghost use Rattle.rk_world.specs.Refusals.{refusal};
-ghost use Rattle.rk_world.specs.Step.{happened};
 ghost use Rattle.rk_world.specs.Sound.Logs.{stored_of};
 ghost use Rattle.rk_world.specs.Sound.Small.{MayComeTo, MayFreeze, MaySave, MaySend, MayStage, write_staged_in, client_come, message_forgotten, message_sent, request_saved, tablet_frozen_in};
 ghost use Rattle.rk_world.specs.Sound.Whole.{IsSound};
@@ -62,36 +50,4 @@ pub fn what_is_applied_is_stored()
         → IsSound w → IsBackup (log_in w master) backup → place < (written_in w master).applied
         → IfSome (slice_get (ends (written_in w master).entries) place)
         (λ end. end.offset ≤ length (stored_of (backup_at w) master backup end.segment)) }
-{}
-
-/// A lane where nothing has happened is well formed, with at most eight masters and one to four backups.
-pub fn new_lanes_are_well_formed()
-    ensures new { (lane masters backups : ℕ)
-        → masters ≤ MOST_MASTERS → 1 ≤ backups → backups ≤ MOST_BACKUPS → IsWellFormed (new_world lane masters backups) }
-{}
-
-/// A well formed lane stays so when a message is lost, when a client comes, when a master stops, when the last request of a
-/// client is sent again, when a tablet begins to move, when a tablet is added that is not refused, and when the
-/// coordinator takes a client's Lookup.
-pub fn events_keep_lanes_well_formed()
-    ensures forgotten { (w : World) (number : ℕ) (called : Called)
-        → IsWellFormed w → IsWellFormed (happened w (events.Forget number) called).world }
-    ensures come { (w : World) (client : ℕ) (called : Called)
-        → MayHappen w (events.AddClient client) → IsWellFormed w
-        → IsWellFormed (happened w (events.AddClient client) called).world }
-    ensures crashed { (w : World) (master : ℕ) (called : Called)
-        → MayHappen w (events.Crash master) → IsWellFormed w
-        → IsWellFormed (happened w (events.Crash master) called).world }
-    ensures again { (w : World) (client : ℕ) (called : Called)
-        → IsWellFormed w → IsWellFormed (happened w (events.Again client) called).world }
-    ensures migrates { (w : World) (tablet to : ℕ) (called : Called)
-        → MayHappen w (events.Migrate tablet to) → IsWellFormed w
-        → IsWellFormed (happened w (events.Migrate tablet to) called).world }
-    ensures added { (w : World) (tablet : ℕ) (range : Range) (master : ℕ) (called : Called)
-        → MayHappen w (events.AddTablet tablet range master) → refusal w (events.AddTablet tablet range master) ≡ None
-        → IsWellFormed w → IsWellFormed (happened w (events.AddTablet tablet range master) called).world }
-    ensures looked_up { (w : World) (number client : ℕ) (lookup : Lookup) (called : Called)
-        → get w.wire.messages number
-        ≡ Some (record { from = nodes.Client client; to = nodes.Coordinator; body = bodies.Lookup lookup })
-        → IsWellFormed w → IsWellFormed (happened w (events.Deliver number) called).world }
 {}
