@@ -1,0 +1,47 @@
+-- How great a log is: it has no more entries than bytes.
+use Rattle.std.proofs.Common.{◌≡◌, ◌≤◌, ◌<◌, ◌+◌, ◌^◌, ℕ, List, [], ◌∷◌, ◌++◌, length, refl, ap, sym, ◌∙◌, arith, lit<}
+use Rattle.std.specs.Int.{w64}
+use Rattle.std.specs.List.{concat, flat_map, sum_by}
+use Rattle.std.proofs.lemmas.List.Concat.{length-flat_map}
+use Rattle.std.proofs.lemmas.List.Sums.{sum_by-cons}
+use Rattle.rk_entry.specs.Entries.{spelled_all}
+use Rattle.rk_entry.specs.Numbers.{IsNumber}
+use Rattle.rk_entry.specs.Spelling.{spelled}
+use Rattle.rk_entry.specs.declared.entry.Entry.{Entry}
+use Rattle.rk_log.proofs.CutLaws.{cut_whole}
+use Rattle.rk_log.proofs.Cuts.{spelled_some}
+use Rattle.rk_log.specs.Cut.{cut}
+use Rattle.rk_log.specs.Log.{segment_bytes}
+use Rattle.rk_world.specs.Limits.{Limits}
+use Rattle.rk_world.specs.Master.{Master, log_bytes}
+use Rattle.rk_laws_formed.proofs.Work.{HasRoomFor}
+
+-- lists one after the other
+joined : (segments : List (List ℕ)) → concat segments ≡ flat_map (λ (s : List ℕ). s) segments
+joined [] = refl
+joined (segment ∷ segments) = ap (λ (rest : List ℕ). segment ++ rest) (joined segments)
+
+-- the bytes of the main segments are those of the entries
+pub bytes_spelled : (entries : List Entry) → sum_by (λ (b : List ℕ). length b) (cut entries) ≡ sum_by (λ (e : Entry). length (spelled e)) entries
+unfolding spelled_all
+bytes_spelled entries =
+    sym (length-flat_map (λ (b : List ℕ). b) (cut entries))
+    ∙ ap (λ (b : List ℕ). length b) (sym (joined (cut entries)) ∙ cut_whole entries)
+    ∙ length-flat_map spelled entries
+
+-- each entry has a byte
+count_spelled : (entries : List Entry) → length entries ≤ sum_by (λ (e : Entry). length (spelled e)) entries
+count_spelled [] = omega arith
+count_spelled (entry ∷ entries) =
+    omega (arith, count_spelled entries, spelled_some entry, sum_by-cons (λ (e : Entry). length (spelled e)) entry entries)
+
+-- a master has no more entries than bytes
+pub entries_few : (master : Master) → length master.log.entries ≤ log_bytes master
+entries_few master = omega (arith, count_spelled master.log.entries, bytes_spelled master.log.entries)
+
+below_fits : (count bytes : ℕ) → count ≤ bytes → bytes < 2 ^ 30 → IsNumber w64 0 count
+below_fits count bytes few room = record { least_is = omega arith; fits = omega arith }
+
+-- so each place of its log can be spelled
+pub place_fits : (limits : Limits) (master : Master) → HasRoomFor limits master → IsNumber w64 0 (length master.log.entries)
+place_fits limits master room = below_fits (length master.log.entries) (log_bytes master) (entries_few master) room.bytes
