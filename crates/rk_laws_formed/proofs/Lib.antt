@@ -1,1 +1,4 @@
 pub mod Work
+pub mod Maps
+pub mod Changes
+pub mod Completed
