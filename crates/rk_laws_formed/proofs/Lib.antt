@@ -2,3 +2,4 @@ pub mod Work
 pub mod Maps
 pub mod Changes
 pub mod Completed
+pub mod Tablets
