@@ -3,3 +3,5 @@ pub mod Maps
 pub mod Changes
 pub mod Completed
 pub mod Tablets
+pub mod Messages
+pub mod Requests

@@ -1,5 +1,5 @@
 -- Maps by number and their pairs: what each thing of a map has, each of its pairs has, and the other way round.
-use Rattle.std.proofs.Common.{◌≡◌, ◌<◌, ℕ, Bool, true, false, ◌&&◌, cond, T, All, List, [], ◌∷◌, Some, flat_map, refl, sym, subst, ◌∙◌, arith}
+use Rattle.std.proofs.Common.{map, fold, ◌≡◌, ◌<◌, ℕ, Bool, true, false, ◌&&◌, cond, T, All, List, [], ◌∷◌, Some, flat_map, refl, sym, subst, ◌∙◌, arith}
 use Rattle.std.proofs.lemmas.Bool.{cond-false, cond-true, eq-eqb, ne_eqb}
 use Rattle.std.proofs.lemmas.List.Elements.{All-append, All-cons, All-head, All-nil, All-tail}
 use Rattle.std.specs.Cmp.{ranked, unsigned_tied}
@@ -36,6 +36,17 @@ All_flat P f [] each = All-nil P
 All_flat P f (x ∷ xs) each =
     All-append P (f x) (flat_map f xs) (All-head (λ y. All P (f y)) x xs each)
     (All_flat P f xs (All-tail (λ y. All P (f y)) x xs each))
+
+-- what each image has, each element's image has
+pub All_unmap : {X Y : Type 0} (P : Y → Type 0) (f : X → Y) (xs : List X) → All P (map f xs) → All (λ x. P (f x)) xs
+All_unmap P f [] each = All-nil (λ x. P (f x))
+All_unmap P f (x ∷ xs) each =
+    All-cons (λ x. P (f x)) x xs (All-head P (f x) (map f xs) each) (All_unmap P f xs (All-tail P (f x) (map f xs) each))
+
+-- what each step of a fold keeps, the fold keeps
+pub fold_keeps : {A B : Type 0} (P : B → Type 0) (f : B → A → B) (xs : List A) (b : B) → P b → ((b : B) (a : A) → P b → P (f b a)) → P (fold f b xs)
+fold_keeps P f [] b now step = now
+fold_keeps P f (x ∷ xs) b now step = fold_keeps P f xs (f b x) (step b x now) step
 
 -- ---- maps
 
@@ -121,3 +132,9 @@ module _ {X : Type 0} where
             All-cons P here (insert things number thing) (All-head P here things each)
             (All_insert P things number thing (All-tail P here things each) new)
       ] refl
+
+  -- what a test finds among the pairs of a map in order is found under its number
+  pub find_is_got : (p : ℕ × X → Bool) (things : NumberMap X) (pair : ℕ × X) → IsInOrder things → find p things ≡ Some pair → get things pair.0 ≡ Some pair.1
+  find_is_got p things pair order found =
+      All_find (λ (pair : ℕ × X). get things pair.0 ≡ Some pair.1) p things pair
+      (All_pairs (λ q x. get things q ≡ Some x) things order (λ q x there. there)) found

@@ -4,6 +4,7 @@ use Rattle.std.specs.Int.{w32, w64}
 use Rattle.std.specs.List.{IsDistinct}
 use Rattle.std.proofs.lemmas.Bool.{cond_both}
 use Rattle.std.proofs.lemmas.List.Elements.{All-drop, All-nil, All-push, All-take}
+use Rattle.rk_types.proofs.NumberMaps.{get_other, get_same}
 use Rattle.rk_types.specs.NumberMap.{IsInOrder, get}
 use Rattle.rk_types.specs.declared.call.Ended.{Ended}
 use Rattle.rk_done.specs.Completions.{Completions, ends_of, noted}
@@ -14,7 +15,7 @@ use Rattle.rk_priority.specs.declared.wanted.TheConstants.{BATCH_HASHES}
 use Rattle.rk_transfer.specs.declared.handover.Handover.{Handover}
 use Rattle.rk_world.specs.Formed.{IsFormedGathered, IsFormedMaster, IsFormedPulling, IsFormedTablet, place_in}
 use Rattle.rk_world.specs.Limits.{IsFormedEnd, IsFormedHeld, IsFormedNumber, Limits}
-use Rattle.rk_world.specs.Master.{Master, tablet_at}
+use Rattle.rk_world.specs.Master.{Master, tablet_at, with_tablet}
 use Rattle.rk_world.specs.MasterTurn.{with_outstanding}
 use Rattle.rk_world.specs.Premises.{IsMaster}
 use Rattle.rk_world.specs.Pulls.{with_pulling}
@@ -266,3 +267,12 @@ formed_at limits number master id formed known = go (get master.tablets id) refl
     go : (found : Option Tablet) → get master.tablets id ≡ found → (unwrap_or found no_tablet ≡ no_tablet → ⊥) → IsFormedTablet limits id (unwrap_or found no_tablet)
     go None is there = absurd (there refl)
     go (Some tablet) is there = formed.tablets id tablet is
+
+-- what is found once a tablet is so
+pub tablet_with_same : (master : Master) (id : ℕ) (tablet : Tablet) → tablet_at (with_tablet master id tablet) id ≡ tablet
+tablet_with_same master id tablet =
+    ap (λ (found : Option Tablet). unwrap_or found no_tablet) (get_same master.tablets id tablet id refl)
+
+pub tablet_with_other : (master : Master) (id : ℕ) (tablet : Tablet) (q : ℕ) → (q ≡ id → ⊥) → tablet_at (with_tablet master id tablet) q ≡ tablet_at master q
+tablet_with_other master id tablet q apart =
+    ap (λ (found : Option Tablet). unwrap_or found no_tablet) (get_other master.tablets id tablet q apart)
