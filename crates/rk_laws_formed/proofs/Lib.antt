@@ -3,3 +3,9 @@ pub mod Rising
 pub mod Sizes
 pub mod Given
 pub mod Handovers
+pub mod Maps
+pub mod Changes
+pub mod Completed
+pub mod Tablets
+pub mod Messages
+pub mod Requests

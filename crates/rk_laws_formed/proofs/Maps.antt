@@ -1,0 +1,140 @@
+-- Maps by number and their pairs: what each thing of a map has, each of its pairs has, and the other way round.
+use Rattle.std.proofs.Common.{map, fold, ◌≡◌, ◌<◌, ℕ, Bool, true, false, ◌&&◌, cond, T, All, List, [], ◌∷◌, Some, flat_map, refl, sym, subst, ◌∙◌, arith}
+use Rattle.std.proofs.lemmas.Bool.{cond-false, cond-true, eq-eqb, ne_eqb}
+use Rattle.std.proofs.lemmas.List.Elements.{All-append, All-cons, All-head, All-nil, All-tail}
+use Rattle.std.specs.Cmp.{ranked, unsigned_tied}
+use Rattle.std.specs.FinMap.Entries.{below_all, by_order}
+use Rattle.std.specs.List.{find}
+use Rattle.std.specs.Ordering.{eq_by_cmp, is_lt, nat_cmp}
+use Rattle.std.specs.declared.cmp.Ordering.TheVariants.{Less, Equal, Greater}
+use Rattle.rk_types.proofs.NumberMaps.{same_number}
+use Rattle.rk_types.specs.NumberMap.{EachIn, IsInOrder, NumberMap, get, insert}
+
+-- ---- lists
+
+-- what a test finds has what each element has
+pub All_find : {X : Type 0} (P : X → Type 0) (p : X → Bool) (xs : List X) (x : X) → All P xs → find p xs ≡ Some x → P x
+All_find P p [] x each found = absurd (cc found)
+All_find P p (y ∷ ys) x each found =
+    elim (p y) as (λ b. cond b (Some y) (find p ys) ≡ Some x → P x) [
+      | true ↦ λ e. let same : y ≡ x = cc e in subst P same (All-head P y ys each)
+      | false ↦ λ e. All_find P p ys x (All-tail P y ys each) e
+    ] found
+
+-- it passes the test
+pub find_passes : {X : Type 0} (p : X → Bool) (xs : List X) (x : X) → find p xs ≡ Some x → p x ≡ true
+find_passes p [] x found = absurd (cc found)
+find_passes {X} p (y ∷ ys) x found =
+    elim (p y) as (λ b. p y ≡ b → cond b (Some y) (find p ys) ≡ Some x → p x ≡ true) [
+      | true ↦ λ is e. let same : y ≡ x = cc e in subst (λ (z : X). p z ≡ true) same is
+      | false ↦ λ is e. find_passes p ys x e
+    ] refl found
+
+-- what all pieces have, all of them together have
+pub All_flat : {X Y : Type 0} (P : Y → Type 0) (f : X → List Y) (xs : List X) → All (λ x. All P (f x)) xs → All P (flat_map f xs)
+All_flat P f [] each = All-nil P
+All_flat P f (x ∷ xs) each =
+    All-append P (f x) (flat_map f xs) (All-head (λ y. All P (f y)) x xs each)
+    (All_flat P f xs (All-tail (λ y. All P (f y)) x xs each))
+
+-- what each image has, each element's image has
+pub All_unmap : {X Y : Type 0} (P : Y → Type 0) (f : X → Y) (xs : List X) → All P (map f xs) → All (λ x. P (f x)) xs
+All_unmap P f [] each = All-nil (λ x. P (f x))
+All_unmap P f (x ∷ xs) each =
+    All-cons (λ x. P (f x)) x xs (All-head P (f x) (map f xs) each) (All_unmap P f xs (All-tail P (f x) (map f xs) each))
+
+-- what each step of a fold keeps, the fold keeps
+pub fold_keeps : {A B : Type 0} (P : B → Type 0) (f : B → A → B) (xs : List A) (b : B) → P b → ((b : B) (a : A) → P b → P (f b a)) → P (fold f b xs)
+fold_keeps P f [] b now step = now
+fold_keeps P f (x ∷ xs) b now step = fold_keeps P f xs (f b x) (step b x now) step
+
+-- ---- maps
+
+-- the two halves of a test
+pub both_hold : (a b : Bool) → T a → T b → T (a && b)
+both_hold true b h k = k
+both_hold false b h k = absurd h
+
+pub first : (a b : Bool) → T (a && b) → T a
+first true b p = tt
+first false b p = p
+
+pub second : (a b : Bool) → T (a && b) → T b
+second true b p = p
+second false b p = absurd p
+
+pub is_below : (x y : ℕ) → T (is_lt (nat_cmp x y)) → x < y
+is_below x y h =
+    elim (nat_cmp x y) as (λ r. nat_cmp x y ≡ r → T (is_lt r) → x < y) [
+      | Less ↦ λ e _. ranked x y Less (sym e)
+      | Equal ↦ λ _ p. absurd p
+      | Greater ↦ λ _ p. absurd p
+    ] refl h
+
+module _ {X : Type 0} where
+  -- a number that is found is above one that is below all
+  pub above_all : (n : ℕ) (things : NumberMap X) (q : ℕ) (x : X) → T (below_all nat_cmp n things) → get things q ≡ Some x → n < q
+  above_all n [] q x below found = absurd (cc found)
+  above_all n (thing ∷ things) q x below found =
+      elim (eq_by_cmp nat_cmp q thing.0) as (λ b. eq_by_cmp nat_cmp q thing.0 ≡ b → cond b (Some thing.1) (get things q) ≡ Some x → n < q) [
+        | true ↦ λ is e.
+            omega (arith, same_number q thing.0 is, is_below n thing.0 (first (is_lt (nat_cmp n thing.0)) (below_all nat_cmp n things) below))
+        | false ↦ λ is e. above_all n things q x (second (is_lt (nat_cmp n thing.0)) (below_all nat_cmp n things) below) e
+      ] refl found
+
+  -- the first pair is found under its number
+  pub get_first : (thing : ℕ × X) (things : NumberMap X) → get (thing ∷ things) thing.0 ≡ Some thing.1
+  get_first thing things =
+      cond-true (eq_by_cmp nat_cmp thing.0 thing.0) (Some thing.1) (get things thing.0)
+      (unsigned_tied thing.0 thing.0 ∙ eq-eqb thing.0 thing.0 refl)
+
+  -- and what is found behind it is found
+  pub get_later : (thing : ℕ × X) (things : NumberMap X) (q : ℕ) (x : X) → IsInOrder (thing ∷ things) → get things q ≡ Some x → get (thing ∷ things) q ≡ Some x
+  get_later thing things q x order found =
+      let above : thing.0 < q = above_all thing.0 things q x (first (below_all nat_cmp thing.0 things) _ order) found in
+      cond-false (eq_by_cmp nat_cmp q thing.0) (Some thing.1) (get things q)
+      (unsigned_tied q thing.0 ∙ ne_eqb q thing.0 (λ (is : q ≡ thing.0). omega arith))
+      ∙ found
+
+  -- what stands behind the first pair of a map in order is in order
+  pub order_tail : (thing : ℕ × X) (things : NumberMap X) → IsInOrder (thing ∷ things) → IsInOrder things
+  order_tail thing things order = second (below_all nat_cmp thing.0 things) _ order
+
+  -- in a map in order each pair has what each thing has
+  pub All_pairs : (Fits : ℕ → X → Type 0) (things : NumberMap X) → IsInOrder things → EachIn Fits things → All (λ pair. Fits pair.0 pair.1) things
+  All_pairs Fits [] order each = All-nil (λ pair. Fits pair.0 pair.1)
+  All_pairs Fits (thing ∷ things) order each =
+      All-cons (λ pair. Fits pair.0 pair.1) thing things (each thing.0 thing.1 (get_first thing things))
+      (All_pairs Fits things (order_tail thing things order) (λ q x found. each q x (get_later thing things q x order found)))
+
+  -- and in any map each thing has what each pair has
+  pub each_from_pairs : (Fits : ℕ → X → Type 0) (things : NumberMap X) → All (λ pair. Fits pair.0 pair.1) things → EachIn Fits things
+  each_from_pairs Fits [] each q x found = absurd (cc found)
+  each_from_pairs Fits (thing ∷ things) each q x found =
+      elim (eq_by_cmp nat_cmp q thing.0) as (λ b. eq_by_cmp nat_cmp q thing.0 ≡ b → cond b (Some thing.1) (get things q) ≡ Some x → Fits q x) [
+        | true ↦ λ is e.
+            let same : thing.1 ≡ x = cc e in
+            subst (Fits q) same
+            (subst (λ (n : ℕ). Fits n thing.1) (sym (same_number q thing.0 is)) (All-head (λ pair. Fits pair.0 pair.1) thing things each))
+        | false ↦ λ is e. each_from_pairs Fits things (All-tail (λ pair. Fits pair.0 pair.1) thing things each) q x e
+      ] refl found
+
+  -- each pair of a map has what each of its pairs had, and the new one has
+  pub All_insert : (P : ℕ × X → Type 0) (things : NumberMap X) (number : ℕ) (thing : X) → All P things → P (number, thing) → All P (insert things number thing)
+  All_insert P [] number thing each new = All-cons P (number, thing) [] new (All-nil P)
+  All_insert P (here ∷ things) number thing each new =
+      elim (nat_cmp number here.0) as (λ o. nat_cmp number here.0 ≡ o → All P (by_order o ((number, thing) ∷ here ∷ things) ((here.0, thing) ∷ things) (here ∷ insert things number thing))) [
+        | Less ↦ λ is. All-cons P (number, thing) (here ∷ things) new each
+        | Equal ↦ λ is.
+            let same : number ≡ here.0 = ranked number here.0 Equal (sym is) in
+            All-cons P (here.0, thing) things (subst (λ (n : ℕ). P (n, thing)) same new) (All-tail P here things each)
+        | Greater ↦ λ is.
+            All-cons P here (insert things number thing) (All-head P here things each)
+            (All_insert P things number thing (All-tail P here things each) new)
+      ] refl
+
+  -- what a test finds among the pairs of a map in order is found under its number
+  pub find_is_got : (p : ℕ × X → Bool) (things : NumberMap X) (pair : ℕ × X) → IsInOrder things → find p things ≡ Some pair → get things pair.0 ≡ Some pair.1
+  find_is_got p things pair order found =
+      All_find (λ (pair : ℕ × X). get things pair.0 ≡ Some pair.1) p things pair
+      (All_pairs (λ q x. get things q ≡ Some x) things order (λ q x there. there)) found
