@@ -9,3 +9,5 @@ pub mod Completed
 pub mod Tablets
 pub mod Messages
 pub mod Requests
+pub mod Pulls
+pub mod Replays

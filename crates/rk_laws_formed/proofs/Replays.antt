@@ -1,0 +1,118 @@
+-- A target that replays what it pulled, and seals it, stays well formed.
+use Rattle.std.proofs.Common.{◌≡◌, ◌≤◌, ◌<◌, ◌+◌, ◌-◌, ◌%◌, ◌==◌, ◌&&◌, ◌^◌, ℕ, zero, suc, Bool, false, true, cond, nat_le, if◌then◌else◌, List, [], ◌∷◌, ◌++◌, fold, map, sum, All, length, length-append, length-set, Option, None, Some, refl, ap, subst, sym, ◌∙◌, arith, lit<}
+use Rattle.std.specs.Int.{w16, w32, w64}
+use Rattle.std.specs.List.{flat_map}
+use Rattle.std.specs.Prelude.{slice_set, slice_index_or}
+use Rattle.std.proofs.lemmas.List.Elements.{All-append, All-cons, All-filter, All-get_or, All-head, All-nil, All-push, All-set, All-tail, All-weaker}
+use Rattle.rk_types.specs.declared.held.Held.{Held}
+use Rattle.rk_types.specs.declared.held.Token.{Token}
+use Rattle.rk_message.specs.Fields.{IsLawfulToken}
+use Rattle.rk_table.specs.Items.{found, is_newer}
+use Rattle.rk_world.specs.Formed.{IsFormedMaster, IsFormedPulling, IsFormedTablet}
+use Rattle.rk_world.specs.Limits.{IsFormedHeld, Limits}
+use Rattle.rk_world.specs.Master.{Master, tablet_at, with_item, with_tablet}
+use Rattle.rk_world.specs.Pulls.{item_replayed, replay, replay_one, token_passed, with_pulled, with_pulling}
+use Rattle.rk_world.specs.Tablet.{Pulling, Tablet}
+use Rattle.rk_laws_formed.proofs.Changes.{formed_with_item, formed_with_tablet}
+use Rattle.rk_laws_formed.proofs.Pulls.{all_flat}
+use Rattle.rk_laws_formed.proofs.Tablets.{formed_with_pulling, tablet_with_same}
+
+-- what all elements of two lists have, all of the first have, and all of the second
+pub all_of_front : {X : Type 0} (P : X → Type 0) (xs ys : List X) → All P (xs ++ ys) → All P xs
+all_of_front P [] ys all = All-nil P
+all_of_front P (x ∷ xs) ys all =
+    All-cons P x xs (All-head P x (xs ++ ys) all) (all_of_front P xs ys (All-tail P x (xs ++ ys) all))
+
+pub all_of_back : {X : Type 0} (P : X → Type 0) (xs ys : List X) → All P (xs ++ ys) → All P ys
+all_of_back P [] ys all = all
+all_of_back P (x ∷ xs) ys all = all_of_back P xs ys (All-tail P x (xs ++ ys) all)
+
+-- what the elements of lists have one after the other, each list's elements have
+pub flat_all : {X Y : Type 0} (P : Y → Type 0) (f : X → List Y) (xs : List X) → All P (flat_map f xs) → All (λ x. All P (f x)) xs
+flat_all P f [] all = All-nil _
+flat_all {X = X} P f (x ∷ xs) all =
+    All-cons (λ (x : X). All P (f x)) x xs (all_of_front P (f x) (flat_map f xs) all)
+    (flat_all P f xs (all_of_back P (f x) (flat_map f xs) all))
+
+-- what each list of lists has, the list at a place has, where none counts as the empty one
+all_at : (P : Held → Type 0) (sides : List (List Held)) (place : ℕ) → All (All P) sides → All P (slice_index_or sides place [])
+all_at P [] place all = All-nil P
+all_at P (side ∷ sides) zero all = All-head (All P) side sides all
+all_at P (side ∷ sides) (suc place) all = all_at P sides place (All-tail (All P) side sides all)
+
+-- a worker's items with one more
+formed_with_pulled : (limits : Limits) (pulling : Pulling) (worker : ℕ) (item : Held) → IsFormedPulling limits pulling → IsFormedHeld limits item → IsFormedPulling limits (with_pulled pulling worker item)
+formed_with_pulled limits pulling worker item formed new = record {
+  token = formed.token;
+  wanted = formed.wanted;
+  outstanding = formed.outstanding;
+  workers = length-set pulling.sides worker _ ∙ formed.workers;
+  items =
+      all_flat (IsFormedHeld limits) (λ items. items) _
+      (All-set (All (IsFormedHeld limits)) pulling.sides worker _
+      (All-push (IsFormedHeld limits) (slice_index_or pulling.sides worker []) item
+      (all_at (IsFormedHeld limits) pulling.sides worker sides) new)
+      sides);
+  sealed = formed.sealed;
+}
+  where
+    sides : All (All (IsFormedHeld limits)) pulling.sides
+    sides = flat_all (IsFormedHeld limits) (λ items. items) pulling.sides formed.items
+
+-- a master, and one of its tablets, that are well formed
+pub record IsFormedAt (limits : Limits) (number id : ℕ) (master : Master) : Type 0 where
+  pub master_is : IsFormedMaster limits number master
+  pub tablet_is : IsFormedTablet limits id (tablet_at master id)
+
+-- a master with another state of a tablet
+pub formed_put : (limits : Limits) (number id : ℕ) (master : Master) (tablet : Tablet) → IsFormedMaster limits number master → IsFormedTablet limits id tablet → IsFormedAt limits number id (with_tablet master id tablet)
+formed_put limits number id master tablet formed new = record {
+  master_is = formed_with_tablet limits number master id tablet formed new;
+  tablet_is = subst (IsFormedTablet limits id) (sym (tablet_with_same master id tablet)) new;
+}
+
+-- an item is replayed
+formed_replayed : (limits : Limits) (number id worker : ℕ) (master : Master) (item : Held) → IsFormedAt limits number id master → IsFormedHeld limits item → IsFormedAt limits number id (item_replayed id worker master item)
+formed_replayed limits number id worker master item formed new =
+    formed_put limits number id (with_item master item) _
+    (formed_with_item limits number master item formed.master_is new)
+    (formed_with_pulling limits id (tablet_at master id) (with_pulled (tablet_at master id).pulling worker item)
+    formed.tablet_is
+    (formed_with_pulled limits (tablet_at master id).pulling worker item formed.tablet_is.pulled new)
+    formed.tablet_is.source)
+
+-- where it is newer
+formed_replay_one : (limits : Limits) (number id worker : ℕ) (master : Master) (item : Held) → IsFormedAt limits number id master → IsFormedHeld limits item → IsFormedAt limits number id (replay_one id worker master item)
+formed_replay_one limits number id worker master item formed new =
+    elim (is_newer item (found item.table item.key master.records)) as (λ b. IsFormedAt limits number id (cond b (item_replayed id worker master item) master)) [
+      | true ↦ formed_replayed limits number id worker master item formed new
+      | false ↦ formed
+    ]
+
+-- items are replayed, one after the other
+pub formed_replay : (limits : Limits) (number id worker : ℕ) (items : List Held) (master : Master) → IsFormedAt limits number id master → All (IsFormedHeld limits) items → IsFormedAt limits number id (replay master id worker items)
+formed_replay limits number id worker [] master formed new = formed
+formed_replay limits number id worker (item ∷ items) master formed new =
+    formed_replay limits number id worker items (replay_one id worker master item)
+    (formed_replay_one limits number id worker master item formed (All-head (IsFormedHeld limits) item items new))
+    (All-tail (IsFormedHeld limits) item items new)
+
+-- a target has taken a batch
+pub formed_passed : (limits : Limits) (number id : ℕ) (master : Master) (next : Token) → IsLawfulToken next → IsFormedAt limits number id master → IsFormedAt limits number id (token_passed master id next)
+formed_passed limits number id master next token formed =
+    let it = tablet_at master id in
+    let pulled = formed.tablet_is.pulled in
+    formed_put limits number id master
+    (with_pulling it (record it.pulling { token = next; batches = it.pulling.batches + 1 }))
+    formed.master_is
+    (formed_with_pulling limits id it (record it.pulling { token = next; batches = it.pulling.batches + 1 })
+    formed.tablet_is
+    (record {
+      token = token;
+      wanted = pulled.wanted;
+      outstanding = pulled.outstanding;
+      workers = pulled.workers;
+      items = pulled.items;
+      sealed = pulled.sealed;
+    })
+    formed.tablet_is.source)
