@@ -5,3 +5,5 @@ pub mod Completed
 pub mod Tablets
 pub mod Messages
 pub mod Requests
+pub mod Waiting
+pub mod Commits
