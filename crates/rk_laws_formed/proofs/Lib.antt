@@ -11,3 +11,5 @@ pub mod Messages
 pub mod Requests
 pub mod Pulls
 pub mod Replays
+pub mod Waiting
+pub mod Commits

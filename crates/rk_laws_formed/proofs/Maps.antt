@@ -1,5 +1,5 @@
 -- Maps by number and their pairs: what each thing of a map has, each of its pairs has, and the other way round.
-use Rattle.std.proofs.Common.{map, fold, ◌≡◌, ◌<◌, ℕ, Bool, true, false, ◌&&◌, cond, T, All, List, [], ◌∷◌, Some, flat_map, refl, sym, subst, ◌∙◌, arith}
+use Rattle.std.proofs.Common.{map, fold, ◌++◌, ◌≡◌, ◌<◌, ℕ, Bool, true, false, ◌&&◌, cond, T, All, List, [], ◌∷◌, Some, flat_map, refl, sym, subst, ◌∙◌, arith}
 use Rattle.std.proofs.lemmas.Bool.{cond-false, cond-true, eq-eqb, ne_eqb}
 use Rattle.std.proofs.lemmas.List.Elements.{All-append, All-cons, All-head, All-nil, All-tail}
 use Rattle.std.specs.Cmp.{ranked, unsigned_tied}
@@ -47,6 +47,19 @@ All_unmap P f (x ∷ xs) each =
 pub fold_keeps : {A B : Type 0} (P : B → Type 0) (f : B → A → B) (xs : List A) (b : B) → P b → ((b : B) (a : A) → P b → P (f b a)) → P (fold f b xs)
 fold_keeps P f [] b now step = now
 fold_keeps P f (x ∷ xs) b now step = fold_keeps P f xs (f b x) (step b x now) step
+
+-- the parts of a joined list have what all of it has
+pub All_front : {X : Type 0} (P : X → Type 0) (xs ys : List X) → All P (xs ++ ys) → All P xs
+All_front P [] ys each = All-nil P
+All_front P (x ∷ xs) ys each =
+    All-cons P x xs (All-head P x (xs ++ ys) each) (All_front P xs ys (All-tail P x (xs ++ ys) each))
+
+pub All_back : {X : Type 0} (P : X → Type 0) (xs ys : List X) → All P (xs ++ ys) → All P ys
+All_back P [] ys each = each
+All_back P (x ∷ xs) ys each = All_back P xs ys (All-tail P x (xs ++ ys) each)
+
+pub All_last : {X : Type 0} (P : X → Type 0) (xs : List X) (x : X) → All P (xs ++ x ∷ []) → P x
+All_last P xs x each = All-head P x [] (All_back P xs (x ∷ []) each)
 
 -- ---- maps
 
