@@ -17,7 +17,7 @@ MOST_BYTES = 2 ^ 30
 
 -- a master has fewer records than this
 abbrev pub MOST_RECORDS : ℕ
-MOST_RECORDS = 2 ^ 32
+MOST_RECORDS = 2 ^ 30
 
 -- what a master has fits: its records can be counted, and each entry of its log fits a segment
 pub record HasRoomIn (master : Master) : Type 0 where
