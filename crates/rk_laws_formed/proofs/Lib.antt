@@ -13,3 +13,4 @@ pub mod Pulls
 pub mod Replays
 pub mod Waiting
 pub mod Commits
+pub mod Sealing

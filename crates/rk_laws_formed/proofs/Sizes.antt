@@ -39,6 +39,10 @@ count_spelled (entry ∷ entries) =
 pub entries_few : (master : Master) → length master.log.entries ≤ log_bytes master
 entries_few master = omega (arith, count_spelled master.log.entries, bytes_spelled master.log.entries)
 
+-- the side segments of a master have no more bytes than all
+pub side_bytes : (master : Master) → sum_by (λ (b : List ℕ). length b) master.log.sides ≤ log_bytes master
+side_bytes master = omega arith
+
 below_fits : (count bytes : ℕ) → count ≤ bytes → bytes < 2 ^ 30 → IsNumber w64 0 count
 below_fits count bytes few room = record { least_is = omega arith; fits = omega arith }
 
