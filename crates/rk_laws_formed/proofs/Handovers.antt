@@ -60,7 +60,7 @@ with_move_is_formed limits number master tablet (Some handover) some is leaves r
     (beside_at limits number master tablet some formed))
 
 -- what is asked for anew, by a well formed tenure, has its counter
-begun_leaves : (limits : Limits) (handover : Handover) (term : ℕ) (range : Range) (role : Role) → IsFormedNumber limits handover.counter → IsFormedNumber limits term → IsLawfulRange range → IsNumber w64 0 (place_in role) → Leaves limits (begun handover term range role)
+pub begun_leaves : (limits : Limits) (handover : Handover) (term : ℕ) (range : Range) (role : Role) → IsFormedNumber limits handover.counter → IsFormedNumber limits term → IsLawfulRange range → IsNumber w64 0 (place_in role) → Leaves limits (begun handover term range role)
 begun_leaves limits handover term range role counter new lawful place after is =
     elim (nat_lt handover.term term) as (λ b. cond b (Some (record handover { role = role; term = term; range = range })) None ≡ Some after → IsFormedHandover limits after) [
       | true ↦ λ same.
@@ -70,7 +70,7 @@ begun_leaves limits handover term range role counter new lawful place after is =
     ] is
 
 -- and its role
-begun_role : (handover : Handover) (term : ℕ) (range : Range) (role : Role) (after : Handover) → begun handover term range role ≡ Some after → after.role ≡ role
+pub begun_role : (handover : Handover) (term : ℕ) (range : Range) (role : Role) (after : Handover) → begun handover term range role ≡ Some after → after.role ≡ role
 begun_role handover term range role after is =
     elim (nat_lt handover.term term) as (λ b. cond b (Some (record handover { role = role; term = term; range = range })) None ≡ Some after → after.role ≡ role) [
       | true ↦ λ same.
@@ -139,7 +139,7 @@ move_log master tablet None = refl
 move_log master tablet (Some handover) = refl
 
 -- a tablet in the role that is found is well formed, unless that is Absent
-there_in : (limits : Limits) (number : ℕ) (master : Master) (tablet : ℕ) (role : Role) → (tablet_at master tablet).handover.role ≡ role → is_absent role ≡ false → IsFormedMaster limits number master → IsFormedTablet limits tablet (tablet_at master tablet)
+pub there_in : (limits : Limits) (number : ℕ) (master : Master) (tablet : ℕ) (role : Role) → (tablet_at master tablet).handover.role ≡ role → is_absent role ≡ false → IsFormedMaster limits number master → IsFormedTablet limits tablet (tablet_at master tablet)
 there_in limits number master tablet role is there formed =
     tablet_there limits number master tablet (ap is_absent is ∙ there) formed
 

@@ -14,3 +14,5 @@ pub mod Replays
 pub mod Waiting
 pub mod Commits
 pub mod Sealing
+pub mod Merges
+pub mod Rebuilding

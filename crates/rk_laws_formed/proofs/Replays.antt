@@ -35,7 +35,7 @@ flat_all {X = X} P f (x ∷ xs) all =
     (flat_all P f xs (all_of_back P (f x) (flat_map f xs) all))
 
 -- what each list of lists has, the list at a place has, where none counts as the empty one
-all_at : (P : Held → Type 0) (sides : List (List Held)) (place : ℕ) → All (All P) sides → All P (slice_index_or sides place [])
+pub all_at : (P : Held → Type 0) (sides : List (List Held)) (place : ℕ) → All (All P) sides → All P (slice_index_or sides place [])
 all_at P [] place all = All-nil P
 all_at P (side ∷ sides) zero all = All-head (All P) side sides all
 all_at P (side ∷ sides) (suc place) all = all_at P sides place (All-tail (All P) side sides all)

@@ -306,7 +306,7 @@ receiving_there (roles.Joining entry) at_term is = absurd (cc is)
 receiving_there (roles.Rebuilding from entry) at_term is = absurd (cc is)
 
 -- of two tests that hold the first does
-first_holds : (a b : Bool) → (a && b) ≡ true → a ≡ true
+pub first_holds : (a b : Bool) → (a && b) ≡ true → a ≡ true
 first_holds true b is = refl
 first_holds false b is = is
 
