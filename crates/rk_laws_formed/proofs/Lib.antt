@@ -7,3 +7,5 @@ pub mod Messages
 pub mod Requests
 pub mod Waiting
 pub mod Commits
+pub mod Segments
+pub mod Turns

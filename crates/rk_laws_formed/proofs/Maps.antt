@@ -48,6 +48,12 @@ pub fold_keeps : {A B : Type 0} (P : B → Type 0) (f : B → A → B) (xs : Lis
 fold_keeps P f [] b now step = now
 fold_keeps P f (x ∷ xs) b now step = fold_keeps P f xs (f b x) (step b x now) step
 
+-- and so does one whose elements have something
+pub fold_keeps_all : {A B : Type 0} (P : B → Type 0) (Q : A → Type 0) (f : B → A → B) (xs : List A) (b : B) → P b → All Q xs → ((b : B) (a : A) → P b → Q a → P (f b a)) → P (fold f b xs)
+fold_keeps_all P Q f [] b now each step = now
+fold_keeps_all P Q f (x ∷ xs) b now each step =
+    fold_keeps_all P Q f xs (f b x) (step b x now (All-head Q x xs each)) (All-tail Q x xs each) step
+
 -- the parts of a joined list have what all of it has
 pub All_front : {X : Type 0} (P : X → Type 0) (xs ys : List X) → All P (xs ++ ys) → All P xs
 All_front P [] ys each = All-nil P
