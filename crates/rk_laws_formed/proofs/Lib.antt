@@ -9,3 +9,4 @@ pub mod Waiting
 pub mod Commits
 pub mod Segments
 pub mod Turns
+pub mod Counters

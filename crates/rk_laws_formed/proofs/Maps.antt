@@ -49,7 +49,8 @@ fold_keeps P f [] b now step = now
 fold_keeps P f (x ∷ xs) b now step = fold_keeps P f xs (f b x) (step b x now) step
 
 -- and so does one whose elements have something
-pub fold_keeps_all : {A B : Type 0} (P : B → Type 0) (Q : A → Type 0) (f : B → A → B) (xs : List A) (b : B) → P b → All Q xs → ((b : B) (a : A) → P b → Q a → P (f b a)) → P (fold f b xs)
+pub fold_keeps_all : {A B : Type 0} (P : B → Type 0) (Q : A → Type 0) (f : B → A → B) (xs : List A) (b : B) → P b → All Q xs
+    → ((b : B) (a : A) → P b → Q a → P (f b a)) → P (fold f b xs)
 fold_keeps_all P Q f [] b now each step = now
 fold_keeps_all P Q f (x ∷ xs) b now each step =
     fold_keeps_all P Q f xs (f b x) (step b x now (All-head Q x xs each)) (All-tail Q x xs each) step
@@ -108,7 +109,8 @@ module _ {X : Type 0} where
       (unsigned_tied thing.0 thing.0 ∙ eq-eqb thing.0 thing.0 refl)
 
   -- and what is found behind it is found
-  pub get_later : (thing : ℕ × X) (things : NumberMap X) (q : ℕ) (x : X) → IsInOrder (thing ∷ things) → get things q ≡ Some x → get (thing ∷ things) q ≡ Some x
+  pub get_later : (thing : ℕ × X) (things : NumberMap X) (q : ℕ) (x : X) → IsInOrder (thing ∷ things) → get things q ≡ Some x
+      → get (thing ∷ things) q ≡ Some x
   get_later thing things q x order found =
       let above : thing.0 < q = above_all thing.0 things q x (first (below_all nat_cmp thing.0 things) _ order) found in
       cond-false (eq_by_cmp nat_cmp q thing.0) (Some thing.1) (get things q)
@@ -139,7 +141,8 @@ module _ {X : Type 0} where
       ] refl found
 
   -- each pair of a map has what each of its pairs had, and the new one has
-  pub All_insert : (P : ℕ × X → Type 0) (things : NumberMap X) (number : ℕ) (thing : X) → All P things → P (number, thing) → All P (insert things number thing)
+  pub All_insert : (P : ℕ × X → Type 0) (things : NumberMap X) (number : ℕ) (thing : X) → All P things → P (number, thing)
+      → All P (insert things number thing)
   All_insert P [] number thing each new = All-cons P (number, thing) [] new (All-nil P)
   All_insert P (here ∷ things) number thing each new =
       elim (nat_cmp number here.0) as (λ o. nat_cmp number here.0 ≡ o → All P (by_order o ((number, thing) ∷ here ∷ things) ((here.0, thing) ∷ things) (here ∷ insert things number thing))) [
@@ -153,7 +156,8 @@ module _ {X : Type 0} where
       ] refl
 
   -- what a test finds among the pairs of a map in order is found under its number
-  pub find_is_got : (p : ℕ × X → Bool) (things : NumberMap X) (pair : ℕ × X) → IsInOrder things → find p things ≡ Some pair → get things pair.0 ≡ Some pair.1
+  pub find_is_got : (p : ℕ × X → Bool) (things : NumberMap X) (pair : ℕ × X) → IsInOrder things → find p things ≡ Some pair
+      → get things pair.0 ≡ Some pair.1
   find_is_got p things pair order found =
       All_find (λ (pair : ℕ × X). get things pair.0 ≡ Some pair.1) p things pair
       (All_pairs (λ q x. get things q ≡ Some x) things order (λ q x there. there)) found

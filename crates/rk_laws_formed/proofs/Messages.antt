@@ -56,11 +56,14 @@ tenure_fits limits tenure are formed =
 -- ---- messages
 
 -- a master of a lane is there
-pub master_there : (limits : Limits) (number : ℕ) (master : Master) → IsMaster limits.masters number → master.number ≡ number → IsThere limits (nodes.Master master.number)
+pub master_there : (limits : Limits) (number : ℕ) (master : Master) → IsMaster limits.masters number → master.number ≡ number
+    → IsThere limits (nodes.Master master.number)
 master_there limits number master there is = subst (IsMaster limits.masters) (sym is) there
 
 -- a message from a master
-pub formed_from : (limits : Limits) (number : ℕ) (master : Master) (to : Node) (body : Body) → IsMaster limits.masters number → master.number ≡ number → IsThere limits to → IsLawfulBody body → IsFormedBody limits (nodes.Master master.number) body → IsFormedMessage limits (from_master master to body)
+pub formed_from : (limits : Limits) (number : ℕ) (master : Master) (to : Node) (body : Body) → IsMaster limits.masters number → master.number ≡ number
+    → IsThere limits to → IsLawfulBody body → IsFormedBody limits (nodes.Master master.number) body
+    → IsFormedMessage limits (from_master master to body)
 formed_from limits number master to body there is receiver lawful says = record {
   from = master_there limits number master there is;
   to = receiver;
@@ -69,7 +72,8 @@ formed_from limits number master to body there is receiver lawful says = record 
 }
 
 -- an answer to the client of a call
-pub formed_answering : (limits : Limits) (number : ℕ) (master : Master) (call : Call) (answer : Answer) → IsMaster limits.masters number → master.number ≡ number → IsLawfulCall call → IsLawfulAnswer answer → IsFormedMessage limits (answering master call answer)
+pub formed_answering : (limits : Limits) (number : ℕ) (master : Master) (call : Call) (answer : Answer) → IsMaster limits.masters number
+    → master.number ≡ number → IsLawfulCall call → IsLawfulAnswer answer → IsFormedMessage limits (answering master call answer)
 formed_answering limits number master call answer there is lawful says = record {
   from = master_there limits number master there is;
   to = lawful.client;

@@ -35,11 +35,17 @@ fits_with_bytes segments bytes each new =
     cond_both (has_room segments bytes) (in_last segments bytes) (segments ++ bytes ∷ []) (All FitsBytes)
     (λ room.
     All-set FitsBytes segments (length segments - 1) (last_of segments ++ bytes)
-    (omega (arith, length-append (last_of segments) bytes, leb-true (length (last_of segments) + length bytes) SEGMENT_BYTES (and_parts _ (leb (length (last_of segments) + length bytes) SEGMENT_BYTES) room).1))
+    (omega (
+      arith,
+      length-append (last_of segments) bytes,
+      leb-true (length (last_of segments) + length bytes) SEGMENT_BYTES
+          (and_parts _ (leb (length (last_of segments) + length bytes) SEGMENT_BYTES) room).1,
+    ))
     each)
     (λ full. All-push FitsBytes segments bytes each new)
 
-fits_cut_after : (segments : List (List ℕ)) (entries : List Entry) → All FitsBytes segments → All FitsSegment entries → All FitsBytes (cut_after segments entries)
+fits_cut_after : (segments : List (List ℕ)) (entries : List Entry) → All FitsBytes segments → All FitsSegment entries
+    → All FitsBytes (cut_after segments entries)
 fits_cut_after segments [] each fits = each
 fits_cut_after segments (entry ∷ entries) each fits =
     fits_cut_after (with_bytes segments (spelled entry)) entries
@@ -72,7 +78,8 @@ sides_few : (sides : List (List ℕ)) → All IsFormedSide sides → length side
 sides_few sides each = length-le-bytes sides (λ k within. (each k [] within).some)
 
 -- each segment of a log can be told
-pub segments_told : (log : Log) → All FitsSegment log.entries → All IsFormedSide log.sides → segment_bytes log < MOST_BYTES → All IsTold (segments log)
+pub segments_told : (log : Log) → All FitsSegment log.entries → All IsFormedSide log.sides → segment_bytes log < MOST_BYTES
+    → All IsTold (segments log)
 segments_told log fits sides room =
     All-append IsTold (numbered 1 (cut log.entries)) (numbered FIRST_SIDE_SEGMENT log.sides)
     (numbered_told 1 (cut log.entries) (fits_cut log.entries fits) (omega (arith, main_few log.entries)))
@@ -104,7 +111,8 @@ missing_told known segment told lacks =
 pub pending_told : (log : Log) (backup : ℕ) → All IsTold (segments log) → IfSome (pending log backup) IsToldPiece
 pending_told log backup each = go (find (λ segment. not (is_whole (known_of log backup) segment)) (segments log)) refl
   where
-    go : (found : Option NumberedBytes) → find (λ segment. not (is_whole (known_of log backup) segment)) (segments log) ≡ found → IfSome (option_map (missing (known_of log backup)) found) IsToldPiece
+    go : (found : Option NumberedBytes) → find (λ segment. not (is_whole (known_of log backup) segment)) (segments log) ≡ found
+        → IfSome (option_map (missing (known_of log backup)) found) IsToldPiece
     go None is = tt
     go (Some segment) is =
         missing_told (known_of log backup) segment

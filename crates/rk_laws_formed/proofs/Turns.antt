@@ -52,7 +52,9 @@ range_within start (suc count) =
     (λ n within. (omega (arith, within.0), omega (arith, within.1))) (range_with_len (start + 1) count) (range_within (start + 1) count))
 
 -- what is sent to a backup
-append_formed : (limits : Limits) (number : ℕ) (master : Master) (backup : ℕ) (piece : Option PlacedBytes) → IsMaster limits.masters number → IsFormedMaster limits number master → (1 ≤ backup) × (backup ≤ limits.backups) → IfSome piece IsToldPiece → All (IsFormedMessage limits) (append_of master backup piece)
+append_formed : (limits : Limits) (number : ℕ) (master : Master) (backup : ℕ) (piece : Option PlacedBytes) → IsMaster limits.masters number
+    → IsFormedMaster limits number master → (1 ≤ backup) × (backup ≤ limits.backups) → IfSome piece IsToldPiece
+    → All (IsFormedMessage limits) (append_of master backup piece)
 append_formed limits number master backup None there formed is told = All-nil (IsFormedMessage limits)
 append_formed limits number master backup (Some piece) there formed is told =
     All-cons (IsFormedMessage limits) (append_to master backup piece) []
@@ -60,7 +62,8 @@ append_formed limits number master backup (Some piece) there formed is told =
     (All-nil (IsFormedMessage limits))
 
 -- what is sent to the backups, where each segment can be told
-pub appends_formed : (limits : Limits) (number : ℕ) (master : Master) → IsMaster limits.masters number → IsFormedMaster limits number master → All IsTold (segments master.log) → All (IsFormedMessage limits) (appends master)
+pub appends_formed : (limits : Limits) (number : ℕ) (master : Master) → IsMaster limits.masters number → IsFormedMaster limits number master
+    → All IsTold (segments master.log) → All (IsFormedMessage limits) (appends master)
 appends_formed limits number master there formed told =
     All_flat (IsFormedMessage limits) (λ backup. append_of master backup (pending master.log backup)) (range_with_len 1 (length master.log.known))
     (All-weaker (λ n. (1 ≤ n) × (n < 1 + length master.log.known))
@@ -78,7 +81,8 @@ pub record IsFormedReading (limits : Limits) (reading : Reading) : Type 0 where
   pub segment : IsNumber w32 0 reading.segment
 
 -- the side segments that a well formed entry names
-named_by_formed : (limits : Limits) (range : Range) (entry : Entry) → IsFormedEntry limits entry → All (IsNumber w32 FIRST_SIDE_SEGMENT) (named_by range entry)
+named_by_formed : (limits : Limits) (range : Range) (entry : Entry) → IsFormedEntry limits entry
+    → All (IsNumber w32 FIRST_SIDE_SEGMENT) (named_by range entry)
 named_by_formed limits range (entries.Held held) formed = All-nil (IsNumber w32 FIRST_SIDE_SEGMENT)
 named_by_formed limits range (entries.Refused refused) formed = All-nil (IsNumber w32 FIRST_SIDE_SEGMENT)
 named_by_formed limits range (entries.Carried carried) formed = All-nil (IsNumber w32 FIRST_SIDE_SEGMENT)
@@ -88,7 +92,8 @@ named_by_formed limits range (entries.Joined joined) formed =
     (λ apart. All-nil (IsNumber w32 FIRST_SIDE_SEGMENT))
 
 -- and those that well formed entries name
-pub named_formed : (limits : Limits) (range : Range) (entries : List Entry) → All (IsFormedEntry limits) entries → All (IsNumber w32 FIRST_SIDE_SEGMENT) (named range entries)
+pub named_formed : (limits : Limits) (range : Range) (entries : List Entry) → All (IsFormedEntry limits) entries
+    → All (IsNumber w32 FIRST_SIDE_SEGMENT) (named range entries)
 named_formed limits range entries each =
     fold_keeps_all (All (IsNumber w32 FIRST_SIDE_SEGMENT)) (IsNumber w32 FIRST_SIDE_SEGMENT) with_number (flat_map (named_by range) entries) []
     (All-nil (IsNumber w32 FIRST_SIDE_SEGMENT))
@@ -99,36 +104,45 @@ named_formed limits range entries each =
     (λ absent. All-push (IsNumber w32 FIRST_SIDE_SEGMENT) numbers number all new))
 
 -- the main entries that were read of a member, from its place on
-pub main_entries_formed : (limits : Limits) (gathered : Gathered) → IsFormedGathered limits gathered → All (IsFormedEntry limits) (main_entries gathered)
+pub main_entries_formed : (limits : Limits) (gathered : Gathered) → IsFormedGathered limits gathered
+    → All (IsFormedEntry limits) (main_entries gathered)
 main_entries_formed limits gathered formed =
     All-drop (IsFormedEntry limits) gathered.member.from (flat_map (λ entries. entries) gathered.main)
     (All_flat (IsFormedEntry limits) (λ entries. entries) gathered.main formed.main)
 
-side_fits : (limits : Limits) (range : Range) (gathered : Gathered) → IsFormedGathered limits gathered → IfSome (next_side range gathered) (IsNumber w32 0)
+side_fits : (limits : Limits) (range : Range) (gathered : Gathered) → IsFormedGathered limits gathered
+    → IfSome (next_side range gathered) (IsNumber w32 0)
 side_fits limits range gathered formed = go (next_side range gathered) refl
   where
     go : (found : Option ℕ) → next_side range gathered ≡ found → IfSome found (IsNumber w32 0)
     go None is = tt
     go (Some segment) is =
-        let named_is : IsNumber w32 FIRST_SIDE_SEGMENT segment = All_find (IsNumber w32 FIRST_SIDE_SEGMENT) (λ segment. not (is_some (get gathered.sides segment))) (named range (main_entries gathered)) segment (named_formed limits range (main_entries gathered) (main_entries_formed limits gathered formed)) is in
+        let named_is : IsNumber w32 FIRST_SIDE_SEGMENT segment =
+        All_find (IsNumber w32 FIRST_SIDE_SEGMENT) (λ segment. not (is_some (get gathered.sides segment)))
+        (named range (main_entries gathered)) segment
+        (named_formed limits range (main_entries gathered) (main_entries_formed limits gathered formed)) is in
         record { least_is = omega arith; fits = named_is.fits }
 
-segment_fits : (limits : Limits) (range : Range) (gathered : Gathered) → IsFormedGathered limits gathered → IfSome (next_segment range gathered) (IsNumber w32 0)
+segment_fits : (limits : Limits) (range : Range) (gathered : Gathered) → IsFormedGathered limits gathered
+    → IfSome (next_segment range gathered) (IsNumber w32 0)
 segment_fits limits range gathered formed =
     cond_both gathered.main_read (next_side range gathered) (Some (length gathered.main + 1)) (λ segment. IfSome segment (IsNumber w32 0))
     (λ passed. side_fits limits range gathered formed)
     (λ reads. record { least_is = omega arith; fits = omega (arith, formed.more reads) })
 
-reading_formed : (limits : Limits) (gathered : Gathered) (segment : Option ℕ) → IsMaster limits.masters gathered.member.master → IfSome segment (IsNumber w32 0) → IfSome (option_map (reading_of gathered) segment) (IsFormedReading limits)
+reading_formed : (limits : Limits) (gathered : Gathered) (segment : Option ℕ) → IsMaster limits.masters gathered.member.master
+    → IfSome segment (IsNumber w32 0) → IfSome (option_map (reading_of gathered) segment) (IsFormedReading limits)
 reading_formed limits gathered None there fits = tt
 reading_formed limits gathered (Some segment) there fits = record { master = there; segment = fits }
 
-either_formed : (limits : Limits) (first second : Option Reading) → IfSome first (IsFormedReading limits) → IfSome second (IsFormedReading limits) → IfSome (option_or first second) (IsFormedReading limits)
+either_formed : (limits : Limits) (first second : Option Reading) → IfSome first (IsFormedReading limits) → IfSome second (IsFormedReading limits)
+    → IfSome (option_or first second) (IsFormedReading limits)
 either_formed limits None second a b = b
 either_formed limits (Some reading) second a b = a
 
 -- what is read next of well formed members
-pub next_formed : (limits : Limits) (range : Range) (members : List Gathered) → All (IsFormedGathered limits) members → IfSome (next_of range members) (IsFormedReading limits)
+pub next_formed : (limits : Limits) (range : Range) (members : List Gathered) → All (IsFormedGathered limits) members
+    → IfSome (next_of range members) (IsFormedReading limits)
 next_formed limits range [] each = tt
 next_formed limits range (gathered ∷ others) each =
     let here = All-head (IsFormedGathered limits) gathered others each in
@@ -143,14 +157,18 @@ pub tenure_formed : (limits : Limits) (id : ℕ) (tablet : Tablet) → IsFormedT
 tenure_formed limits id tablet formed = record { tablet = formed.number_is; term = formed.term }
 
 -- a target asks for the batch from its token on
-pull_formed : (limits : Limits) (number : ℕ) (master : Master) (id : ℕ) (tablet : Tablet) → AreLimits limits → IsMaster limits.masters number → IsFormedMaster limits number master → IsFormedTablet limits id tablet → IsMaster limits.masters tablet.pulling.source → IsFormedMessage limits (pull_of master id tablet)
+pull_formed : (limits : Limits) (number : ℕ) (master : Master) (id : ℕ) (tablet : Tablet) → AreLimits limits → IsMaster limits.masters number
+    → IsFormedMaster limits number master → IsFormedTablet limits id tablet → IsMaster limits.masters tablet.pulling.source
+    → IsFormedMessage limits (pull_of master id tablet)
 pull_formed limits number master id tablet are there formed held source =
     formed_from limits number master (nodes.Master tablet.pulling.source) _ there formed.number_is source
     (tenure_fits limits (tenure_at id tablet) are (tenure_formed limits id tablet held), held.pulled.token)
     (tenure_formed limits id tablet held)
 
 -- and for the outstanding hashes
-want_formed : (limits : Limits) (number : ℕ) (master : Master) (id : ℕ) (tablet : Tablet) (hashes : List ℕ) → AreLimits limits → IsMaster limits.masters number → IsFormedMaster limits number master → IsFormedTablet limits id tablet → IsMaster limits.masters tablet.pulling.source → All (IsNumber w64 0) hashes → All (IsFormedMessage limits) (want_of master id tablet hashes)
+want_formed : (limits : Limits) (number : ℕ) (master : Master) (id : ℕ) (tablet : Tablet) (hashes : List ℕ) → AreLimits limits
+    → IsMaster limits.masters number → IsFormedMaster limits number master → IsFormedTablet limits id tablet
+    → IsMaster limits.masters tablet.pulling.source → All (IsNumber w64 0) hashes → All (IsFormedMessage limits) (want_of master id tablet hashes)
 want_formed limits number master id tablet [] are there formed held source each = All-nil (IsFormedMessage limits)
 want_formed limits number master id tablet (hash ∷ more) are there formed held source each =
     All-cons (IsFormedMessage limits) _ []
@@ -160,7 +178,9 @@ want_formed limits number master id tablet (hash ∷ more) are there formed held
     (All-nil (IsFormedMessage limits))
 
 -- a target asks for what it lacks
-receiving_formed : (limits : Limits) (number : ℕ) (master : Master) (id : ℕ) (tablet : Tablet) → AreLimits limits → IsMaster limits.masters number → IsFormedMaster limits number master → IsFormedTablet limits id tablet → IsMaster limits.masters tablet.pulling.source → IsFormedWork limits number (receiving_duty master id tablet)
+receiving_formed : (limits : Limits) (number : ℕ) (master : Master) (id : ℕ) (tablet : Tablet) → AreLimits limits → IsMaster limits.masters number
+    → IsFormedMaster limits number master → IsFormedTablet limits id tablet → IsMaster limits.masters tablet.pulling.source
+    → IsFormedWork limits number (receiving_duty master id tablet)
 receiving_formed limits number master id tablet are there formed held source =
     let now = with_outstanding tablet in
     let asks = formed_with_outstanding limits id tablet held in
@@ -174,7 +194,9 @@ receiving_formed limits number master id tablet are there formed held source =
     }
 
 -- a target whose closing entry is applied says so
-joined_formed : (limits : Limits) (number : ℕ) (master : Master) (id : ℕ) (tablet : Tablet) (entry : ℕ) → AreLimits limits → IsMaster limits.masters number → IsFormedMaster limits number master → IsFormedTablet limits id tablet → IsFormedWork limits number (joined_duty master id tablet entry)
+joined_formed : (limits : Limits) (number : ℕ) (master : Master) (id : ℕ) (tablet : Tablet) (entry : ℕ) → AreLimits limits
+    → IsMaster limits.masters number → IsFormedMaster limits number master → IsFormedTablet limits id tablet
+    → IsFormedWork limits number (joined_duty master id tablet entry)
 joined_formed limits number master id tablet entry are there formed held =
     cond_both (nat_lt entry master.applied) (sending master (from_master master nodes.Coordinator (bodies.Joined (tenure_at id tablet))))
     (changed master) (IsFormedWork limits number)
@@ -185,7 +207,9 @@ joined_formed limits number master id tablet entry are there formed held =
     (λ waits. formed_changed limits number master formed)
 
 -- a rebuilding master whose closing entry is applied tells its place and the ends
-rebuilt_formed : (limits : Limits) (number : ℕ) (master : Master) (id : ℕ) (tablet : Tablet) (from entry : ℕ) → AreLimits limits → IsMaster limits.masters number → IsFormedMaster limits number master → IsFormedTablet limits id tablet → IsNumber w64 0 from → IsFormedWork limits number (rebuilt_duty master id tablet from entry)
+rebuilt_formed : (limits : Limits) (number : ℕ) (master : Master) (id : ℕ) (tablet : Tablet) (from entry : ℕ) → AreLimits limits
+    → IsMaster limits.masters number → IsFormedMaster limits number master → IsFormedTablet limits id tablet → IsNumber w64 0 from
+    → IsFormedWork limits number (rebuilt_duty master id tablet from entry)
 rebuilt_formed limits number master id tablet from entry are there formed held place =
     cond_both (nat_lt entry master.applied)
     (sending master (from_master master nodes.Coordinator
@@ -205,7 +229,9 @@ rebuilt_formed limits number master id tablet from entry are there formed held p
     (λ waits. formed_changed limits number master formed)
 
 -- a rebuilding master reads the next segment
-reading_duty_formed : (limits : Limits) (number : ℕ) (master : Master) (id : ℕ) (tablet : Tablet) (reading : Option Reading) → AreLimits limits → IsMaster limits.masters number → IsFormedMaster limits number master → IsFormedTablet limits id tablet → IfSome reading (IsFormedReading limits) → IsFormedWork limits number (reading_duty master id tablet reading)
+reading_duty_formed : (limits : Limits) (number : ℕ) (master : Master) (id : ℕ) (tablet : Tablet) (reading : Option Reading) → AreLimits limits
+    → IsMaster limits.masters number → IsFormedMaster limits number master → IsFormedTablet limits id tablet → IfSome reading (IsFormedReading limits)
+    → IsFormedWork limits number (reading_duty master id tablet reading)
 reading_duty_formed limits number master id tablet None are there formed held reads = formed_changed limits number master formed
 reading_duty_formed limits number master id tablet (Some reading) are there formed held reads =
     formed_sending limits number master _ formed
@@ -218,7 +244,9 @@ reading_duty_formed limits number master id tablet (Some reading) are there form
     (tenure_formed limits id tablet held, reads.master))
 
 -- what a master does for a tablet, by its role
-duty_formed : (limits : Limits) (number : ℕ) (master : Master) (id : ℕ) (tablet : Tablet) (role : Role) → AreLimits limits → IsMaster limits.masters number → IsFormedMaster limits number master → IsFormedTablet limits id tablet → IsNumber w64 0 (place_in role) → (is_receiving role ≡ true → IsMaster limits.masters tablet.pulling.source) → IsFormedWork limits number (tablet_duty master id tablet role)
+duty_formed : (limits : Limits) (number : ℕ) (master : Master) (id : ℕ) (tablet : Tablet) (role : Role) → AreLimits limits
+    → IsMaster limits.masters number → IsFormedMaster limits number master → IsFormedTablet limits id tablet → IsNumber w64 0 (place_in role)
+    → (is_receiving role ≡ true → IsMaster limits.masters tablet.pulling.source) → IsFormedWork limits number (tablet_duty master id tablet role)
 duty_formed limits number master id tablet roles.Receiving are there formed held place source =
     receiving_formed limits number master id tablet are there formed held (source refl)
 duty_formed limits number master id tablet (roles.Joining (Some entry)) are there formed held place source =
@@ -236,7 +264,9 @@ duty_formed limits number master id tablet roles.Frozen are there formed held pl
 duty_formed limits number master id tablet (roles.Wanting from) are there formed held place source = formed_changed limits number master formed
 
 -- what a master does for these tablets
-pub duties_formed : (limits : Limits) (number : ℕ) (tablets : NumberMap Tablet) (master : Master) → AreLimits limits → IsMaster limits.masters number → IsFormedMaster limits number master → All (λ entry. IsFormedTablet limits entry.0 entry.1) tablets → IsFormedWork limits number (duties master tablets)
+pub duties_formed : (limits : Limits) (number : ℕ) (tablets : NumberMap Tablet) (master : Master) → AreLimits limits → IsMaster limits.masters number
+    → IsFormedMaster limits number master → All (λ entry. IsFormedTablet limits entry.0 entry.1) tablets
+    → IsFormedWork limits number (duties master tablets)
 duties_formed limits number [] master are there formed each = formed_changed limits number master formed
 duties_formed limits number ((id, tablet) ∷ others) master are there formed each =
     let held = All-head (λ entry. IsFormedTablet limits entry.0 entry.1) (id, tablet) others each in
@@ -251,7 +281,8 @@ log_of_test : (b : Bool) (a c : Worked) (log : Log) → a.master.log ≡ log →
 log_of_test true a c log left right = left
 log_of_test false a c log left right = right
 
-log_of_reading : (master : Master) (id : ℕ) (tablet : Tablet) (reading : Option Reading) → (reading_duty master id tablet reading).master.log ≡ master.log
+log_of_reading : (master : Master) (id : ℕ) (tablet : Tablet) (reading : Option Reading)
+    → (reading_duty master id tablet reading).master.log ≡ master.log
 log_of_reading master id tablet None = refl
 log_of_reading master id tablet (Some reading) = refl
 
@@ -280,7 +311,8 @@ segment_bytes_few master = omega arith
 -- ---- the turn
 
 -- what a master does on its turn is well formed
-pub formed_turn : (limits : Limits) (number : ℕ) (master : Master) → AreLimits limits → IsMaster limits.masters number → IsFormedMaster limits number master → HasRoomFor limits (master_turn master).master → IsFormedWork limits number (master_turn master)
+pub formed_turn : (limits : Limits) (number : ℕ) (master : Master) → AreLimits limits → IsMaster limits.masters number
+    → IsFormedMaster limits number master → HasRoomFor limits (master_turn master).master → IsFormedWork limits number (master_turn master)
 formed_turn limits number master are there formed room =
     formed_then limits number (record { master = master; sends = appends master; served = []; marked = [] }) (λ next. duties next next.tablets)
     (record { master = formed; sends = appends_formed limits number master there formed told })
