@@ -15,6 +15,7 @@ use Rattle.rk_laws_formed.proofs.Maps.{All_insert, first, is_below, second}
 pub ends_from_pairs : (P : Ended → Type 0) (completions : Completions) → All (λ entry. P (ended_of entry)) completions → All P (ends_of completions)
 ends_from_pairs P completions each = All-map P ended_of completions each
 
+-- and what each end has, each pair has of its end
 pub pairs_from_ends : (P : Ended → Type 0) (completions : Completions) → All P (ends_of completions) → All (λ entry. P (ended_of entry)) completions
 pairs_from_ends P [] each = All-nil (λ entry. P (ended_of entry))
 pairs_from_ends P (entry ∷ entries) each =
@@ -46,6 +47,7 @@ completions_order completions [] order = order
 completions_order completions (ended ∷ later) order =
     completions_order (noted completions ended) later (noted_order completions ended order)
 
+-- each end has what it had, where the new ones have it too
 pub completions_each : (P : Ended → Type 0) (completions : Completions) (ends : List Ended) → All P (ends_of completions) → All P ends
     → All P (ends_of (completions_from completions ends))
 completions_each P completions [] each new = each

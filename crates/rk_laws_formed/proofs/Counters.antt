@@ -48,6 +48,7 @@ pub counts_from_counters : (most : ℕ) (master : Master) → CountersWithin mos
 counts_from_counters most master each =
     All_unmap (λ counter. counter ≤ most) (λ entry. entry.1.handover.counter) master.tablets each
 
+-- and the other way round
 pub counters_from_counts : (most : ℕ) (master : Master) → CountsWithin most master.tablets → CountersWithin most master
 counters_from_counts most master each =
     All-map (λ counter. counter ≤ most) (λ entry. entry.1.handover.counter) master.tablets each

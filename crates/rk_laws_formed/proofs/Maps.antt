@@ -1,4 +1,5 @@
--- Maps by number and their pairs: what each thing of a map has, each of its pairs has, and the other way round.
+-- Lists and maps by number: what holds of each element of a list stays so where the list is joined, found in, or folded over; and what
+-- each thing of a map has, each of its pairs has, and the other way round.
 use Rattle.std.proofs.Common.{map, fold, ◌++◌, ◌≡◌, ◌<◌, ℕ, Bool, true, false, ◌&&◌, cond, T, All, List, [], ◌∷◌, Some, flat_map, refl, sym, subst, ◌∙◌, arith}
 use Rattle.std.proofs.lemmas.Bool.{cond-false, cond-true, eq-eqb, ne_eqb}
 use Rattle.std.proofs.lemmas.List.Elements.{All-append, All-cons, All-head, All-nil, All-tail}
@@ -61,10 +62,12 @@ All_front P [] ys each = All-nil P
 All_front P (x ∷ xs) ys each =
     All-cons P x xs (All-head P x (xs ++ ys) each) (All_front P xs ys (All-tail P x (xs ++ ys) each))
 
+-- the second part
 pub All_back : {X : Type 0} (P : X → Type 0) (xs ys : List X) → All P (xs ++ ys) → All P ys
 All_back P [] ys each = each
 All_back P (x ∷ xs) ys each = All_back P xs ys (All-tail P x (xs ++ ys) each)
 
+-- the last element
 pub All_last : {X : Type 0} (P : X → Type 0) (xs : List X) (x : X) → All P (xs ++ x ∷ []) → P x
 All_last P xs x each = All-head P x [] (All_back P xs (x ∷ []) each)
 
@@ -75,14 +78,17 @@ pub both_hold : (a b : Bool) → T a → T b → T (a && b)
 both_hold true b h k = k
 both_hold false b h k = absurd h
 
+-- the first of two facts that a test joins
 pub first : (a b : Bool) → T (a && b) → T a
 first true b p = tt
 first false b p = p
 
+-- the second of them
 pub second : (a b : Bool) → T (a && b) → T b
 second true b p = p
 second false b p = absurd p
 
+-- what the answer that the first number is less means
 pub is_below : (x y : ℕ) → T (is_lt (nat_cmp x y)) → x < y
 is_below x y h =
     elim (nat_cmp x y) as (λ r. nat_cmp x y ≡ r → T (is_lt r) → x < y) [

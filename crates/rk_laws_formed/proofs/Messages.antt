@@ -35,6 +35,7 @@ counted_fits limits n are formed = number_fits limits 1 n are formed.first forme
 pub from_zero64 : (n : ℕ) → IsNumber w64 1 n → IsNumber w64 0 n
 from_zero64 n formed = record { least_is = omega arith; fits = formed.fits }
 
+-- and so it is of numbers of four bytes
 pub from_zero32 : (n : ℕ) → IsNumber w32 1 n → IsNumber w32 0 n
 from_zero32 n formed = record { least_is = omega arith; fits = formed.fits }
 

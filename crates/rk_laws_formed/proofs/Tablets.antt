@@ -59,6 +59,7 @@ formed_tablet limits number tablet is handover rest = record {
   merged = rest.merged;
 }
 
+-- the handover of a well formed tablet is well formed
 pub handover_of : (limits : Limits) (number : ℕ) (tablet : Tablet) → IsFormedTablet limits number tablet
     → IsFormedHandover limits tablet.pulling.source tablet.handover
 handover_of limits number tablet formed = record {
@@ -69,6 +70,7 @@ handover_of limits number tablet formed = record {
   source_is = formed.source;
 }
 
+-- and so is what it has beside it
 pub rest_of : (limits : Limits) (number : ℕ) (tablet : Tablet) → IsFormedTablet limits number tablet → IsFormedRest limits tablet
 rest_of limits number tablet formed = record {
   order = formed.order;
@@ -92,6 +94,7 @@ formed_pulling_from limits source = record {
 
 -- ---- a tablet with another part
 
+-- a tablet with another handover
 pub formed_with_handover : (limits : Limits) (number : ℕ) (tablet : Tablet) (handover : Handover) → IsFormedTablet limits number tablet
     → IsFormedHandover limits tablet.pulling.source handover → IsFormedTablet limits number (with_handover tablet handover)
 formed_with_handover limits number tablet handover formed new = record {
@@ -176,6 +179,7 @@ pub record AreFormedHashes (hashes : Hashes) : Type 0 where
   pub wanted : All (IsNumber w64 0) hashes.wanted
   pub outstanding : All (IsNumber w64 0) hashes.outstanding
 
+-- one more hash is wanted
 pub formed_wanting : (hashes : Hashes) (hash : ℕ) → AreFormedHashes hashes → IsNumber w64 0 hash → AreFormedHashes (wanting hashes hash)
 formed_wanting hashes hash formed new =
     cond_both (is_known hashes hash) hashes (record hashes { wanted = hashes.wanted ++ hash ∷ [] }) AreFormedHashes (λ known. formed)
@@ -184,6 +188,7 @@ formed_wanting hashes hash formed new =
       outstanding = formed.outstanding;
     })
 
+-- the wanted hashes become a batch, where none is outstanding
 pub formed_batched : (hashes : Hashes) → AreFormedHashes hashes → AreFormedHashes (batched hashes)
 formed_batched hashes formed = go hashes.outstanding
   where
@@ -194,6 +199,7 @@ formed_batched hashes formed = go hashes.outstanding
     }
     go (hash ∷ more) = formed
 
+-- the hashes of what is pulled
 pub hashes_of : (limits : Limits) (pulling : Pulling) → IsFormedPulling limits pulling → AreFormedHashes pulling.hashes
 hashes_of limits pulling formed = record { wanted = formed.wanted; outstanding = formed.outstanding }
 
@@ -292,6 +298,7 @@ pub tablet_with_same : (master : Master) (id : ℕ) (tablet : Tablet) → tablet
 tablet_with_same master id tablet =
     ap (λ (found : Option Tablet). unwrap_or found no_tablet) (get_same master.tablets id tablet id refl)
 
+-- what is found under another number
 pub tablet_with_other : (master : Master) (id : ℕ) (tablet : Tablet) (q : ℕ) → (q ≡ id → ⊥)
     → tablet_at (with_tablet master id tablet) q ≡ tablet_at master q
 tablet_with_other master id tablet q apart =
