@@ -27,7 +27,8 @@ use Rattle.rk_world.specs.Tablet.{Tablet}
 -- ---- tablets
 
 -- one of its tablets is so
-pub formed_with_tablet : (limits : Limits) (number : ℕ) (master : Master) (id : ℕ) (tablet : Tablet) → IsFormedMaster limits number master → IsFormedTablet limits id tablet → IsFormedMaster limits number (with_tablet master id tablet)
+pub formed_with_tablet : (limits : Limits) (number : ℕ) (master : Master) (id : ℕ) (tablet : Tablet) → IsFormedMaster limits number master
+    → IsFormedTablet limits id tablet → IsFormedMaster limits number (with_tablet master id tablet)
 formed_with_tablet limits number master id tablet formed new = record {
   number_is = formed.number_is;
   known = formed.known;
@@ -48,7 +49,8 @@ formed_with_tablet limits number master id tablet formed new = record {
 -- ---- the log
 
 -- a place of a log is one of a longer log
-call_later : (limits : Limits) (count more place : ℕ) (call : Call) → count ≤ more → IsFormedCall limits count place call → IsFormedCall limits more place call
+call_later : (limits : Limits) (count more place : ℕ) (call : Call) → count ≤ more → IsFormedCall limits count place call
+    → IsFormedCall limits more place call
 call_later limits count more place call longer formed = record {
   within = omega (arith, formed.within);
   lawful = formed.lawful;
@@ -60,7 +62,8 @@ longer_by : (entries : List Entry) (entry : Entry) → length entries + 1 ≡ le
 longer_by entries entry = omega (arith, length-append entries (entry ∷ []))
 
 -- an entry is put at the end of the log
-pub formed_with_appended : (limits : Limits) (number : ℕ) (master : Master) (entry : Entry) → IsFormedMaster limits number master → IsFormedEntry limits entry → IsFormedMaster limits number (with_appended master entry)
+pub formed_with_appended : (limits : Limits) (number : ℕ) (master : Master) (entry : Entry) → IsFormedMaster limits number master
+    → IsFormedEntry limits entry → IsFormedMaster limits number (with_appended master entry)
 formed_with_appended limits number master entry formed new = record {
   number_is = formed.number_is;
   known = formed.known;
@@ -82,7 +85,8 @@ formed_with_appended limits number master entry formed new = record {
 }
 
 -- entries are put at the end of the log, one after the other
-pub formed_with_all : (limits : Limits) (number : ℕ) (entries : List Entry) (master : Master) → IsFormedMaster limits number master → All (IsFormedEntry limits) entries → IsFormedMaster limits number (with_all master entries)
+pub formed_with_all : (limits : Limits) (number : ℕ) (entries : List Entry) (master : Master) → IsFormedMaster limits number master
+    → All (IsFormedEntry limits) entries → IsFormedMaster limits number (with_all master entries)
 formed_with_all limits number [] master formed each = formed
 formed_with_all limits number (entry ∷ entries) master formed each =
     formed_with_all limits number entries (with_appended master entry)
@@ -90,7 +94,9 @@ formed_with_all limits number (entry ∷ entries) master formed each =
     (All-tail (IsFormedEntry limits) entry entries each)
 
 -- a call waits for the entry that is appended with it
-pub formed_with_staged : (limits : Limits) (number : ℕ) (master : Master) (call : Call) (entry : Entry) → IsFormedMaster limits number master → IsFormedCall limits (length (master.log.entries ++ entry ∷ [])) (length master.log.entries) call → IsFormedEntry limits entry → IsFormedMaster limits number (with_staged master call entry)
+pub formed_with_staged : (limits : Limits) (number : ℕ) (master : Master) (call : Call) (entry : Entry) → IsFormedMaster limits number master
+    → IsFormedCall limits (length (master.log.entries ++ entry ∷ [])) (length master.log.entries) call → IsFormedEntry limits entry
+    → IsFormedMaster limits number (with_staged master call entry)
 formed_with_staged limits number master call entry formed waits new = record {
   number_is = formed.number_is;
   known = formed.known;
@@ -114,7 +120,8 @@ formed_with_staged limits number master call entry formed waits new = record {
 }
 
 -- what a backup is known to hold stays in order
-known_order : (limits : Limits) (number : ℕ) (master : Master) (backup segment size : ℕ) → IsFormedMaster limits number master → IsInOrder (told (known_of master.log backup) segment size)
+known_order : (limits : Limits) (number : ℕ) (master : Master) (backup segment size : ℕ) → IsFormedMaster limits number master
+    → IsInOrder (told (known_of master.log backup) segment size)
 known_order limits number master backup segment size formed =
     told_in_order (known_of master.log backup) segment size
     (⊎_elim
@@ -123,7 +130,8 @@ known_order limits number master backup segment size formed =
     (cases_lt (backup - 1) (length master.log.known)))
 
 -- a backup told that it holds so many bytes of a segment
-pub formed_with_known : (limits : Limits) (number : ℕ) (master : Master) (backup segment size : ℕ) → IsFormedMaster limits number master → IsFormedMaster limits number (with_known master backup segment size)
+pub formed_with_known : (limits : Limits) (number : ℕ) (master : Master) (backup segment size : ℕ) → IsFormedMaster limits number master
+    → IsFormedMaster limits number (with_known master backup segment size)
 formed_with_known limits number master backup segment size formed = record {
   number_is = formed.number_is;
   known = length-set master.log.known (backup - 1) (told (known_of master.log backup) segment size) ∙ formed.known;
@@ -144,7 +152,8 @@ formed_with_known limits number master backup segment size formed = record {
 }
 
 -- a side segment with these items becomes known to the log
-pub formed_with_side_segment : (limits : Limits) (number : ℕ) (master : Master) (items : List Held) → IsFormedMaster limits number master → IsFormedSide (spelled_all (as_entries items)) → All (IsFormedHeld limits) items → IsFormedMaster limits number (with_side_segment master items)
+pub formed_with_side_segment : (limits : Limits) (number : ℕ) (master : Master) (items : List Held) → IsFormedMaster limits number master
+    → IsFormedSide (spelled_all (as_entries items)) → All (IsFormedHeld limits) items → IsFormedMaster limits number (with_side_segment master items)
 formed_with_side_segment limits number master items formed side each = record {
   number_is = formed.number_is;
   known = formed.known;
@@ -180,7 +189,8 @@ each_with_newer P item items each new =
     (λ older. each)
 
 -- a master with other records
-formed_with_records : (limits : Limits) (number : ℕ) (master : Master) (records : List Held) → IsFormedMaster limits number master → All (IsFormedHeld limits) records → IsInScanOrder records → IsFormedMaster limits number (record master { records = records })
+formed_with_records : (limits : Limits) (number : ℕ) (master : Master) (records : List Held) → IsFormedMaster limits number master
+    → All (IsFormedHeld limits) records → IsInScanOrder records → IsFormedMaster limits number (record master { records = records })
 formed_with_records limits number master records formed each order = record {
   number_is = formed.number_is;
   known = formed.known;
@@ -199,14 +209,16 @@ formed_with_records limits number master records formed each order = record {
 }
 
 -- an item is put into the records
-pub formed_with_item : (limits : Limits) (number : ℕ) (master : Master) (item : Held) → IsFormedMaster limits number master → IsFormedHeld limits item → IsFormedMaster limits number (with_item master item)
+pub formed_with_item : (limits : Limits) (number : ℕ) (master : Master) (item : Held) → IsFormedMaster limits number master → IsFormedHeld limits item
+    → IsFormedMaster limits number (with_item master item)
 formed_with_item limits number master item formed new =
     formed_with_records limits number master (with_newer item master.records) formed
     (each_with_newer (IsFormedHeld limits) item master.records formed.records new)
     (order_after item master.records formed.scanned)
 
 -- the items of a range are dropped from the records
-pub formed_without_items : (limits : Limits) (number : ℕ) (master : Master) (range : Range) → IsFormedMaster limits number master → IsFormedMaster limits number (without_items master range)
+pub formed_without_items : (limits : Limits) (number : ℕ) (master : Master) (range : Range) → IsFormedMaster limits number master
+    → IsFormedMaster limits number (without_items master range)
 formed_without_items limits number master range formed =
     formed_with_records limits number master (without range master.records) formed
     (All-filter (λ item. not (is_in range item)) (IsFormedHeld limits) master.records formed.records)

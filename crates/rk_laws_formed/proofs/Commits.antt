@@ -83,7 +83,8 @@ told_formed limits (entries.Joined joined) formed = All-nil (IsFormedEnd limits)
 -- ---- small changes of a commit
 
 -- an item goes into the records
-formed_entry_item : (limits : Limits) (number : ℕ) (master : Master) (entry : Entry) → IsFormedMaster limits number master → IsFormedEntry limits entry → IsFormedMaster limits number (with_entry_item master entry)
+formed_entry_item : (limits : Limits) (number : ℕ) (master : Master) (entry : Entry) → IsFormedMaster limits number master
+    → IsFormedEntry limits entry → IsFormedMaster limits number (with_entry_item master entry)
 formed_entry_item limits number master (entries.Held held) formed new = formed_with_item limits number master held formed new
 formed_entry_item limits number master (entries.Refused refused) formed new = formed
 formed_entry_item limits number master (entries.Carried carried) formed new = formed
@@ -103,7 +104,8 @@ same_applied master (entries.Carried carried) = refl
 same_applied master (entries.Joined joined) = refl
 
 -- one more entry is applied, where there is one
-formed_with_applied : (limits : Limits) (number : ℕ) (master : Master) → IsFormedMaster limits number master → master.applied < length master.log.entries → IsFormedMaster limits number (with_applied master)
+formed_with_applied : (limits : Limits) (number : ℕ) (master : Master) → IsFormedMaster limits number master
+    → master.applied < length master.log.entries → IsFormedMaster limits number (with_applied master)
 formed_with_applied limits number master formed more = record {
   number_is = formed.number_is;
   known = formed.known;
@@ -122,7 +124,8 @@ formed_with_applied limits number master formed more = record {
 }
 
 -- a call at a place waits no more
-formed_without_call : (limits : Limits) (number : ℕ) (master : Master) (place : ℕ) → IsFormedMaster limits number master → IsFormedMaster limits number (without_call master place)
+formed_without_call : (limits : Limits) (number : ℕ) (master : Master) (place : ℕ) → IsFormedMaster limits number master
+    → IsFormedMaster limits number (without_call master place)
 formed_without_call limits number master place formed = record {
   number_is = formed.number_is;
   known = formed.known;
@@ -142,14 +145,16 @@ formed_without_call limits number master place formed = record {
 }
 
 -- a tablet that may note the end of a call
-formed_may_note : (limits : Limits) (number : ℕ) (tablet : Tablet) (call : Call) (end : Ended) → IsFormedEnd limits end → IsFormedTablet limits number tablet → IsFormedTablet limits number (noting call end tablet)
+formed_may_note : (limits : Limits) (number : ℕ) (tablet : Tablet) (call : Call) (end : Ended) → IsFormedEnd limits end
+    → IsFormedTablet limits number tablet → IsFormedTablet limits number (noting call end tablet)
 formed_may_note limits number tablet call end new formed =
     cond_both (not (is_absent tablet.handover.role) && has_key tablet.handover.range call.table call.key)
     (record tablet { completions = noted tablet.completions end }) tablet (IsFormedTablet limits number)
     (λ notes. formed_noting limits number tablet end formed new) (λ other. formed)
 
 -- each tablet that has the key of a call notes its end
-formed_with_noted : (limits : Limits) (number : ℕ) (master : Master) (call : Call) (end : Ended) → IsFormedMaster limits number master → IsFormedEnd limits end → IsFormedMaster limits number (with_noted master call end)
+formed_with_noted : (limits : Limits) (number : ℕ) (master : Master) (call : Call) (end : Ended) → IsFormedMaster limits number master
+    → IsFormedEnd limits end → IsFormedMaster limits number (with_noted master call end)
 formed_with_noted limits number master call end formed new = record {
   number_is = formed.number_is;
   known = formed.known;
@@ -175,7 +180,9 @@ formed_with_noted limits number master call end formed new = record {
 -- ---- entries that are applied
 
 -- a call ends as its entry tells
-formed_ended_call : (limits : Limits) (number : ℕ) (master : Master) (place : ℕ) (call : Call) (end : Ended) → IsMaster limits.masters number → IsFormedMaster limits number master → IsFormedCall limits (length master.log.entries) place call → IsFormedEnd limits end → IsFormedWork limits number (ended_call master place call end)
+formed_ended_call : (limits : Limits) (number : ℕ) (master : Master) (place : ℕ) (call : Call) (end : Ended) → IsMaster limits.masters number
+    → IsFormedMaster limits number master → IsFormedCall limits (length master.log.entries) place call → IsFormedEnd limits end
+    → IsFormedWork limits number (ended_call master place call end)
 formed_ended_call limits number master place call end there formed waits new = record {
   master =
       formed_without_call limits number (with_noted master call end) place (formed_with_noted limits number master call end formed new);
@@ -186,7 +193,9 @@ formed_ended_call limits number master place call end there formed waits new = r
       (All-nil (IsFormedMessage limits));
 }
 
-formed_with_ended : (limits : Limits) (number : ℕ) (master : Master) (place : ℕ) (call : Option Call) (ends : List Ended) → IsMaster limits.masters number → IsFormedMaster limits number master → IfSome call (IsFormedCall limits (length master.log.entries) place) → All (IsFormedEnd limits) ends → IsFormedWork limits number (with_ended master place call ends)
+formed_with_ended : (limits : Limits) (number : ℕ) (master : Master) (place : ℕ) (call : Option Call) (ends : List Ended)
+    → IsMaster limits.masters number → IsFormedMaster limits number master → IfSome call (IsFormedCall limits (length master.log.entries) place)
+    → All (IsFormedEnd limits) ends → IsFormedWork limits number (with_ended master place call ends)
 formed_with_ended limits number master place (Some call) (end ∷ ends) there formed waits each =
     formed_ended_call limits number master place call end there formed waits (All-head (IsFormedEnd limits) end ends each)
 formed_with_ended limits number master place (Some call) [] there formed waits each = formed_changed limits number master formed
@@ -194,7 +203,8 @@ formed_with_ended limits number master place None [] there formed waits each = f
 formed_with_ended limits number master place None (end ∷ ends) there formed waits each = formed_changed limits number master formed
 
 -- the call that waits for a place
-call_at : (limits : Limits) (count : ℕ) (calls : NumberMap Call) (place : ℕ) → EachIn (IsFormedCall limits count) calls → IfSome (get calls place) (IsFormedCall limits count place)
+call_at : (limits : Limits) (count : ℕ) (calls : NumberMap Call) (place : ℕ) → EachIn (IsFormedCall limits count) calls
+    → IfSome (get calls place) (IsFormedCall limits count place)
 call_at limits count calls place each = go (get calls place) refl
   where
     go : (call : Option Call) → get calls place ≡ call → IfSome call (IsFormedCall limits count place)
@@ -202,7 +212,9 @@ call_at limits count calls place each = go (get calls place) refl
     go (Some call) is = each place call is
 
 -- the next entry is applied, where there is one
-pub formed_apply_entry : (limits : Limits) (number : ℕ) (master : Master) (entry : Entry) → IsMaster limits.masters number → IsFormedMaster limits number master → IsFormedEntry limits entry → master.applied < length master.log.entries → IsFormedWork limits number (apply_entry master entry)
+pub formed_apply_entry : (limits : Limits) (number : ℕ) (master : Master) (entry : Entry) → IsMaster limits.masters number
+    → IsFormedMaster limits number master → IsFormedEntry limits entry → master.applied < length master.log.entries
+    → IsFormedWork limits number (apply_entry master entry)
 formed_apply_entry limits number master entry there formed new more =
     formed_with_ended limits number (with_applied (with_entry_item master entry)) master.applied (get master.calls master.applied) (told_by entry) there
     (formed_with_applied limits number (with_entry_item master entry) (formed_entry_item limits number master entry formed new)
@@ -212,7 +224,8 @@ formed_apply_entry limits number master entry there formed new more =
     (told_formed limits entry new)
 
 -- after it, as many are applied more
-applied_ended : (master : Master) (place : ℕ) (call : Option Call) (ends : List Ended) → (with_ended master place call ends).master.applied ≡ master.applied
+applied_ended : (master : Master) (place : ℕ) (call : Option Call) (ends : List Ended)
+    → (with_ended master place call ends).master.applied ≡ master.applied
 applied_ended master place (Some call) (end ∷ ends) = refl
 applied_ended master place (Some call) [] = refl
 applied_ended master place None [] = refl
@@ -235,7 +248,9 @@ log_after master entry =
     ∙ same_log master entry
 
 -- these entries are applied, where as many are not
-pub formed_apply_entries : (limits : Limits) (number : ℕ) (entries : List Entry) (master : Master) → IsMaster limits.masters number → IsFormedMaster limits number master → All (IsFormedEntry limits) entries → master.applied + length entries ≤ length master.log.entries → IsFormedWork limits number (apply_entries master entries)
+pub formed_apply_entries : (limits : Limits) (number : ℕ) (entries : List Entry) (master : Master) → IsMaster limits.masters number
+    → IsFormedMaster limits number master → All (IsFormedEntry limits) entries → master.applied + length entries ≤ length master.log.entries
+    → IsFormedWork limits number (apply_entries master entries)
 formed_apply_entries limits number [] master there formed each room = formed_changed limits number master formed
 formed_apply_entries limits number (entry ∷ entries) master there formed each room =
     let first = formed_apply_entry limits number master entry there formed (All-head (IsFormedEntry limits) entry entries each) (omega arith) in
@@ -256,11 +271,17 @@ newly_few master within =
     )
 
 -- a backup told that it holds so much of a segment
-formed_told_length : (limits : Limits) (number : ℕ) (master : Master) (backup : ℕ) (stored : Stored) → AreLimits limits → IsMaster limits.masters number → IsFormedMaster limits number master → HasRoomFor limits (told_length master backup stored).master → IsFormedWork limits number (told_length master backup stored)
+formed_told_length : (limits : Limits) (number : ℕ) (master : Master) (backup : ℕ) (stored : Stored) → AreLimits limits
+    → IsMaster limits.masters number → IsFormedMaster limits number master → HasRoomFor limits (told_length master backup stored).master
+    → IsFormedWork limits number (told_length master backup stored)
 formed_told_length limits number master backup stored are there formed room =
     let known = with_known master backup stored.segment stored.length in
     let knows = formed_with_known limits number master backup stored.segment stored.length formed in
-    let applied = formed_apply_entries limits number (newly_held known) known there knows (All-drop (IsFormedEntry limits) known.applied (take (committed known.log) known.log.entries) (All-take (IsFormedEntry limits) (committed known.log) known.log.entries knows.written)) (newly_few known knows.applied) in
+    let applied =
+    formed_apply_entries limits number (newly_held known) known there knows
+    (All-drop (IsFormedEntry limits) known.applied (take (committed known.log) known.log.entries)
+    (All-take (IsFormedEntry limits) (committed known.log) known.log.entries knows.written))
+    (newly_few known knows.applied) in
     let now = (apply_entries known (newly_held known)).master in
     formed_then limits number (apply_entries known (newly_held known)) (λ now. changed (all_going_on now now.tablets)) applied
     (formed_changed limits number (all_going_on now now.tablets)
@@ -268,6 +289,8 @@ formed_told_length limits number master backup stored are there formed room =
     (All_pairs (IsFormedTablet limits) now.tablets applied.master.tablets_order applied.master.tablets) room.room.fits))
 
 -- what a master makes of what a backup tells is well formed
-pub formed_stored : (limits : Limits) (number : ℕ) (master : Master) (backup : ℕ) (stored : Stored) (over : Option Overreach) → AreLimits limits → IsMaster limits.masters number → IsFormedMaster limits number master → HasRoomFor limits (stored_taken master backup stored over).master → IsFormedWork limits number (stored_taken master backup stored over)
+pub formed_stored : (limits : Limits) (number : ℕ) (master : Master) (backup : ℕ) (stored : Stored) (over : Option Overreach) → AreLimits limits
+    → IsMaster limits.masters number → IsFormedMaster limits number master → HasRoomFor limits (stored_taken master backup stored over).master
+    → IsFormedWork limits number (stored_taken master backup stored over)
 formed_stored limits number master backup stored None are there formed room = formed_told_length limits number master backup stored are there formed room
 formed_stored limits number master backup stored (Some beyond) are there formed room = formed_changed limits number master formed

@@ -16,3 +16,6 @@ pub mod Commits
 pub mod Sealing
 pub mod Merges
 pub mod Rebuilding
+pub mod Segments
+pub mod Turns
+pub mod Counters

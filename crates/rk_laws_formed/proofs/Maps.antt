@@ -1,4 +1,5 @@
--- Maps by number and their pairs: what each thing of a map has, each of its pairs has, and the other way round.
+-- Lists and maps by number: what holds of each element of a list stays so where the list is joined, found in, or folded over; and what
+-- each thing of a map has, each of its pairs has, and the other way round.
 use Rattle.std.proofs.Common.{map, fold, ◌++◌, ◌≡◌, ◌<◌, ℕ, Bool, true, false, ◌&&◌, cond, T, All, List, [], ◌∷◌, Some, flat_map, refl, sym, subst, ◌∙◌, arith}
 use Rattle.std.proofs.lemmas.Bool.{cond-false, cond-true, eq-eqb, ne_eqb}
 use Rattle.std.proofs.lemmas.List.Elements.{All-append, All-cons, All-head, All-nil, All-tail}
@@ -48,16 +49,25 @@ pub fold_keeps : {A B : Type 0} (P : B → Type 0) (f : B → A → B) (xs : Lis
 fold_keeps P f [] b now step = now
 fold_keeps P f (x ∷ xs) b now step = fold_keeps P f xs (f b x) (step b x now) step
 
+-- and so does one whose elements have something
+pub fold_keeps_all : {A B : Type 0} (P : B → Type 0) (Q : A → Type 0) (f : B → A → B) (xs : List A) (b : B) → P b → All Q xs
+    → ((b : B) (a : A) → P b → Q a → P (f b a)) → P (fold f b xs)
+fold_keeps_all P Q f [] b now each step = now
+fold_keeps_all P Q f (x ∷ xs) b now each step =
+    fold_keeps_all P Q f xs (f b x) (step b x now (All-head Q x xs each)) (All-tail Q x xs each) step
+
 -- the parts of a joined list have what all of it has
 pub All_front : {X : Type 0} (P : X → Type 0) (xs ys : List X) → All P (xs ++ ys) → All P xs
 All_front P [] ys each = All-nil P
 All_front P (x ∷ xs) ys each =
     All-cons P x xs (All-head P x (xs ++ ys) each) (All_front P xs ys (All-tail P x (xs ++ ys) each))
 
+-- the second part
 pub All_back : {X : Type 0} (P : X → Type 0) (xs ys : List X) → All P (xs ++ ys) → All P ys
 All_back P [] ys each = each
 All_back P (x ∷ xs) ys each = All_back P xs ys (All-tail P x (xs ++ ys) each)
 
+-- the last element
 pub All_last : {X : Type 0} (P : X → Type 0) (xs : List X) (x : X) → All P (xs ++ x ∷ []) → P x
 All_last P xs x each = All-head P x [] (All_back P xs (x ∷ []) each)
 
@@ -68,14 +78,17 @@ pub both_hold : (a b : Bool) → T a → T b → T (a && b)
 both_hold true b h k = k
 both_hold false b h k = absurd h
 
+-- the first of two facts that a test joins
 pub first : (a b : Bool) → T (a && b) → T a
 first true b p = tt
 first false b p = p
 
+-- the second of them
 pub second : (a b : Bool) → T (a && b) → T b
 second true b p = p
 second false b p = absurd p
 
+-- what the answer that the first number is less means
 pub is_below : (x y : ℕ) → T (is_lt (nat_cmp x y)) → x < y
 is_below x y h =
     elim (nat_cmp x y) as (λ r. nat_cmp x y ≡ r → T (is_lt r) → x < y) [
@@ -102,7 +115,8 @@ module _ {X : Type 0} where
       (unsigned_tied thing.0 thing.0 ∙ eq-eqb thing.0 thing.0 refl)
 
   -- and what is found behind it is found
-  pub get_later : (thing : ℕ × X) (things : NumberMap X) (q : ℕ) (x : X) → IsInOrder (thing ∷ things) → get things q ≡ Some x → get (thing ∷ things) q ≡ Some x
+  pub get_later : (thing : ℕ × X) (things : NumberMap X) (q : ℕ) (x : X) → IsInOrder (thing ∷ things) → get things q ≡ Some x
+      → get (thing ∷ things) q ≡ Some x
   get_later thing things q x order found =
       let above : thing.0 < q = above_all thing.0 things q x (first (below_all nat_cmp thing.0 things) _ order) found in
       cond-false (eq_by_cmp nat_cmp q thing.0) (Some thing.1) (get things q)
@@ -133,7 +147,8 @@ module _ {X : Type 0} where
       ] refl found
 
   -- each pair of a map has what each of its pairs had, and the new one has
-  pub All_insert : (P : ℕ × X → Type 0) (things : NumberMap X) (number : ℕ) (thing : X) → All P things → P (number, thing) → All P (insert things number thing)
+  pub All_insert : (P : ℕ × X → Type 0) (things : NumberMap X) (number : ℕ) (thing : X) → All P things → P (number, thing)
+      → All P (insert things number thing)
   All_insert P [] number thing each new = All-cons P (number, thing) [] new (All-nil P)
   All_insert P (here ∷ things) number thing each new =
       elim (nat_cmp number here.0) as (λ o. nat_cmp number here.0 ≡ o → All P (by_order o ((number, thing) ∷ here ∷ things) ((here.0, thing) ∷ things) (here ∷ insert things number thing))) [
@@ -147,7 +162,8 @@ module _ {X : Type 0} where
       ] refl
 
   -- what a test finds among the pairs of a map in order is found under its number
-  pub find_is_got : (p : ℕ × X → Bool) (things : NumberMap X) (pair : ℕ × X) → IsInOrder things → find p things ≡ Some pair → get things pair.0 ≡ Some pair.1
+  pub find_is_got : (p : ℕ × X → Bool) (things : NumberMap X) (pair : ℕ × X) → IsInOrder things → find p things ≡ Some pair
+      → get things pair.0 ≡ Some pair.1
   find_is_got p things pair order found =
       All_find (λ (pair : ℕ × X). get things pair.0 ≡ Some pair.1) p things pair
       (All_pairs (λ q x. get things q ≡ Some x) things order (λ q x there. there)) found

@@ -35,6 +35,7 @@ counted_fits limits n are formed = number_fits limits 1 n are formed.first forme
 pub from_zero64 : (n : ℕ) → IsNumber w64 1 n → IsNumber w64 0 n
 from_zero64 n formed = record { least_is = omega arith; fits = formed.fits }
 
+-- and so it is of numbers of four bytes
 pub from_zero32 : (n : ℕ) → IsNumber w32 1 n → IsNumber w32 0 n
 from_zero32 n formed = record { least_is = omega arith; fits = formed.fits }
 
@@ -56,11 +57,14 @@ tenure_fits limits tenure are formed =
 -- ---- messages
 
 -- a master of a lane is there
-pub master_there : (limits : Limits) (number : ℕ) (master : Master) → IsMaster limits.masters number → master.number ≡ number → IsThere limits (nodes.Master master.number)
+pub master_there : (limits : Limits) (number : ℕ) (master : Master) → IsMaster limits.masters number → master.number ≡ number
+    → IsThere limits (nodes.Master master.number)
 master_there limits number master there is = subst (IsMaster limits.masters) (sym is) there
 
 -- a message from a master
-pub formed_from : (limits : Limits) (number : ℕ) (master : Master) (to : Node) (body : Body) → IsMaster limits.masters number → master.number ≡ number → IsThere limits to → IsLawfulBody body → IsFormedBody limits (nodes.Master master.number) body → IsFormedMessage limits (from_master master to body)
+pub formed_from : (limits : Limits) (number : ℕ) (master : Master) (to : Node) (body : Body) → IsMaster limits.masters number → master.number ≡ number
+    → IsThere limits to → IsLawfulBody body → IsFormedBody limits (nodes.Master master.number) body
+    → IsFormedMessage limits (from_master master to body)
 formed_from limits number master to body there is receiver lawful says = record {
   from = master_there limits number master there is;
   to = receiver;
@@ -69,7 +73,8 @@ formed_from limits number master to body there is receiver lawful says = record 
 }
 
 -- an answer to the client of a call
-pub formed_answering : (limits : Limits) (number : ℕ) (master : Master) (call : Call) (answer : Answer) → IsMaster limits.masters number → master.number ≡ number → IsLawfulCall call → IsLawfulAnswer answer → IsFormedMessage limits (answering master call answer)
+pub formed_answering : (limits : Limits) (number : ℕ) (master : Master) (call : Call) (answer : Answer) → IsMaster limits.masters number
+    → master.number ≡ number → IsLawfulCall call → IsLawfulAnswer answer → IsFormedMessage limits (answering master call answer)
 formed_answering limits number master call answer there is lawful says = record {
   from = master_there limits number master there is;
   to = lawful.client;

@@ -64,26 +64,30 @@ items_formed limits (entries.Joined joined ∷ more) each = items_formed limits 
 abbrev IsFormedState : Limits → Option Held → Type 0
 IsFormedState limits state = IfSome state (IsFormedHeld limits)
 
-newest_formed : (limits : Limits) (items : List Held) (table : ℕ) (key : List ℕ) → All (IsFormedHeld limits) items → IsFormedState limits (newest items table key)
+newest_formed : (limits : Limits) (items : List Held) (table : ℕ) (key : List ℕ) → All (IsFormedHeld limits) items
+    → IsFormedState limits (newest items table key)
 newest_formed limits items table key each = go (newest items table key) refl
   where
     go : (state : Option Held) → newest items table key ≡ state → IsFormedState limits state
     go None is = tt
     go (Some item) is = All-contains (IsFormedHeld limits) items item each (newest_is items table key item is).stands
 
-found_formed : (limits : Limits) (items : List Held) (table : ℕ) (key : List ℕ) → All (IsFormedHeld limits) items → IsFormedState limits (found table key items)
+found_formed : (limits : Limits) (items : List Held) (table : ℕ) (key : List ℕ) → All (IsFormedHeld limits) items
+    → IsFormedState limits (found table key items)
 found_formed limits items table key each = go (found table key items) refl
   where
     go : (state : Option Held) → found table key items ≡ state → IsFormedState limits state
     go None is = tt
     go (Some item) is = All_find (IsFormedHeld limits) (is_at table key) items item each is
 
-either_formed : (limits : Limits) (first second : Option Held) → IsFormedState limits first → IsFormedState limits second → IsFormedState limits (option_or first second)
+either_formed : (limits : Limits) (first second : Option Held) → IsFormedState limits first → IsFormedState limits second
+    → IsFormedState limits (option_or first second)
 either_formed limits None second a b = b
 either_formed limits (Some item) second a b = a
 
 -- the item that a call finds of its key
-state_formed : (limits : Limits) (number : ℕ) (master : Master) (call : Call) → IsFormedMaster limits number master → IsFormedState limits (state_of master call)
+state_formed : (limits : Limits) (number : ℕ) (master : Master) (call : Call) → IsFormedMaster limits number master
+    → IsFormedState limits (state_of master call)
 state_formed limits number master call formed =
     either_formed limits (cond (is_mutation call.op) (newest (items_of (staged master)) call.table call.key) None) (found call.table call.key master.records)
     (cond_both (is_mutation call.op) (newest (items_of (staged master)) call.table call.key) None (IsFormedState limits)
@@ -106,7 +110,8 @@ record_formed : (limits : Limits) (state : Option Held) → IsFormedState limits
 record_formed limits None formed = tt
 record_formed limits (Some item) formed = go item.value formed.lawful.value
   where
-    go : (value : Option (List ℕ)) → IfSome value (λ value. value_fault value ≡ None) → IsFormedLive limits (option_map (λ value. (item.version, value)) value)
+    go : (value : Option (List ℕ)) → IfSome value (λ value. value_fault value ≡ None)
+        → IsFormedLive limits (option_map (λ value. (item.version, value)) value)
     go None lawful = tt
     go (Some value) lawful = record { version = formed.version; fits = formed.lawful.version; value = lawful }
 
@@ -130,11 +135,14 @@ read_formed limits None formed = tt
 read_formed limits (Some found) formed = (from_zero64 found.0 formed.fits, formed.value)
 
 -- the version of what is there
-version_formed : (limits : Limits) (live : Option (ℕ × List ℕ)) → IsFormedLive limits live → IsNumber w64 0 (version_of live) × (version_of live ≤ limits.top)
+version_formed : (limits : Limits) (live : Option (ℕ × List ℕ)) → IsFormedLive limits live
+    → IsNumber w64 0 (version_of live) × (version_of live ≤ limits.top)
 version_formed limits None formed = (record { least_is = omega arith; fits = lit< tt }, omega arith)
 version_formed limits (Some found) formed = (from_zero64 found.0 formed.fits, formed.version)
 
-operation_formed : (limits : Limits) (master : Master) (number : ℕ) (op : Op) (live : Option (ℕ × List ℕ)) → IsFormedTablet limits number (tablet_at master number) → IsLawfulOp op → IsFormedLive limits live → IsFormedChoice limits master (operation number op live)
+operation_formed : (limits : Limits) (master : Master) (number : ℕ) (op : Op) (live : Option (ℕ × List ℕ))
+    → IsFormedTablet limits number (tablet_at master number) → IsLawfulOp op → IsFormedLive limits live
+    → IsFormedChoice limits master (operation number op live)
 operation_formed limits master number ops.Get live there lawful formed = read_formed limits live formed
 operation_formed limits master number (ops.Put value) live there lawful formed = (there, lawful)
 operation_formed limits master number (ops.CondPut expected value) live there lawful formed =
@@ -145,7 +153,9 @@ operation_formed limits master number ops.Delete live there lawful formed =
     cond_both (is_some live) (Writes number None) (Refuses 0 true) (IsFormedChoice limits master) (λ some. (there, tt))
     (λ none. (record { least_is = omega arith; fits = lit< tt }, omega arith, λ (is : true ≡ true). refl))
 
-fresh_formed : (limits : Limits) (number : ℕ) (master : Master) (id : ℕ) (tablet : Tablet) (call : Call) → IsFormedMaster limits number master → IsFormedTablet limits id (tablet_at master id) → IsLawfulCall call → IsFormedChoice limits master (fresh_choice id tablet call (state_of master call))
+fresh_formed : (limits : Limits) (number : ℕ) (master : Master) (id : ℕ) (tablet : Tablet) (call : Call) → IsFormedMaster limits number master
+    → IsFormedTablet limits id (tablet_at master id) → IsLawfulCall call
+    → IsFormedChoice limits master (fresh_choice id tablet call (state_of master call))
 fresh_formed limits number master id tablet call formed there lawful =
     cond_both (needs_state call.op && not (is_known tablet (hash_of call.key) (state_of master call))) (Wants id)
     (operation id call.op (record_of (state_of master call))) (IsFormedChoice limits master) (λ wants. there)
@@ -154,27 +164,34 @@ fresh_formed limits number master id tablet call formed there lawful =
     (record_formed limits (state_of master call) (state_formed limits number master call formed)))
 
 -- the end that is known of a call
-look_formed : (limits : Limits) (completions : Completions) (client seq : ℕ) (end : End) → All (IsFormedEnd limits) (ends_of completions) → look completions client seq ≡ looks.Same end → IsLawfulOutcome end
+look_formed : (limits : Limits) (completions : Completions) (client seq : ℕ) (end : End) → All (IsFormedEnd limits) (ends_of completions)
+    → look completions client seq ≡ looks.Same end → IsLawfulOutcome end
 look_formed limits completions client seq end each is = go (get completions client) refl is
   where
     go : (last : Option Completion) → get completions client ≡ last → look_of last seq ≡ looks.Same end → IsLawfulOutcome end
     go None got e = absurd (cc e)
     go (Some last) got e =
-        let known : IsLawfulOutcome last.end = (each_from_pairs (λ client completion. IsFormedEnd limits (ended_of (client, completion))) completions (pairs_from_ends (IsFormedEnd limits) completions each) client last got).lawful.outcome in
-        newer (nat_lt last.seq seq) e known
+        let known : IsFormedEnd limits (ended_of (client, last)) =
+        each_from_pairs (λ client completion. IsFormedEnd limits (ended_of (client, completion))) completions
+        (pairs_from_ends (IsFormedEnd limits) completions each) client last got in
+        newer (nat_lt last.seq seq) e known.lawful.outcome
       where
         same : (b : Bool) → cond b (looks.Same last.end) (looks.Old last.seq) ≡ looks.Same end → IsLawfulOutcome last.end → IsLawfulOutcome end
         same true e known = let is : last.end ≡ end = cc e in subst IsLawfulOutcome is known
         same false e known = absurd (cc e)
 
-        newer : (b : Bool) → cond b looks.New (cond (last.seq == seq) (looks.Same last.end) (looks.Old last.seq)) ≡ looks.Same end → IsLawfulOutcome last.end → IsLawfulOutcome end
+        newer : (b : Bool) → cond b looks.New (cond (last.seq == seq) (looks.Same last.end) (looks.Old last.seq)) ≡ looks.Same end
+            → IsLawfulOutcome last.end → IsLawfulOutcome end
         newer true e known = absurd (cc e)
         newer false e known = same (last.seq == seq) e known
 
-mutation_formed : (limits : Limits) (number : ℕ) (master : Master) (id : ℕ) (tablet : Tablet) (call : Call) → IsFormedMaster limits number master → IsFormedTablet limits id (tablet_at master id) → All (IsFormedEnd limits) (ends_of tablet.completions) → IsLawfulCall call → IsFormedChoice limits master (mutation_choice master id tablet call (look tablet.completions call.client call.seq))
+mutation_formed : (limits : Limits) (number : ℕ) (master : Master) (id : ℕ) (tablet : Tablet) (call : Call) → IsFormedMaster limits number master
+    → IsFormedTablet limits id (tablet_at master id) → All (IsFormedEnd limits) (ends_of tablet.completions) → IsLawfulCall call
+    → IsFormedChoice limits master (mutation_choice master id tablet call (look tablet.completions call.client call.seq))
 mutation_formed limits number master id tablet call formed there ended lawful = go (look tablet.completions call.client call.seq) refl
   where
-    go : (known : Look) → look tablet.completions call.client call.seq ≡ known → IsFormedChoice limits master (mutation_choice master id tablet call known)
+    go : (known : Look) → look tablet.completions call.client call.seq ≡ known
+        → IsFormedChoice limits master (mutation_choice master id tablet call known)
     go looks.New is =
         cond_both (is_staged master call.client call.seq) Ignores (fresh_choice id tablet call (state_of master call)) (IsFormedChoice limits master)
         (λ waits. tt) (λ fresh. fresh_formed limits number master id tablet call formed there lawful)
@@ -182,7 +199,8 @@ mutation_formed limits number master id tablet call formed there ended lawful = 
     go (looks.Old seq) is = tt
 
 -- what a master does with a lawful call
-choice_formed : (limits : Limits) (number : ℕ) (master : Master) (call : Call) → IsFormedMaster limits number master → IsLawfulCall call → IsFormedChoice limits master (choice_of master call)
+choice_formed : (limits : Limits) (number : ℕ) (master : Master) (call : Call) → IsFormedMaster limits number master → IsLawfulCall call
+    → IsFormedChoice limits master (choice_of master call)
 choice_formed limits number master call formed lawful = go (serving master call.table call.key) refl
   where
     go : (there : Option (ℕ × Tablet)) → serving master call.table call.key ≡ there → IsFormedChoice limits master (choice_at master call there)
@@ -205,7 +223,8 @@ outcome_told ends.Absent lawful = tt
 outcome_told (ends.Mismatch version) lawful = lawful
 
 -- a call of a client waits for the entry that is appended with it
-call_waits : (limits : Limits) (master : Master) (entry : Entry) (call : Call) → IsLawfulCall call → IsClient limits call.client → IsFormedCall limits (length (master.log.entries ++ entry ∷ [])) (length master.log.entries) call
+call_waits : (limits : Limits) (master : Master) (entry : Entry) (call : Call) → IsLawfulCall call → IsClient limits call.client
+    → IsFormedCall limits (length (master.log.entries ++ entry ∷ [])) (length master.log.entries) call
 call_waits limits master entry call lawful client = record {
   within = omega (arith, length-append master.log.entries (entry ∷ []));
   lawful = lawful;
@@ -213,7 +232,9 @@ call_waits limits master entry call lawful client = record {
 }
 
 -- the item that a mutation leaves
-item_formed : (limits : Limits) (call : Call) (version : ℕ) (value : Option (List ℕ)) → AreLimits limits → IsLawfulCall call → IsClient limits call.client → IsFormedNumber limits version → IfSome value (λ value. value_fault value ≡ None) → IsFormedHeld limits (item_of call version value)
+item_formed : (limits : Limits) (call : Call) (version : ℕ) (value : Option (List ℕ)) → AreLimits limits → IsLawfulCall call
+    → IsClient limits call.client → IsFormedNumber limits version → IfSome value (λ value. value_fault value ≡ None)
+    → IsFormedHeld limits (item_of call version value)
 item_formed limits call version value are lawful client counted fits = record {
   lawful = record {
     table = lawful.table;
@@ -228,13 +249,17 @@ item_formed limits call version value are lawful client counted fits = record {
 }
 
 -- the counter of a tablet that is so keeps to the limits where those of the master do
-pub counter_with_tablet : (limits : Limits) (master : Master) (id : ℕ) (tablet : Tablet) → All (λ counter. counter ≤ limits.top) (counters_of (with_tablet master id tablet)) → tablet.handover.counter ≤ limits.top
+pub counter_with_tablet : (limits : Limits) (master : Master) (id : ℕ) (tablet : Tablet)
+    → All (λ counter. counter ≤ limits.top) (counters_of (with_tablet master id tablet)) → tablet.handover.counter ≤ limits.top
 counter_with_tablet limits master id tablet counters =
     each_from_pairs (λ number tablet. tablet.handover.counter ≤ limits.top) (insert master.tablets id tablet)
     (All_unmap (λ counter. counter ≤ limits.top) (λ entry. entry.1.handover.counter) (insert master.tablets id tablet) counters)
     id tablet (get_same master.tablets id tablet id refl)
 
-write_formed : (limits : Limits) (number : ℕ) (master : Master) (id : ℕ) (call : Call) (value : Option (List ℕ)) → AreLimits limits → IsFormedMaster limits number master → IsLawfulCall call → IsClient limits call.client → IsFormedTablet limits id (tablet_at master id) → IfSome value (λ value. value_fault value ≡ None) → HasRoomFor limits (write_staged master id call value) → IsFormedMaster limits number (write_staged master id call value)
+write_formed : (limits : Limits) (number : ℕ) (master : Master) (id : ℕ) (call : Call) (value : Option (List ℕ)) → AreLimits limits
+    → IsFormedMaster limits number master → IsLawfulCall call → IsClient limits call.client → IsFormedTablet limits id (tablet_at master id)
+    → IfSome value (λ value. value_fault value ≡ None) → HasRoomFor limits (write_staged master id call value)
+    → IsFormedMaster limits number (write_staged master id call value)
 write_formed limits number master id call value are formed lawful client there fits room =
     let entry : Entry = entries.Held (item_of call (tablet_at master id).handover.counter value) in
     let below : (tablet_at master id).handover.counter + 1 ≤ limits.top = counter_with_tablet limits (with_staged master call entry) id (counted_up (tablet_at master id)) room.counters in
@@ -243,7 +268,9 @@ write_formed limits number master id call value are formed lawful client there f
     (item_formed limits call (tablet_at master id).handover.counter value are lawful client there.counter fits))
     (formed_counted_up limits id (tablet_at master id) there (omega arith))
 
-refusal_formed : (limits : Limits) (number : ℕ) (master : Master) (call : Call) (found : ℕ) (absent : Bool) → IsFormedMaster limits number master → IsLawfulCall call → IsClient limits call.client → IsNumber w64 0 found → found ≤ limits.top → (IsTrue absent → found ≡ 0) → IsFormedMaster limits number (refusal_staged master call found absent)
+refusal_formed : (limits : Limits) (number : ℕ) (master : Master) (call : Call) (found : ℕ) (absent : Bool) → IsFormedMaster limits number master
+    → IsLawfulCall call → IsClient limits call.client → IsNumber w64 0 found → found ≤ limits.top → (IsTrue absent → found ≡ 0)
+    → IsFormedMaster limits number (refusal_staged master call found absent)
 refusal_formed limits number master call found absent formed lawful client fits within none =
     formed_with_staged limits number master call (refusal_of call found absent) formed
     (call_waits limits master (refusal_of call found absent) call lawful client)
@@ -261,7 +288,10 @@ refusal_formed limits number master call found absent formed lawful client fits 
     })
 
 -- what a choice makes
-chosen_formed : (limits : Limits) (number : ℕ) (master : Master) (asked : ℕ) (call : Call) (choice : Choice) → AreLimits limits → IsMaster limits.masters number → IsFormedMaster limits number master → IsNumber w32 0 asked → IsLawfulCall call → IsClient limits call.client → IsFormedChoice limits master choice → HasRoomFor limits (chosen master asked call choice).master → IsFormedWork limits number (chosen master asked call choice)
+chosen_formed : (limits : Limits) (number : ℕ) (master : Master) (asked : ℕ) (call : Call) (choice : Choice) → AreLimits limits
+    → IsMaster limits.masters number → IsFormedMaster limits number master → IsNumber w32 0 asked → IsLawfulCall call → IsClient limits call.client
+    → IsFormedChoice limits master choice → HasRoomFor limits (chosen master asked call choice).master
+    → IsFormedWork limits number (chosen master asked call choice)
 chosen_formed limits number master asked call Redirects are there formed fits lawful client choice room =
     formed_sending limits number master _ formed
     (formed_answering limits number master call (answers.Moved asked) there formed.number_is lawful fits)
@@ -288,7 +318,9 @@ chosen_formed limits number master asked call (Refuses found absent) are there f
     (refusal_formed limits number master call found absent formed lawful client choice.0 choice.1 choice.2)
 
 -- what a master makes of a client's request is well formed; the tablet that the request names can be spelled
-pub formed_request : (limits : Limits) (number : ℕ) (master : Master) (client : ℕ) (request : Request) → AreLimits limits → IsMaster limits.masters number → IsFormedMaster limits number master → IsFormedRequest limits client request → IsNumber w32 0 request.tablet → HasRoomFor limits (request_taken master client request).master → IsFormedWork limits number (request_taken master client request)
+pub formed_request : (limits : Limits) (number : ℕ) (master : Master) (client : ℕ) (request : Request) → AreLimits limits
+    → IsMaster limits.masters number → IsFormedMaster limits number master → IsFormedRequest limits client request → IsNumber w32 0 request.tablet
+    → HasRoomFor limits (request_taken master client request).master → IsFormedWork limits number (request_taken master client request)
 formed_request limits number master client request are there formed asks fits room =
     chosen_formed limits number master request.tablet (call_of client request) (choice_of master (call_of client request)) are there
     formed fits asks.call asks.client_is (choice_formed limits number master (call_of client request) formed asks.call) room

@@ -43,7 +43,8 @@ pub record IsFormedRest (limits : Limits) (tablet : Tablet) : Type 0 where
   pub merged : All (IsFormedEnd limits) tablet.merged_ends
 
 -- a tablet is well formed where its number, its handover and the rest are
-pub formed_tablet : (limits : Limits) (number : ℕ) (tablet : Tablet) → IsNumber w32 1 number → IsFormedHandover limits tablet.pulling.source tablet.handover → IsFormedRest limits tablet → IsFormedTablet limits number tablet
+pub formed_tablet : (limits : Limits) (number : ℕ) (tablet : Tablet) → IsNumber w32 1 number
+    → IsFormedHandover limits tablet.pulling.source tablet.handover → IsFormedRest limits tablet → IsFormedTablet limits number tablet
 formed_tablet limits number tablet is handover rest = record {
   number_is = is;
   term = handover.term;
@@ -58,7 +59,9 @@ formed_tablet limits number tablet is handover rest = record {
   merged = rest.merged;
 }
 
-pub handover_of : (limits : Limits) (number : ℕ) (tablet : Tablet) → IsFormedTablet limits number tablet → IsFormedHandover limits tablet.pulling.source tablet.handover
+-- the handover of a well formed tablet is well formed
+pub handover_of : (limits : Limits) (number : ℕ) (tablet : Tablet) → IsFormedTablet limits number tablet
+    → IsFormedHandover limits tablet.pulling.source tablet.handover
 handover_of limits number tablet formed = record {
   term = formed.term;
   place = formed.place;
@@ -67,6 +70,7 @@ handover_of limits number tablet formed = record {
   source_is = formed.source;
 }
 
+-- and so is what it has beside it
 pub rest_of : (limits : Limits) (number : ℕ) (tablet : Tablet) → IsFormedTablet limits number tablet → IsFormedRest limits tablet
 rest_of limits number tablet formed = record {
   order = formed.order;
@@ -90,7 +94,9 @@ formed_pulling_from limits source = record {
 
 -- ---- a tablet with another part
 
-pub formed_with_handover : (limits : Limits) (number : ℕ) (tablet : Tablet) (handover : Handover) → IsFormedTablet limits number tablet → IsFormedHandover limits tablet.pulling.source handover → IsFormedTablet limits number (with_handover tablet handover)
+-- a tablet with another handover
+pub formed_with_handover : (limits : Limits) (number : ℕ) (tablet : Tablet) (handover : Handover) → IsFormedTablet limits number tablet
+    → IsFormedHandover limits tablet.pulling.source handover → IsFormedTablet limits number (with_handover tablet handover)
 formed_with_handover limits number tablet handover formed new = record {
   number_is = formed.number_is;
   term = new.term;
@@ -106,7 +112,8 @@ formed_with_handover limits number tablet handover formed new = record {
 }
 
 -- the counter of a tablet rises by one
-pub formed_counted_up : (limits : Limits) (number : ℕ) (tablet : Tablet) → IsFormedTablet limits number tablet → tablet.handover.counter < limits.top → IsFormedTablet limits number (counted_up tablet)
+pub formed_counted_up : (limits : Limits) (number : ℕ) (tablet : Tablet) → IsFormedTablet limits number tablet → tablet.handover.counter < limits.top
+    → IsFormedTablet limits number (counted_up tablet)
 formed_counted_up limits number tablet formed below = record {
   number_is = formed.number_is;
   term = formed.term;
@@ -122,7 +129,9 @@ formed_counted_up limits number tablet formed below = record {
 }
 
 -- a tablet with other completions
-pub formed_with_completions : (limits : Limits) (number : ℕ) (tablet : Tablet) (completions : Completions) → IsFormedTablet limits number tablet → IsInOrder completions → All (IsFormedEnd limits) (ends_of completions) → IsFormedTablet limits number (record tablet { completions = completions })
+pub formed_with_completions : (limits : Limits) (number : ℕ) (tablet : Tablet) (completions : Completions) → IsFormedTablet limits number tablet
+    → IsInOrder completions → All (IsFormedEnd limits) (ends_of completions)
+    → IsFormedTablet limits number (record tablet { completions = completions })
 formed_with_completions limits number tablet completions formed order ended = record {
   number_is = formed.number_is;
   term = formed.term;
@@ -138,14 +147,17 @@ formed_with_completions limits number tablet completions formed order ended = re
 }
 
 -- a tablet that notes the end of a call
-pub formed_noting : (limits : Limits) (number : ℕ) (tablet : Tablet) (end : Ended) → IsFormedTablet limits number tablet → IsFormedEnd limits end → IsFormedTablet limits number (record tablet { completions = noted tablet.completions end })
+pub formed_noting : (limits : Limits) (number : ℕ) (tablet : Tablet) (end : Ended) → IsFormedTablet limits number tablet → IsFormedEnd limits end
+    → IsFormedTablet limits number (record tablet { completions = noted tablet.completions end })
 formed_noting limits number tablet end formed new =
     formed_with_completions limits number tablet (noted tablet.completions end) formed
     (noted_order tablet.completions end formed.order)
     (noted_each (IsFormedEnd limits) tablet.completions end formed.ended new)
 
 -- a tablet that pulls so
-pub formed_with_pulling : (limits : Limits) (number : ℕ) (tablet : Tablet) (pulling : Pulling) → IsFormedTablet limits number tablet → IsFormedPulling limits pulling → (is_receiving tablet.handover.role ≡ true → IsMaster limits.masters pulling.source) → IsFormedTablet limits number (with_pulling tablet pulling)
+pub formed_with_pulling : (limits : Limits) (number : ℕ) (tablet : Tablet) (pulling : Pulling) → IsFormedTablet limits number tablet
+    → IsFormedPulling limits pulling → (is_receiving tablet.handover.role ≡ true → IsMaster limits.masters pulling.source)
+    → IsFormedTablet limits number (with_pulling tablet pulling)
 formed_with_pulling limits number tablet pulling formed new source = record {
   number_is = formed.number_is;
   term = formed.term;
@@ -167,6 +179,7 @@ pub record AreFormedHashes (hashes : Hashes) : Type 0 where
   pub wanted : All (IsNumber w64 0) hashes.wanted
   pub outstanding : All (IsNumber w64 0) hashes.outstanding
 
+-- one more hash is wanted
 pub formed_wanting : (hashes : Hashes) (hash : ℕ) → AreFormedHashes hashes → IsNumber w64 0 hash → AreFormedHashes (wanting hashes hash)
 formed_wanting hashes hash formed new =
     cond_both (is_known hashes hash) hashes (record hashes { wanted = hashes.wanted ++ hash ∷ [] }) AreFormedHashes (λ known. formed)
@@ -175,6 +188,7 @@ formed_wanting hashes hash formed new =
       outstanding = formed.outstanding;
     })
 
+-- the wanted hashes become a batch, where none is outstanding
 pub formed_batched : (hashes : Hashes) → AreFormedHashes hashes → AreFormedHashes (batched hashes)
 formed_batched hashes formed = go hashes.outstanding
   where
@@ -185,11 +199,13 @@ formed_batched hashes formed = go hashes.outstanding
     }
     go (hash ∷ more) = formed
 
+-- the hashes of what is pulled
 pub hashes_of : (limits : Limits) (pulling : Pulling) → IsFormedPulling limits pulling → AreFormedHashes pulling.hashes
 hashes_of limits pulling formed = record { wanted = formed.wanted; outstanding = formed.outstanding }
 
 -- pulling with other hashes
-pub pulling_with_hashes : (limits : Limits) (pulling : Pulling) (hashes : Hashes) → IsFormedPulling limits pulling → AreFormedHashes hashes → IsFormedPulling limits (record pulling { hashes = hashes })
+pub pulling_with_hashes : (limits : Limits) (pulling : Pulling) (hashes : Hashes) → IsFormedPulling limits pulling → AreFormedHashes hashes
+    → IsFormedPulling limits (record pulling { hashes = hashes })
 pulling_with_hashes limits pulling hashes formed new = record {
   token = formed.token;
   wanted = new.wanted;
@@ -200,7 +216,8 @@ pulling_with_hashes limits pulling hashes formed new = record {
 }
 
 -- a hash is wanted for a tablet
-pub formed_with_wanted : (limits : Limits) (number : ℕ) (tablet : Tablet) (hash : ℕ) → IsFormedTablet limits number tablet → IsNumber w64 0 hash → IsFormedTablet limits number (with_wanted tablet hash)
+pub formed_with_wanted : (limits : Limits) (number : ℕ) (tablet : Tablet) (hash : ℕ) → IsFormedTablet limits number tablet → IsNumber w64 0 hash
+    → IsFormedTablet limits number (with_wanted tablet hash)
 formed_with_wanted limits number tablet hash formed new =
     formed_with_pulling limits number tablet (record tablet.pulling { hashes = wanting tablet.pulling.hashes hash }) formed
     (pulling_with_hashes limits tablet.pulling (wanting tablet.pulling.hashes hash) formed.pulled
@@ -208,7 +225,8 @@ formed_with_wanted limits number tablet hash formed new =
     formed.source
 
 -- the wanted hashes of a tablet become a batch
-pub formed_with_outstanding : (limits : Limits) (number : ℕ) (tablet : Tablet) → IsFormedTablet limits number tablet → IsFormedTablet limits number (with_outstanding tablet)
+pub formed_with_outstanding : (limits : Limits) (number : ℕ) (tablet : Tablet) → IsFormedTablet limits number tablet
+    → IsFormedTablet limits number (with_outstanding tablet)
 formed_with_outstanding limits number tablet formed =
     formed_with_pulling limits number tablet (record tablet.pulling { hashes = batched tablet.pulling.hashes }) formed
     (pulling_with_hashes limits tablet.pulling (batched tablet.pulling.hashes) formed.pulled
@@ -218,10 +236,12 @@ formed_with_outstanding limits number tablet formed =
 -- ---- the tablet under a number
 
 -- it is the one that is found, or one that the master does not know
-pub tablet_cases : (master : Master) (number : ℕ) → (get master.tablets number ≡ Some (tablet_at master number)) ⊎ ((get master.tablets number ≡ None) × (tablet_at master number ≡ no_tablet))
+pub tablet_cases : (master : Master) (number : ℕ)
+    → (get master.tablets number ≡ Some (tablet_at master number)) ⊎ ((get master.tablets number ≡ None) × (tablet_at master number ≡ no_tablet))
 tablet_cases master number = go (get master.tablets number) refl
   where
-    go : (found : Option Tablet) → get master.tablets number ≡ found → (get master.tablets number ≡ Some (unwrap_or found no_tablet)) ⊎ ((get master.tablets number ≡ None) × (unwrap_or found no_tablet ≡ no_tablet))
+    go : (found : Option Tablet) → get master.tablets number ≡ found
+        → (get master.tablets number ≡ Some (unwrap_or found no_tablet)) ⊎ ((get master.tablets number ≡ None) × (unwrap_or found no_tablet ≡ no_tablet))
     go None is = inr (is, refl)
     go (Some tablet) is = inl is
 
@@ -230,7 +250,8 @@ pub tablet_found : (master : Master) (number : ℕ) (tablet : Tablet) → get ma
 tablet_found master number tablet is = ap (λ (found : Option Tablet). unwrap_or found no_tablet) is
 
 -- a tablet that is found is well formed
-pub formed_found : (limits : Limits) (number : ℕ) (master : Master) (id : ℕ) (tablet : Tablet) → IsFormedMaster limits number master → get master.tablets id ≡ Some tablet → IsFormedTablet limits id (tablet_at master id)
+pub formed_found : (limits : Limits) (number : ℕ) (master : Master) (id : ℕ) (tablet : Tablet) → IsFormedMaster limits number master
+    → get master.tablets id ≡ Some tablet → IsFormedTablet limits id (tablet_at master id)
 formed_found limits number master id tablet formed is =
     subst (IsFormedTablet limits id) (sym (tablet_found master id tablet is)) (formed.tablets id tablet is)
 
@@ -245,7 +266,8 @@ rest_of_none limits = record {
 }
 
 -- what any tablet of a master has beside its handover
-pub rest_at : (limits : Limits) (number : ℕ) (master : Master) (id : ℕ) → IsFormedMaster limits number master → IsFormedRest limits (tablet_at master id)
+pub rest_at : (limits : Limits) (number : ℕ) (master : Master) (id : ℕ) → IsFormedMaster limits number master
+    → IsFormedRest limits (tablet_at master id)
 rest_at limits number master id formed = go (get master.tablets id) refl
   where
     go : (found : Option Tablet) → get master.tablets id ≡ found → IsFormedRest limits (unwrap_or found no_tablet)
@@ -253,7 +275,8 @@ rest_at limits number master id formed = go (get master.tablets id) refl
     go (Some tablet) is = rest_of limits id tablet (formed.tablets id tablet is)
 
 -- its counter counts from 1, and its term is no greater than the greatest number
-pub counter_at : (limits : Limits) (number : ℕ) (master : Master) (id : ℕ) → IsFormedMaster limits number master → 1 ≤ limits.top → IsFormedNumber limits (tablet_at master id).handover.counter
+pub counter_at : (limits : Limits) (number : ℕ) (master : Master) (id : ℕ) → IsFormedMaster limits number master → 1 ≤ limits.top
+    → IsFormedNumber limits (tablet_at master id).handover.counter
 counter_at limits number master id formed some = go (get master.tablets id) refl
   where
     go : (found : Option Tablet) → get master.tablets id ≡ found → IsFormedNumber limits (unwrap_or found no_tablet).handover.counter
@@ -261,10 +284,12 @@ counter_at limits number master id formed some = go (get master.tablets id) refl
     go (Some tablet) is = (formed.tablets id tablet is).counter
 
 -- a tablet in a role other than Absent is found, so it is well formed
-pub formed_at : (limits : Limits) (number : ℕ) (master : Master) (id : ℕ) → IsFormedMaster limits number master → (tablet_at master id ≡ no_tablet → ⊥) → IsFormedTablet limits id (tablet_at master id)
+pub formed_at : (limits : Limits) (number : ℕ) (master : Master) (id : ℕ) → IsFormedMaster limits number master
+    → (tablet_at master id ≡ no_tablet → ⊥) → IsFormedTablet limits id (tablet_at master id)
 formed_at limits number master id formed known = go (get master.tablets id) refl known
   where
-    go : (found : Option Tablet) → get master.tablets id ≡ found → (unwrap_or found no_tablet ≡ no_tablet → ⊥) → IsFormedTablet limits id (unwrap_or found no_tablet)
+    go : (found : Option Tablet) → get master.tablets id ≡ found → (unwrap_or found no_tablet ≡ no_tablet → ⊥)
+        → IsFormedTablet limits id (unwrap_or found no_tablet)
     go None is there = absurd (there refl)
     go (Some tablet) is there = formed.tablets id tablet is
 
@@ -273,6 +298,8 @@ pub tablet_with_same : (master : Master) (id : ℕ) (tablet : Tablet) → tablet
 tablet_with_same master id tablet =
     ap (λ (found : Option Tablet). unwrap_or found no_tablet) (get_same master.tablets id tablet id refl)
 
-pub tablet_with_other : (master : Master) (id : ℕ) (tablet : Tablet) (q : ℕ) → (q ≡ id → ⊥) → tablet_at (with_tablet master id tablet) q ≡ tablet_at master q
+-- what is found under another number
+pub tablet_with_other : (master : Master) (id : ℕ) (tablet : Tablet) (q : ℕ) → (q ≡ id → ⊥)
+    → tablet_at (with_tablet master id tablet) q ≡ tablet_at master q
 tablet_with_other master id tablet q apart =
     ap (λ (found : Option Tablet). unwrap_or found no_tablet) (get_other master.tablets id tablet q apart)

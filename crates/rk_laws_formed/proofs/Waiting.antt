@@ -39,7 +39,8 @@ record IsPlain (role : Role) : Type 0 where
   still : is_receiving role ≡ false
 
 -- a handover in such a role
-formed_in_plain : (limits : Limits) (source : ℕ) (handover : Handover) (role : Role) → IsFormedHandover limits source handover → IsPlain role → IsFormedHandover limits source (record handover { role = role })
+formed_in_plain : (limits : Limits) (source : ℕ) (handover : Handover) (role : Role) → IsFormedHandover limits source handover → IsPlain role
+    → IsFormedHandover limits source (record handover { role = role })
 formed_in_plain limits source handover role formed plain = record {
   term = formed.term;
   place = subst (IsNumber w64 0) (sym plain.place) (record { least_is = omega arith; fits = lit< tt });
@@ -52,7 +53,8 @@ formed_in_plain limits source handover role formed plain = record {
 abbrev pub EachMoved : (Handover → Type 0) → Option Handover → Type 0
 EachMoved P moved = (handover : Handover) → moved ≡ Some handover → P handover
 
-formed_in_role : (limits : Limits) (source : ℕ) (handover : Handover) (role : Option Role) → IsFormedHandover limits source handover → ((r : Role) → role ≡ Some r → IsPlain r) → EachMoved (IsFormedHandover limits source) (in_role handover role)
+formed_in_role : (limits : Limits) (source : ℕ) (handover : Handover) (role : Option Role) → IsFormedHandover limits source handover
+    → ((r : Role) → role ≡ Some r → IsPlain r) → EachMoved (IsFormedHandover limits source) (in_role handover role)
 formed_in_role limits source handover None formed plain now is = absurd (cc is)
 formed_in_role limits source handover (Some role) formed plain now is =
     let same : record handover { role = role } ≡ now = cc is in
@@ -94,14 +96,16 @@ joined_plain None (roles.Rebuilding from old) now is = absurd (cc is)
 joined_plain (Some place) (roles.Rebuilding from old) now is = absurd (cc is)
 
 -- a handover that froze
-pub formed_frozen : (limits : Limits) (source : ℕ) (handover : Handover) (term : ℕ) → IsFormedHandover limits source handover → EachMoved (IsFormedHandover limits source) (frozen handover term)
+pub formed_frozen : (limits : Limits) (source : ℕ) (handover : Handover) (term : ℕ) → IsFormedHandover limits source handover
+    → EachMoved (IsFormedHandover limits source) (frozen handover term)
 formed_frozen limits source handover term formed =
     cond_both (handover.term == term) (in_role handover (role_frozen handover.role)) None (EachMoved (IsFormedHandover limits source))
     (λ own. formed_in_role limits source handover (role_frozen handover.role) formed (frozen_plain handover.role))
     (λ other now is. absurd (cc is))
 
 -- a handover that joined
-pub formed_joined : (limits : Limits) (source : ℕ) (handover : Handover) (term : ℕ) (entry : Option ℕ) → IsFormedHandover limits source handover → EachMoved (IsFormedHandover limits source) (joined handover term entry)
+pub formed_joined : (limits : Limits) (source : ℕ) (handover : Handover) (term : ℕ) (entry : Option ℕ) → IsFormedHandover limits source handover
+    → EachMoved (IsFormedHandover limits source) (joined handover term entry)
 formed_joined limits source handover term entry formed =
     cond_both (handover.term == term) (in_role handover (role_joined entry handover.role)) None (EachMoved (IsFormedHandover limits source))
     (λ own. formed_in_role limits source handover (role_joined entry handover.role) formed (joined_plain entry handover.role))
@@ -110,7 +114,8 @@ formed_joined limits source handover term entry formed =
 -- ---- the closing entry
 
 -- the entry that closes the role of a target, where it fits a segment
-pub formed_joined_entry : (limits : Limits) (number : ℕ) (tablet : Tablet) → AreLimits limits → IsFormedTablet limits number tablet → FitsSegment (joined_entry tablet) → IsFormedEntry limits (joined_entry tablet)
+pub formed_joined_entry : (limits : Limits) (number : ℕ) (tablet : Tablet) → AreLimits limits → IsFormedTablet limits number tablet
+    → FitsSegment (joined_entry tablet) → IsFormedEntry limits (joined_entry tablet)
 formed_joined_entry limits number tablet are formed fits = record {
   lawful = record {
     range = formed.range;
@@ -123,7 +128,9 @@ formed_joined_entry limits number tablet are formed fits = record {
 }
 
 -- a target appends its closing entry, where that fits
-pub formed_closing_entry : (limits : Limits) (number : ℕ) (master : Master) (id : ℕ) (tablet : Tablet) (moved : Option Handover) → AreLimits limits → IsFormedMaster limits number master → IsFormedTablet limits id tablet → EachMoved (IsFormedHandover limits tablet.pulling.source) moved → All FitsSegment (closing_entry master id tablet moved).log.entries → IsFormedMaster limits number (closing_entry master id tablet moved)
+pub formed_closing_entry : (limits : Limits) (number : ℕ) (master : Master) (id : ℕ) (tablet : Tablet) (moved : Option Handover) → AreLimits limits
+    → IsFormedMaster limits number master → IsFormedTablet limits id tablet → EachMoved (IsFormedHandover limits tablet.pulling.source) moved
+    → All FitsSegment (closing_entry master id tablet moved).log.entries → IsFormedMaster limits number (closing_entry master id tablet moved)
 formed_closing_entry limits number master id tablet None are formed there moves fits = formed
 formed_closing_entry limits number master id tablet (Some handover) are formed there moves fits =
     formed_with_appended limits number (with_tablet master id (with_handover tablet handover)) (joined_entry tablet)
@@ -132,7 +139,9 @@ formed_closing_entry limits number master id tablet (Some handover) are formed t
     (formed_joined_entry limits id tablet are there (All_last FitsSegment master.log.entries (joined_entry tablet) fits))
 
 -- a tablet that closes freezes
-pub formed_freezing : (limits : Limits) (number : ℕ) (master : Master) (id : ℕ) (tablet : Tablet) (moved : Option Handover) → IsFormedMaster limits number master → IsFormedTablet limits id tablet → EachMoved (IsFormedHandover limits tablet.pulling.source) moved → IsFormedMaster limits number (freezing master id tablet moved)
+pub formed_freezing : (limits : Limits) (number : ℕ) (master : Master) (id : ℕ) (tablet : Tablet) (moved : Option Handover)
+    → IsFormedMaster limits number master → IsFormedTablet limits id tablet → EachMoved (IsFormedHandover limits tablet.pulling.source) moved
+    → IsFormedMaster limits number (freezing master id tablet moved)
 formed_freezing limits number master id tablet None formed there moves = formed
 formed_freezing limits number master id tablet (Some handover) formed there moves =
     cond_both (is_settled master tablet.handover.range) (tablet_frozen master id tablet handover) master (IsFormedMaster limits number)
@@ -144,11 +153,13 @@ formed_freezing limits number master id tablet (Some handover) formed there move
 -- ---- one tablet after the other
 
 -- what each entry of the log after it has, each entry before it had
-kept_closing : (P : Entry → Type 0) (master : Master) (id : ℕ) (tablet : Tablet) (moved : Option Handover) → All P (closing_entry master id tablet moved).log.entries → All P master.log.entries
+kept_closing : (P : Entry → Type 0) (master : Master) (id : ℕ) (tablet : Tablet) (moved : Option Handover)
+    → All P (closing_entry master id tablet moved).log.entries → All P master.log.entries
 kept_closing P master id tablet None each = each
 kept_closing P master id tablet (Some handover) each = All_front P master.log.entries (joined_entry tablet ∷ []) each
 
-kept_freezing : (P : Entry → Type 0) (master : Master) (id : ℕ) (tablet : Tablet) (moved : Option Handover) → All P (freezing master id tablet moved).log.entries → All P master.log.entries
+kept_freezing : (P : Entry → Type 0) (master : Master) (id : ℕ) (tablet : Tablet) (moved : Option Handover)
+    → All P (freezing master id tablet moved).log.entries → All P master.log.entries
 kept_freezing P master id tablet None each = each
 kept_freezing P master id tablet (Some handover) each = go (is_settled master tablet.handover.range) each
   where
@@ -156,12 +167,15 @@ kept_freezing P master id tablet (Some handover) each = go (is_settled master ta
     go true all = all
     go false all = all
 
-kept_going_on_in : (P : Entry → Type 0) (master : Master) (id : ℕ) (tablet : Tablet) (role : Role) → All P (going_on_in master id tablet role).log.entries → All P master.log.entries
+kept_going_on_in : (P : Entry → Type 0) (master : Master) (id : ℕ) (tablet : Tablet) (role : Role)
+    → All P (going_on_in master id tablet role).log.entries → All P master.log.entries
 kept_going_on_in P master id tablet roles.Closing each =
     kept_freezing P master id tablet (frozen tablet.handover tablet.handover.term) each
 kept_going_on_in P master id tablet (roles.Joining None) each = go (is_sealed_stored master tablet) each
   where
-    go : (b : Bool) → All P (cond b (closing_entry master id tablet (joined tablet.handover tablet.handover.term (Some (length master.log.entries)))) master).log.entries → All P master.log.entries
+    go : (b : Bool)
+        → All P (cond b (closing_entry master id tablet (joined tablet.handover tablet.handover.term (Some (length master.log.entries)))) master).log.entries
+        → All P master.log.entries
     go true all = kept_closing P master id tablet (joined tablet.handover tablet.handover.term (Some (length master.log.entries))) all
     go false all = all
 kept_going_on_in P master id tablet (roles.Joining (Some place)) each = each
@@ -173,19 +187,24 @@ kept_going_on_in P master id tablet roles.Receiving each = each
 kept_going_on_in P master id tablet (roles.Rebuilding from entry) each = each
 
 -- the log only grows at its end
-pub kept_going_on : (P : Entry → Type 0) (tablets : NumberMap Tablet) (master : Master) → All P (all_going_on master tablets).log.entries → All P master.log.entries
+pub kept_going_on : (P : Entry → Type 0) (tablets : NumberMap Tablet) (master : Master) → All P (all_going_on master tablets).log.entries
+    → All P master.log.entries
 kept_going_on P [] master each = each
 kept_going_on P (entry ∷ others) master each =
     kept_going_on_in P master entry.0 entry.1 entry.1.handover.role
     (kept_going_on P others (going_on_in master entry.0 entry.1 entry.1.handover.role) each)
 
-formed_going_on_in : (limits : Limits) (number : ℕ) (master : Master) (id : ℕ) (tablet : Tablet) (role : Role) → AreLimits limits → IsFormedMaster limits number master → IsFormedTablet limits id tablet → All FitsSegment (going_on_in master id tablet role).log.entries → IsFormedMaster limits number (going_on_in master id tablet role)
+formed_going_on_in : (limits : Limits) (number : ℕ) (master : Master) (id : ℕ) (tablet : Tablet) (role : Role) → AreLimits limits
+    → IsFormedMaster limits number master → IsFormedTablet limits id tablet → All FitsSegment (going_on_in master id tablet role).log.entries
+    → IsFormedMaster limits number (going_on_in master id tablet role)
 formed_going_on_in limits number master id tablet roles.Closing are formed there fits =
     formed_freezing limits number master id tablet (frozen tablet.handover tablet.handover.term) formed there
     (formed_frozen limits tablet.pulling.source tablet.handover tablet.handover.term (handover_of limits id tablet there))
 formed_going_on_in limits number master id tablet (roles.Joining None) are formed there fits = go (is_sealed_stored master tablet) fits
   where
-    go : (b : Bool) → All FitsSegment (cond b (closing_entry master id tablet (joined tablet.handover tablet.handover.term (Some (length master.log.entries)))) master).log.entries → IsFormedMaster limits number (cond b (closing_entry master id tablet (joined tablet.handover tablet.handover.term (Some (length master.log.entries)))) master)
+    go : (b : Bool)
+        → All FitsSegment (cond b (closing_entry master id tablet (joined tablet.handover tablet.handover.term (Some (length master.log.entries)))) master).log.entries
+        → IsFormedMaster limits number (cond b (closing_entry master id tablet (joined tablet.handover tablet.handover.term (Some (length master.log.entries)))) master)
     go true all =
         formed_closing_entry limits number master id tablet (joined tablet.handover tablet.handover.term (Some (length master.log.entries))) are formed there
         (formed_joined limits tablet.pulling.source tablet.handover tablet.handover.term (Some (length master.log.entries)) (handover_of limits id tablet there)) all
@@ -199,7 +218,9 @@ formed_going_on_in limits number master id tablet roles.Receiving are formed the
 formed_going_on_in limits number master id tablet (roles.Rebuilding from entry) are formed there fits = formed
 
 -- what was waited for goes on, at each of these tablets
-pub formed_going_on : (limits : Limits) (number : ℕ) (tablets : NumberMap Tablet) (master : Master) → AreLimits limits → IsFormedMaster limits number master → All (λ entry. IsFormedTablet limits entry.0 entry.1) tablets → All FitsSegment (all_going_on master tablets).log.entries → IsFormedMaster limits number (all_going_on master tablets)
+pub formed_going_on : (limits : Limits) (number : ℕ) (tablets : NumberMap Tablet) (master : Master) → AreLimits limits
+    → IsFormedMaster limits number master → All (λ entry. IsFormedTablet limits entry.0 entry.1) tablets
+    → All FitsSegment (all_going_on master tablets).log.entries → IsFormedMaster limits number (all_going_on master tablets)
 formed_going_on limits number [] master are formed each fits = formed
 formed_going_on limits number (entry ∷ others) master are formed each fits =
     formed_going_on limits number others (going_on_in master entry.0 entry.1 entry.1.handover.role) are
