@@ -19,3 +19,4 @@ pub mod Rebuilding
 pub mod Segments
 pub mod Turns
 pub mod Counters
+pub mod MasterSteps
