@@ -20,3 +20,5 @@ pub mod Segments
 pub mod Turns
 pub mod Counters
 pub mod MasterSteps
+pub mod Bytes
+pub mod Backups
