@@ -1,6 +1,6 @@
 -- Rows of a tablet map that are well formed stay so when one of them takes another term and phase, when one is added and when one is
 -- split. They cover then what they covered, and their terms stay below what bounds the old ones and the new.
-use Rattle.std.proofs.Common.{◌≡◌, ◌≤◌, ◌<◌, ℕ, w32, Bool, true, false, ◌||◌, cond, ◌==◌, nat_le, nat_lt, List, [], ◌∷◌, All, length, Option, None, Some, is_some, refl, sym, ap, subst, ◌∙◌, arith}
+use Rattle.std.proofs.Common.{◌≡◌, ◌≤◌, ◌<◌, ℕ, w32, Bool, true, false, ◌||◌, cond, ◌==◌, nat_le, nat_lt, List, [], ◌∷◌, All, length, Option, None, Some, is_some, find, IfSome, refl, sym, ap, subst, ◌∙◌, arith}
 use Rattle.std.proofs.lemmas.Bool.{and_parts, leb-true, ltb-true}
 use Rattle.std.proofs.lemmas.List.Elements.{All-cons, All-head, All-nil, All-tail}
 use Rattle.rk_types.specs.Range.{has}
@@ -29,13 +29,19 @@ found_cases P first row rest tablet found here later =
       | false ↦ λ apart same. later apart same
     ] refl found
 
--- what all rows have, the one that is found has
+-- what all have, what is found among them has
+pub found_has : {X : Type 0} (P : X → Type 0) (test : X → Bool) (list : List X) → All P list → IfSome (find test list) P
+found_has P test [] all = tt
+found_has P test (first ∷ rest) all =
+    elim (test first) as (λ b. IfSome (cond b (Some first) (find test rest)) P) [
+      | true ↦ All-head P first rest all
+      | false ↦ found_has P test rest (All-tail P first rest all)
+    ]
+
+-- and so the row that is found
 pub all_found : (P : Row → Type 0) (row : Row) (tablet : ℕ) (rows : List Row) → row_of rows tablet ≡ Some row → All P rows → P row
-all_found P row tablet [] found all = absurd (cc found)
-all_found P row tablet (first ∷ rest) found all =
-    found_cases _ first row rest tablet found
-    (λ is same. subst P same (All-head P first rest all))
-    (λ apart later. all_found P row tablet rest later (All-tail P first rest all))
+all_found P row tablet rows found all =
+    subst (λ (o : Option Row). IfSome o P) found (found_has P (λ r. r.tablet == tablet) rows all)
 
 -- what all rows have, and the new one, all have with the new one in the place of that of its tablet
 pub all_replaced : (P : Row → Type 0) (new : Row) (tablet : ℕ) (rows : List Row) → P new → All P rows → All P (replaced tablet new rows)

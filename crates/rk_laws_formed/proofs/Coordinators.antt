@@ -1,0 +1,345 @@
+-- What the coordinator makes of a message, of its turn and of a tablet that begins to move: where the coordinator is well formed, it
+-- stays so, all that it sends is well formed, and what its rows covered is covered.
+use Rattle.std.proofs.Common.{◌≡◌, ◌≤◌, ℕ, w8, w32, w64, Bool, true, false, cond, ◌==◌, List, [], ◌∷◌, ◌++◌, All, IfSome, length, find, Option, None, Some, refl, arith}
+use Rattle.std.specs.List.{AllByRecursion, flat_map}
+use Rattle.std.proofs.lemmas.List.Elements.{All-append, All-cons, All-head, All-nil, All-tail, recursion_from_All, All-weaker}
+use Rattle.rk_types.proofs.NumberMaps.{each_insert, in_order_insert}
+use Rattle.rk_types.specs.NumberMap.{get}
+use Rattle.rk_types.specs.declared.call.Ended.{Ended}
+use Rattle.rk_types.specs.declared.lineage.Member.{Member}
+use Rattle.rk_types.specs.declared.node.Node.{Node}
+use Rattle.rk_types.specs.declared.node.Node.TheVariants as nodes
+use Rattle.rk_types.specs.declared.range.Range.{Range}
+use Rattle.rk_entry.specs.Ends.{IsLawfulEnd, IsLawfulRange, RiseAbove}
+use Rattle.rk_entry.specs.Numbers.{IsNumber}
+use Rattle.rk_tablet_map.specs.Phase.{member}
+use Rattle.rk_tablet_map.specs.Rows.{add_fault, row_of, row_with}
+use Rattle.rk_tablet_map.specs.declared.phase.Phase.{Phase}
+use Rattle.rk_tablet_map.specs.declared.phase.Phase.TheVariants.{Moving, Opening, Owned, Rebuilding}
+use Rattle.rk_tablet_map.specs.declared.row.Row.{Row}
+use Rattle.rk_message.specs.Fields.{IsAnyRange, IsLawfulTenure}
+use Rattle.rk_message.specs.Frames.{IsLawfulBody}
+use Rattle.rk_message.specs.Rebuilding.{IsLawfulMember}
+use Rattle.rk_message.specs.declared.calls.Lookup.{Lookup}
+use Rattle.rk_message.specs.declared.handover.Ready.{Ready}
+use Rattle.rk_message.specs.declared.handover.Tenure.{Tenure}
+use Rattle.rk_message.specs.declared.handover.Transfer.{Transfer}
+use Rattle.rk_message.specs.declared.message.Body.{Body}
+use Rattle.rk_message.specs.declared.message.Body.TheVariants as bodies
+use Rattle.rk_message.specs.declared.message.Message.{Message}
+use Rattle.rk_message.specs.declared.rebuilding.Rebuilt.{Rebuilt}
+use Rattle.rk_world.specs.Coordinator.{Coordinator, Handed, from_coordinator, is_noticed, new_row, owner_of, row_tenure, with_handed, with_phase, with_row, with_term}
+use Rattle.rk_world.specs.CoordinatorStep.{Coordinated, about, answered, at_term, coordinator_step, coordinator_turn, joined_in, located, lookup_taken, own_to, question, ready_in, rebuilt_in, release_to, report, row_duty, row_for, row_moved, row_owned, told_again, told_coordinator, transfer_in, unanswered}
+use Rattle.rk_world.specs.Formed.{IsFormedCoordinator, IsFormedHanded, IsFormedRow}
+use Rattle.rk_world.specs.Limits.{IsFormedBody, IsFormedEnd, IsFormedEnds, IsFormedMember, IsFormedMessage, IsFormedNumber, IsFormedTenure, IsFormedTransfer, IsThere, Limits}
+use Rattle.rk_world.specs.Migrations.{migrating, row_migrated, tablet_migrated}
+use Rattle.rk_world.specs.Premises.{IsMaster}
+use Rattle.rk_laws_formed.proofs.Rows.{AreFormedRows, AreTermsUpTo, Cover, IsFormedPhase, found_has, covered_changed, covered_placed, formed_changed_rows, formed_new_row, formed_placed, phase_of_formed, terms_changed}
+use Rattle.rk_laws_formed.proofs.Work.{AreLimits}
+
+-- ---- coordinators
+
+-- no term of a row is greater than the greatest number
+pub record HasRowRoom (limits : Limits) (coordinator : Coordinator) : Type 0 where
+  pub terms : AreTermsUpTo limits.top coordinator.rows
+
+-- what the coordinator makes of something is well formed
+pub record IsFormedAnswer (limits : Limits) (coordinated : Coordinated) : Type 0 where
+  pub coordinator : IsFormedCoordinator limits coordinated.coordinator
+  pub sends : All (IsFormedMessage limits) coordinated.sends
+
+-- a coordinator after something that leaves the masters and those that were noticed, and what the rows cover
+pub record Keeps (after before : Coordinator) : Type 0 where
+  pub masters : after.masters ≡ before.masters
+  pub noticed : after.noticed ≡ before.noticed
+  pub covers : Cover after.rows before.rows
+
+-- what is left as it was
+pub keeps_all : (coordinator : Coordinator) → Keeps coordinator coordinator
+keeps_all coordinator = record { masters = refl; noticed = refl; covers = λ table hash covered. covered }
+
+-- the rows of a coordinator that is well formed
+pub rows_of_formed : (limits : Limits) (coordinator : Coordinator) → IsFormedCoordinator limits coordinator → AreFormedRows limits coordinator.rows
+rows_of_formed limits coordinator formed = record { map = formed.map; each = formed.rows }
+
+-- a coordinator with other rows that are well formed
+pub formed_with_rows : (limits : Limits) (coordinator : Coordinator) (rows : List Row) → AreFormedRows limits rows → IsFormedCoordinator limits coordinator → IsFormedCoordinator limits (record coordinator { rows = rows })
+formed_with_rows limits coordinator rows new formed = record {
+  map = new.map;
+  rows = new.each;
+  noticed = formed.noticed;
+  handed_order = formed.handed_order;
+  handed = formed.handed;
+}
+
+-- one with a row at another phase
+formed_with_phase : (limits : Limits) (coordinator : Coordinator) (row : Row) (phase : Phase) → 1 ≤ row.term → IsFormedPhase limits phase → IsFormedCoordinator limits coordinator → IsFormedCoordinator limits (with_phase coordinator row phase)
+formed_with_phase limits coordinator row phase first there formed =
+    formed_with_rows limits coordinator (with_phase coordinator row phase).rows
+    (formed_changed_rows limits coordinator.rows row.tablet row.term phase first there (rows_of_formed limits coordinator formed))
+    formed
+
+-- one that has noted what a source told
+formed_with_handed : (limits : Limits) (coordinator : Coordinator) (tablet : ℕ) (handed : Handed) → IsFormedHanded limits handed → IsFormedCoordinator limits coordinator → IsFormedCoordinator limits (with_handed coordinator tablet handed)
+formed_with_handed limits coordinator tablet handed told formed = record {
+  map = formed.map;
+  rows = formed.rows;
+  noticed = formed.noticed;
+  handed_order = in_order_insert coordinator.handed tablet handed formed.handed_order;
+  handed = each_insert (λ number other. IsFormedHanded limits other) coordinator.handed tablet handed formed.handed told;
+}
+
+-- ---- numbers and ranges that can be spelled
+
+-- a number that has stood
+fits_below_top : (limits : Limits) (number : ℕ) → AreLimits limits → number ≤ limits.top → IsNumber w64 0 number
+fits_below_top limits number are below = record { least_is = omega arith; fits = omega (arith, are.top) }
+
+-- a master that is there
+fits_master : (limits : Limits) (least master : ℕ) → least ≤ 1 → AreLimits limits → IsMaster limits.masters master → IsNumber w8 least master
+fits_master limits least master few are there = record {
+  least_is = omega (arith, there.first);
+  fits = omega (arith, there.last, are.masters);
+}
+
+-- a range that is not empty
+any_range : (range : Range) → IsLawfulRange range → IsAnyRange range
+any_range range lawful = record {
+  table = record { least_is = omega arith; fits = lawful.table.fits };
+  first = lawful.first;
+  last = record { least_is = omega arith; fits = lawful.last.fits };
+}
+
+-- a member of a lineage
+lawful_member : (limits : Limits) (member : Member) → AreLimits limits → IsFormedMember limits member → IsLawfulMember member
+lawful_member limits member are formed = (fits_master limits 0 member.master (omega arith) are formed.master, formed.from)
+
+-- a row that is well formed, whose term is one that has stood
+pub record HasTenure (limits : Limits) (row : Row) : Type 0 where
+  pub formed : IsFormedRow limits row
+  pub term : row.term ≤ limits.top
+
+-- its tenure
+formed_tenure : (limits : Limits) (row : Row) → HasTenure limits row → IsFormedTenure limits (row_tenure row)
+formed_tenure limits row has = record {
+  tablet = has.formed.number_is;
+  term = record { first = has.formed.term; last = has.term };
+}
+
+lawful_tenure : (limits : Limits) (tenure : Tenure) → AreLimits limits → IsFormedTenure limits tenure → IsLawfulTenure tenure
+lawful_tenure limits tenure are formed =
+    (record { least_is = omega arith; fits = formed.tablet.fits }, fits_below_top limits tenure.term are formed.term.last)
+
+-- ends of calls of clients
+lawful_ends : (limits : Limits) (ends : List Ended) → IsFormedEnds limits ends → AllByRecursion IsLawfulEnd ends
+lawful_ends limits ends told =
+    recursion_from_All IsLawfulEnd ends
+    (All-weaker (IsFormedEnd limits) IsLawfulEnd (λ end formed. formed.lawful) ends told.each)
+
+-- ---- what the coordinator sends
+
+-- a message of the coordinator
+sent_to : (limits : Limits) (to : Node) (body : Body) → IsThere limits to → IsLawfulBody body → IsFormedBody limits nodes.Coordinator body → IsFormedMessage limits (from_coordinator to body)
+sent_to limits to body there lawful says = record { from = tt; to = there; lawful = lawful; says = says }
+
+-- a master is told that it owns a tablet
+formed_own : (limits : Limits) (master : ℕ) (row : Row) → AreLimits limits → IsMaster limits.masters master → HasTenure limits row → IsFormedMessage limits (own_to master row)
+formed_own limits master row are there has =
+    let tenure = formed_tenure limits row has in
+    sent_to limits (nodes.Master master) (bodies.Own (row_tenure row)) there (lawful_tenure limits (row_tenure row) are tenure) tenure
+
+-- or that another one owns it
+formed_release : (limits : Limits) (master : ℕ) (row : Row) → AreLimits limits → IsMaster limits.masters master → HasTenure limits row → IsFormedMessage limits (release_to master row)
+formed_release limits master row are there has =
+    let tenure = formed_tenure limits row has in
+    sent_to limits (nodes.Master master) (bodies.Release (row_tenure row)) there (lawful_tenure limits (row_tenure row) are tenure) tenure
+
+-- ---- what it makes of a message
+
+-- a coordinator that may send: it is well formed, and its terms have stood
+record MaySend (limits : Limits) (coordinator : Coordinator) : Type 0 where
+  are : AreLimits limits
+  formed : IsFormedCoordinator limits coordinator
+  room : HasRowRoom limits coordinator
+
+-- a rebuild that is taken
+pub record IsTaken (limits : Limits) (rebuilt : Rebuilt) : Type 0 where
+  pub tenure : IsFormedTenure limits rebuilt.tenure
+  pub ends : All (IsFormedEnd limits) rebuilt.ends
+
+-- an answer that is well formed, as is the rebuild that it takes; the coordinator after it has what it had before, and its terms have
+-- stood
+pub record Answers (limits : Limits) (before : Coordinator) (coordinated : Coordinated) : Type 0 where
+  pub answer : IsFormedAnswer limits coordinated
+  pub keeps : Keeps coordinated.coordinator before
+  pub room : HasRowRoom limits coordinated.coordinator
+  pub rebuilt : IfSome coordinated.rebuilt (IsTaken limits)
+
+-- nothing changes
+same_answer : (limits : Limits) (coordinator : Coordinator) (sends : List Message) → All (IsFormedMessage limits) sends → MaySend limits coordinator → Answers limits coordinator (answered coordinator sends)
+same_answer limits coordinator sends all may = record {
+  answer = record { coordinator = may.formed; sends = all };
+  keeps = keeps_all coordinator;
+  room = may.room;
+  rebuilt = tt;
+}
+
+-- nothing changes, and nothing is sent
+no_answer : (limits : Limits) (coordinator : Coordinator) → MaySend limits coordinator → Answers limits coordinator (unanswered coordinator)
+no_answer limits coordinator may = same_answer limits coordinator [] (All-nil _) may
+
+-- a row is at another phase
+turned_answer : (limits : Limits) (coordinator : Coordinator) (row : Row) (phase : Phase) (sends : List Message) (rebuilt : Option Rebuilt) → HasTenure limits row → IsFormedPhase limits phase → All (IsFormedMessage limits) sends → IfSome rebuilt (IsTaken limits) → MaySend limits coordinator → Answers limits coordinator (record { coordinator = with_phase coordinator row phase; sends = sends; rebuilt = rebuilt })
+turned_answer limits coordinator row phase sends rebuilt has there all taken may = record {
+  answer = record { coordinator = formed_with_phase limits coordinator row phase has.formed.term there may.formed; sends = all };
+  keeps = record { masters = refl; noticed = refl; covers = covered_changed coordinator.rows row.tablet row.term phase };
+  room = record { terms = terms_changed limits.top coordinator.rows row.tablet row.term phase has.term may.room.terms };
+  rebuilt = taken;
+}
+
+-- a row is at another phase, and what a source told is noted
+moved_answer : (limits : Limits) (coordinator : Coordinator) (row : Row) (phase : Phase) (handed : Handed) → HasTenure limits row → IsFormedPhase limits phase → IsFormedHanded limits handed → MaySend limits coordinator → Answers limits coordinator (unanswered (with_handed (with_phase coordinator row phase) row.tablet handed))
+moved_answer limits coordinator row phase handed has there told may = record {
+  answer = record {
+    coordinator =
+        formed_with_handed limits (with_phase coordinator row phase) row.tablet handed told
+        (formed_with_phase limits coordinator row phase has.formed.term there may.formed);
+    sends = All-nil _;
+  };
+  keeps = record { masters = refl; noticed = refl; covers = covered_changed coordinator.rows row.tablet row.term phase };
+  room = record { terms = terms_changed limits.top coordinator.rows row.tablet row.term phase has.term may.room.terms };
+  rebuilt = tt;
+}
+
+-- an answer by a test
+tested_answer : (limits : Limits) (before : Coordinator) (test : Bool) (a b : Coordinated) → Answers limits before a → Answers limits before b → Answers limits before (cond test a b)
+tested_answer limits before true a b first second = first
+tested_answer limits before false a b first second = second
+
+-- one member that is there
+one_named : (limits : Limits) (a : Member) → IsFormedMember limits a → All (IsFormedMember limits) (a ∷ [])
+one_named limits a first = All-cons (IsFormedMember limits) a [] first (All-nil _)
+
+-- two members that are there
+two_named : (limits : Limits) (a b : Member) → IsFormedMember limits a → IsFormedMember limits b → All (IsFormedMember limits) (a ∷ b ∷ [])
+two_named limits a b first second = All-cons (IsFormedMember limits) a (b ∷ []) first (one_named limits b second)
+
+-- the first of two
+first_named : (limits : Limits) (a : Member) (rest : List Member) → All (IsFormedMember limits) (a ∷ rest) → IsFormedMember limits a
+first_named limits a rest all = All-head (IsFormedMember limits) a rest all
+
+-- and the second
+second_named : (limits : Limits) (a b : Member) (rest : List Member) → All (IsFormedMember limits) (a ∷ b ∷ rest) → IsFormedMember limits b
+second_named limits a b rest all = All-head (IsFormedMember limits) b rest (All-tail (IsFormedMember limits) a (b ∷ rest) all)
+
+-- the last of all
+last_named : (limits : Limits) (lineage : List Member) (a : Member) → All (IsFormedMember limits) (lineage ++ a ∷ []) → IsFormedMember limits a
+last_named limits [] a all = first_named limits a [] all
+last_named limits (first ∷ rest) a all =
+    last_named limits rest a (All-tail (IsFormedMember limits) first (rest ++ a ∷ []) all)
+
+-- all but the last
+before_last : (limits : Limits) (lineage : List Member) (a : Member) → All (IsFormedMember limits) (lineage ++ a ∷ []) → All (IsFormedMember limits) lineage
+before_last limits [] a all = All-nil _
+before_last limits (first ∷ rest) a all =
+    All-cons (IsFormedMember limits) first rest (All-head (IsFormedMember limits) first (rest ++ a ∷ []) all)
+    (before_last limits rest a (All-tail (IsFormedMember limits) first (rest ++ a ∷ []) all))
+
+-- the target is ready
+ready_answers : (limits : Limits) (coordinator : Coordinator) (sender : ℕ) (message : Ready) (row : Row) (phase : Phase) → IsNumber w64 0 message.place → HasTenure limits row → IsFormedPhase limits phase → MaySend limits coordinator → Answers limits coordinator (ready_in coordinator sender message row phase)
+ready_answers limits coordinator sender message row (Opening source sfrom target None) place has there may =
+    tested_answer limits coordinator (sender == target) _ _
+    (turned_answer limits coordinator row (Opening source sfrom target (Some message.place)) [] None has
+    (record {
+      named =
+          two_named limits (member source sfrom) (member target message.place)
+          (first_named limits (member source sfrom) (member target 0 ∷ []) there.named)
+          (record { master = (second_named limits (member source sfrom) (member target 0) [] there.named).master; from = place });
+      few = there.few;
+    })
+    (All-nil _) tt may)
+    (no_answer limits coordinator may)
+ready_answers limits coordinator sender message row (Opening source sfrom target (Some dfrom)) place has there may = no_answer limits coordinator may
+ready_answers limits coordinator sender message row (Owned master from) place has there may = no_answer limits coordinator may
+ready_answers limits coordinator sender message row (Moving source sfrom target dfrom) place has there may = no_answer limits coordinator may
+ready_answers limits coordinator sender message row (Rebuilding lineage to) place has there may = no_answer limits coordinator may
+
+-- the source has frozen the tablet
+transfer_answers : (limits : Limits) (coordinator : Coordinator) (sender : ℕ) (message : Transfer) (row : Row) (phase : Phase) → IsFormedTransfer limits message → HasTenure limits row → IsFormedPhase limits phase → MaySend limits coordinator → Answers limits coordinator (transfer_in coordinator sender message row phase)
+transfer_answers limits coordinator sender message row (Opening source sfrom target (Some dfrom)) told has there may =
+    tested_answer limits coordinator (sender == source) _ _
+    (moved_answer limits coordinator row (Moving source sfrom target dfrom) (record { floor = message.floor; ends = message.ends }) has
+    (record { named = there.named; few = omega arith }) (record { floor = told.floor; told = told.told }) may)
+    (no_answer limits coordinator may)
+transfer_answers limits coordinator sender message row (Opening source sfrom target None) told has there may = no_answer limits coordinator may
+transfer_answers limits coordinator sender message row (Owned master from) told has there may = no_answer limits coordinator may
+transfer_answers limits coordinator sender message row (Moving source sfrom target dfrom) told has there may = no_answer limits coordinator may
+transfer_answers limits coordinator sender message row (Rebuilding lineage to) told has there may = no_answer limits coordinator may
+
+-- the owner is told again
+again_answers : (limits : Limits) (coordinator : Coordinator) (sender : ℕ) (row : Row) (master : ℕ) → IsMaster limits.masters master → HasTenure limits row → MaySend limits coordinator → Answers limits coordinator (told_again coordinator sender row master)
+again_answers limits coordinator sender row master there has may =
+    tested_answer limits coordinator (sender == master) _ _
+    (same_answer limits coordinator (own_to master row ∷ [])
+    (All-cons (IsFormedMessage limits) (own_to master row) [] (formed_own limits master row may.are there has) (All-nil _)) may)
+    (no_answer limits coordinator may)
+
+-- the target has all
+joined_answers : (limits : Limits) (coordinator : Coordinator) (sender : ℕ) (row : Row) (phase : Phase) → HasTenure limits row → IsFormedPhase limits phase → MaySend limits coordinator → Answers limits coordinator (joined_in coordinator sender row phase)
+joined_answers limits coordinator sender row (Moving source sfrom target dfrom) has there may =
+    let old = first_named limits (member source sfrom) (member target dfrom ∷ []) there.named in
+    let own = second_named limits (member source sfrom) (member target dfrom) [] there.named in
+    tested_answer limits coordinator (sender == target) _ _
+    (turned_answer limits coordinator row (Owned target dfrom) (own_to target row ∷ release_to source row ∷ []) None has
+    (record { named = one_named limits (member target dfrom) own; few = omega arith })
+    (All-cons (IsFormedMessage limits) (own_to target row) (release_to source row ∷ []) (formed_own limits target row may.are own.master has)
+    (All-cons (IsFormedMessage limits) (release_to source row) [] (formed_release limits source row may.are old.master has) (All-nil _)))
+    tt may)
+    (no_answer limits coordinator may)
+joined_answers limits coordinator sender row (Owned master from) has there may =
+    again_answers limits coordinator sender row master (first_named limits (member master from) [] there.named).master has may
+joined_answers limits coordinator sender row (Opening source sfrom target dfrom) has there may = no_answer limits coordinator may
+joined_answers limits coordinator sender row (Rebuilding lineage to) has there may = no_answer limits coordinator may
+
+-- the tablet is rebuilt
+rebuilt_answers : (limits : Limits) (coordinator : Coordinator) (sender : ℕ) (message : Rebuilt) (row : Row) (phase : Phase) → IsNumber w64 0 message.place → IsTaken limits message → HasTenure limits row → IsFormedPhase limits phase → MaySend limits coordinator → Answers limits coordinator (rebuilt_in coordinator sender message row phase)
+rebuilt_answers limits coordinator sender message row (Rebuilding lineage to) place told has there may =
+    let rebuilder = last_named limits lineage (member to 0) there.named in
+    tested_answer limits coordinator (sender == to) _ _
+    (turned_answer limits coordinator row (Owned to message.place) (own_to to row ∷ []) (Some message) has
+    (record { named = one_named limits (member to message.place) (record { master = rebuilder.master; from = place }); few = omega arith })
+    (All-cons (IsFormedMessage limits) (own_to to row) [] (formed_own limits to row may.are rebuilder.master has) (All-nil _))
+    told may)
+    (no_answer limits coordinator may)
+rebuilt_answers limits coordinator sender message row (Owned master from) place told has there may =
+    again_answers limits coordinator sender row master (first_named limits (member master from) [] there.named).master has may
+rebuilt_answers limits coordinator sender message row (Opening source sfrom target dfrom) place told has there may = no_answer limits coordinator may
+rebuilt_answers limits coordinator sender message row (Moving source sfrom target dfrom) place told has there may = no_answer limits coordinator may
+
+-- ---- the row that a message speaks of
+
+-- what has its tenure among the rows
+found_row : (limits : Limits) (coordinator : Coordinator) (test : Row → Bool) → MaySend limits coordinator → IfSome (find test coordinator.rows) (HasTenure limits)
+found_row limits coordinator test may =
+    found_has (HasTenure limits) test coordinator.rows
+    (λ k d within. record { formed = may.formed.rows k d within; term = may.room.terms k d within })
+
+-- that at the term of a tenure, if it is there
+row_at_term : (limits : Limits) (tenure : Tenure) (found : Option Row) → IfSome found (HasTenure limits) → IfSome (at_term tenure found) (HasTenure limits)
+row_at_term limits tenure None has = tt
+row_at_term limits tenure (Some row) has =
+    elim (row.term == tenure.term) as (λ b. IfSome (cond b (Some row) None) (HasTenure limits)) [ true ↦ has | false ↦ tt ]
+
+-- that which a master may speak of
+row_spoken_of : (limits : Limits) (coordinator : Coordinator) (sender : ℕ) (tenure : Tenure) → MaySend limits coordinator → IfSome (row_for coordinator sender tenure) (HasTenure limits)
+row_spoken_of limits coordinator sender tenure may =
+    elim (is_noticed coordinator sender) as (λ b. IfSome (cond b None (at_term tenure (row_of coordinator.rows tenure.tablet))) (HasTenure limits)) [
+      | true ↦ tt
+      | false ↦ row_at_term limits tenure (row_of coordinator.rows tenure.tablet)
+          (found_row limits coordinator (λ row. row.tablet == tenure.tablet) may)
+    ]
+
+-- what is made of a message about it
+about_answers : (limits : Limits) (coordinator : Coordinator) (taken : Row → Coordinated) (found : Option Row) → IfSome found (HasTenure limits) → ((row : Row) → HasTenure limits row → Answers limits coordinator (taken row)) → MaySend limits coordinator → Answers limits coordinator (about coordinator taken found)
+about_answers limits coordinator taken None has each may = no_answer limits coordinator may
+about_answers limits coordinator taken (Some row) has each may = each row has
