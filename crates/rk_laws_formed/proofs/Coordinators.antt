@@ -2,9 +2,11 @@
 -- stays so, all that it sends is well formed, and what its rows covered is covered.
 use Rattle.std.proofs.Common.{◌≡◌, ◌≤◌, ℕ, w8, w32, w64, Bool, true, false, cond, ◌==◌, List, [], ◌∷◌, ◌++◌, All, IfSome, length, find, Option, None, Some, refl, arith}
 use Rattle.std.specs.List.{AllByRecursion, flat_map}
+use Rattle.std.specs.Prelude.{unwrap_or}
 use Rattle.std.proofs.lemmas.List.Elements.{All-append, All-cons, All-head, All-nil, All-tail, recursion_from_All, All-weaker}
 use Rattle.rk_types.proofs.NumberMaps.{each_insert, in_order_insert}
-use Rattle.rk_types.specs.NumberMap.{get}
+use Rattle.rk_types.specs.NumberMap.{get, get_or}
+use Rattle.rk_types.specs.Range.{has}
 use Rattle.rk_types.specs.declared.call.Ended.{Ended}
 use Rattle.rk_types.specs.declared.lineage.Member.{Member}
 use Rattle.rk_types.specs.declared.node.Node.{Node}
@@ -17,6 +19,7 @@ use Rattle.rk_tablet_map.specs.Rows.{add_fault, row_of, row_with}
 use Rattle.rk_tablet_map.specs.declared.phase.Phase.{Phase}
 use Rattle.rk_tablet_map.specs.declared.phase.Phase.TheVariants.{Moving, Opening, Owned, Rebuilding}
 use Rattle.rk_tablet_map.specs.declared.row.Row.{Row}
+use Rattle.rk_message.specs.Calls.{IsLawfulOwner}
 use Rattle.rk_message.specs.Fields.{IsAnyRange, IsLawfulTenure}
 use Rattle.rk_message.specs.Frames.{IsLawfulBody}
 use Rattle.rk_message.specs.Rebuilding.{IsLawfulMember}
@@ -343,3 +346,171 @@ row_spoken_of limits coordinator sender tenure may =
 about_answers : (limits : Limits) (coordinator : Coordinator) (taken : Row → Coordinated) (found : Option Row) → IfSome found (HasTenure limits) → ((row : Row) → HasTenure limits row → Answers limits coordinator (taken row)) → MaySend limits coordinator → Answers limits coordinator (about coordinator taken found)
 about_answers limits coordinator taken None has each may = no_answer limits coordinator may
 about_answers limits coordinator taken (Some row) has each may = each row has
+
+-- ---- where a tablet is
+
+-- the owner that a phase tells is there
+owner_is_there : (limits : Limits) (phase : Phase) → IsFormedPhase limits phase → IfSome (owner_of phase) (IsMaster limits.masters)
+owner_is_there limits (Owned master from) there = (first_named limits (member master from) [] there.named).master
+owner_is_there limits (Opening source sfrom target dfrom) there =
+    (first_named limits (member source sfrom) (member target (unwrap_or dfrom 0) ∷ []) there.named).master
+owner_is_there limits (Moving source sfrom target dfrom) there =
+    (second_named limits (member source sfrom) (member target dfrom) [] there.named).master
+owner_is_there limits (Rebuilding lineage to) there = tt
+
+-- so it can be spelled
+lawful_owner : (limits : Limits) (owner : Option ℕ) → AreLimits limits → IfSome owner (IsMaster limits.masters) → IsLawfulOwner owner
+lawful_owner limits None are there = tt
+lawful_owner limits (Some owner) are there = fits_master limits 1 owner (omega arith) are there
+
+-- the answer to a look-up
+formed_located : (limits : Limits) (sender : Node) (found : Option Row) → AreLimits limits → IsThere limits sender → IfSome found (HasTenure limits) → All (IsFormedMessage limits) (located sender found)
+formed_located limits sender None are there has = All-nil _
+formed_located limits sender (Some row) are there has =
+    let range = has.formed.range in
+    let owner = owner_is_there limits row.phase (phase_of_formed limits row has.formed) in
+    let tablet : IsNumber w32 0 row.tablet = record { least_is = omega arith; fits = has.formed.number_is.fits } in
+    let message = bodies.Located (record { tablet = row.tablet; range = row.range; owner = owner_of row.phase }) in
+    All-cons (IsFormedMessage limits) (from_coordinator sender message) []
+    (sent_to limits sender message there
+    (tablet, any_range row.range range, lawful_owner limits (owner_of row.phase) are owner)
+    (record { range = range; owner = owner }))
+    (All-nil _)
+
+-- ---- any message
+
+-- what a master sent
+report_answers : (limits : Limits) (coordinator : Coordinator) (sender : ℕ) (body : Body) → IsLawfulBody body → IsFormedBody limits (nodes.Master sender) body → MaySend limits coordinator → Answers limits coordinator (report coordinator sender body)
+report_answers limits coordinator sender (bodies.Ready message) lawful says may =
+    about_answers limits coordinator (λ row. ready_in coordinator sender message row row.phase) (row_for coordinator sender message.tenure)
+    (row_spoken_of limits coordinator sender message.tenure may)
+    (λ row has. ready_answers limits coordinator sender message row row.phase lawful.1 has (phase_of_formed limits row has.formed) may)
+    may
+report_answers limits coordinator sender (bodies.Transfer message) lawful says may =
+    about_answers limits coordinator (λ row. transfer_in coordinator sender message row row.phase) (row_for coordinator sender message.tenure)
+    (row_spoken_of limits coordinator sender message.tenure may)
+    (λ row has. transfer_answers limits coordinator sender message row row.phase says has (phase_of_formed limits row has.formed) may)
+    may
+report_answers limits coordinator sender (bodies.Joined tenure) lawful says may =
+    about_answers limits coordinator (λ row. joined_in coordinator sender row row.phase) (row_for coordinator sender tenure)
+    (row_spoken_of limits coordinator sender tenure may)
+    (λ row has. joined_answers limits coordinator sender row row.phase has (phase_of_formed limits row has.formed) may)
+    may
+report_answers limits coordinator sender (bodies.Rebuilt message) lawful says may =
+    about_answers limits coordinator (λ row. rebuilt_in coordinator sender message row row.phase) (row_for coordinator sender message.tenure)
+    (row_spoken_of limits coordinator sender message.tenure may)
+    (λ row has.
+    rebuilt_answers limits coordinator sender message row row.phase lawful.place (record { tenure = says.0; ends = says.1 }) has
+    (phase_of_formed limits row has.formed) may)
+    may
+report_answers limits coordinator sender _ lawful says may = no_answer limits coordinator may
+
+-- what a client sent
+question_answers : (limits : Limits) (coordinator : Coordinator) (client : ℕ) (body : Body) → IsThere limits (nodes.Client client) → MaySend limits coordinator → Answers limits coordinator (question coordinator client body)
+question_answers limits coordinator client (bodies.Lookup lookup) there may =
+    same_answer limits coordinator
+    (located (nodes.Client client) (row_with coordinator.rows lookup.table lookup.hash))
+    (formed_located limits (nodes.Client client) (row_with coordinator.rows lookup.table lookup.hash) may.are there
+    (found_row limits coordinator (λ row. has row.range lookup.table lookup.hash) may))
+    may
+question_answers limits coordinator client _ there may = no_answer limits coordinator may
+
+-- by its sender
+told_answers : (limits : Limits) (coordinator : Coordinator) (sender : Node) (body : Body) → IsThere limits sender → IsLawfulBody body → IsFormedBody limits sender body → MaySend limits coordinator → Answers limits coordinator (told_coordinator coordinator sender body)
+told_answers limits coordinator (nodes.Client client) body there lawful says may =
+    question_answers limits coordinator client body there may
+told_answers limits coordinator (nodes.Master master) body there lawful says may =
+    report_answers limits coordinator master body lawful says may
+told_answers limits coordinator nodes.Coordinator body there lawful says may = no_answer limits coordinator may
+told_answers limits coordinator (nodes.Backup backup) body there lawful says may = no_answer limits coordinator may
+
+-- what a well formed coordinator, whose terms have stood, makes of a well formed message
+pub formed_coordinator_step : (limits : Limits) (coordinator : Coordinator) (message : Message) → AreLimits limits → IsFormedCoordinator limits coordinator → HasRowRoom limits coordinator → IsFormedMessage limits message → Answers limits coordinator (coordinator_step coordinator message)
+formed_coordinator_step limits coordinator message are formed room told =
+    told_answers limits coordinator message.from message.body told.from told.lawful told.says
+    (record { are = are; formed = formed; room = room })
+
+-- ---- its turn
+
+-- what all parts have, the list that joins them has
+pub all_flat_map : {X Y : Type 0} (P : Y → Type 0) (Q : X → Type 0) (parts : X → List Y) (list : List X) → ((x : X) → Q x → All P (parts x)) → All Q list → All P (flat_map parts list)
+all_flat_map P Q parts [] each all = All-nil _
+all_flat_map P Q parts (first ∷ rest) each all =
+    All-append P (parts first) (flat_map parts rest) (each first (All-head Q first rest all))
+    (all_flat_map P Q parts rest each (All-tail Q first rest all))
+
+-- what a source told, or that it told nothing
+handed_is_formed : (limits : Limits) (coordinator : Coordinator) (tablet : ℕ) → 1 ≤ limits.top → IsFormedCoordinator limits coordinator → IsFormedHanded limits (get_or (record { floor = 1; ends = [] }) coordinator.handed tablet)
+handed_is_formed limits coordinator tablet some formed =
+    go (get coordinator.handed tablet) refl
+  where
+    go : (found : Option Handed) → get coordinator.handed tablet ≡ found → IsFormedHanded limits (unwrap_or found (record { floor = 1; ends = [] }))
+    go None is = record {
+      floor = record { first = omega arith; last = some };
+      told = record { each = All-nil _; rising = tt };
+    }
+    go (Some handed) is = formed.handed tablet handed is
+
+-- a message alone
+only_message : (limits : Limits) (message : Message) → IsFormedMessage limits message → All (IsFormedMessage limits) (message ∷ [])
+only_message limits message formed = All-cons (IsFormedMessage limits) message [] formed (All-nil _)
+
+-- what it does for a row
+formed_duty : (limits : Limits) (coordinator : Coordinator) (row : Row) (phase : Phase) → HasTenure limits row → IsFormedPhase limits phase → MaySend limits coordinator → All (IsFormedMessage limits) (row_duty coordinator row phase)
+formed_duty limits coordinator row (Owned master from) has there may = All-nil _
+formed_duty limits coordinator row (Opening source sfrom target None) has there may =
+    let tenure = formed_tenure limits row has in
+    let prepare = bodies.Prepare (record { tenure = row_tenure row; range = row.range }) in
+    only_message limits (from_coordinator (nodes.Master target) prepare)
+    (sent_to limits (nodes.Master target) prepare
+    (second_named limits (member source sfrom) (member target 0) [] there.named).master
+    (lawful_tenure limits (row_tenure row) may.are tenure, any_range row.range has.formed.range)
+    (tenure, has.formed.range))
+formed_duty limits coordinator row (Opening source sfrom target (Some dfrom)) has there may =
+    let tenure = formed_tenure limits row has in
+    only_message limits (from_coordinator (nodes.Master source) (bodies.Close (row_tenure row)))
+    (sent_to limits (nodes.Master source) (bodies.Close (row_tenure row))
+    (first_named limits (member source sfrom) (member target dfrom ∷ []) there.named).master
+    (lawful_tenure limits (row_tenure row) may.are tenure) tenure)
+formed_duty limits coordinator row (Moving source sfrom target dfrom) has there may =
+    let tenure = formed_tenure limits row has in
+    let from = (first_named limits (member source sfrom) (member target dfrom ∷ []) there.named).master in
+    let handed = get_or (record { floor = 1; ends = [] }) coordinator.handed row.tablet in
+    let told = handed_is_formed limits coordinator row.tablet (omega (arith, has.term, has.formed.term)) may.formed in
+    let grant = bodies.Grant (record { tenure = row_tenure row; source = source; floor = handed.floor; ends = handed.ends }) in
+    only_message limits (from_coordinator (nodes.Master target) grant)
+    (sent_to limits (nodes.Master target) grant
+    (second_named limits (member source sfrom) (member target dfrom) [] there.named).master
+    (lawful_tenure limits (row_tenure row) may.are tenure, fits_master limits 0 source (omega arith) may.are from, fits_below_top limits handed.floor may.are told.floor.last, lawful_ends limits handed.ends told.told)
+    (record { tenure = tenure; source = from; floor = told.floor; told = told.told }))
+formed_duty limits coordinator row (Rebuilding lineage to) has there may =
+    let tenure = formed_tenure limits row has in
+    let members = before_last limits lineage (member to 0) there.named in
+    let rebuild = bodies.Rebuild (record { tenure = row_tenure row; range = row.range; lineage = lineage }) in
+    only_message limits (from_coordinator (nodes.Master to) rebuild)
+    (sent_to limits (nodes.Master to) rebuild (last_named limits lineage (member to 0) there.named).master
+    (record {
+      tenure = lawful_tenure limits (row_tenure row) may.are tenure;
+      range = any_range row.range has.formed.range;
+      lineage =
+          recursion_from_All IsLawfulMember lineage
+          (All-weaker (IsFormedMember limits) IsLawfulMember (λ m formed. lawful_member limits m may.are formed) lineage members);
+    })
+    (record { tenure = tenure; range = has.formed.range; members = members; few = there.few }))
+
+-- what a well formed coordinator, whose terms have stood, sends on its turn
+pub formed_coordinator_turn : (limits : Limits) (coordinator : Coordinator) → AreLimits limits → IsFormedCoordinator limits coordinator → HasRowRoom limits coordinator → All (IsFormedMessage limits) (coordinator_turn coordinator)
+formed_coordinator_turn limits coordinator are formed room =
+    all_flat_map (IsFormedMessage limits) (HasTenure limits) (λ row. row_duty coordinator row row.phase) coordinator.rows
+    (λ row has.
+    formed_duty limits coordinator row row.phase has (phase_of_formed limits row has.formed)
+    (record { are = are; formed = formed; room = room }))
+    (λ k d within. record { formed = formed.rows k d within; term = room.terms k d within })
+
+-- ---- a tablet begins to move
+
+-- a coordinator after a change that is no answer: it is well formed, has what it had before, and no term is greater than this
+pub record Moves (limits : Limits) (most : ℕ) (after before : Coordinator) : Type 0 where
+  pub formed : IsFormedCoordinator limits after
+  pub keeps : Keeps after before
+  pub terms : AreTermsUpTo most after.rows
