@@ -1,6 +1,6 @@
 -- What the coordinator makes of a message, of its turn and of a tablet that begins to move: where the coordinator is well formed, it
 -- stays so, all that it sends is well formed, and what its rows covered is covered.
-use Rattle.std.proofs.Common.{◌≡◌, ◌≤◌, ℕ, w8, w32, w64, Bool, true, false, cond, ◌==◌, List, [], ◌∷◌, ◌++◌, All, IfSome, length, find, Option, None, Some, refl, arith}
+use Rattle.std.proofs.Common.{◌≡◌, ◌≤◌, ◌+◌, ℕ, w8, w32, w64, Bool, true, false, cond, ◌==◌, List, [], ◌∷◌, ◌++◌, All, IfSome, length, find, Option, None, Some, refl, arith}
 use Rattle.std.specs.List.{AllByRecursion, flat_map}
 use Rattle.std.specs.Prelude.{unwrap_or}
 use Rattle.std.proofs.lemmas.List.Elements.{All-append, All-cons, All-head, All-nil, All-tail, recursion_from_All, All-weaker}
@@ -37,7 +37,7 @@ use Rattle.rk_world.specs.Formed.{IsFormedCoordinator, IsFormedHanded, IsFormedR
 use Rattle.rk_world.specs.Limits.{IsFormedBody, IsFormedEnd, IsFormedEnds, IsFormedMember, IsFormedMessage, IsFormedNumber, IsFormedTenure, IsFormedTransfer, IsThere, Limits}
 use Rattle.rk_world.specs.Migrations.{migrating, row_migrated, tablet_migrated}
 use Rattle.rk_world.specs.Premises.{IsMaster}
-use Rattle.rk_laws_formed.proofs.Rows.{AreFormedRows, AreTermsUpTo, Cover, IsFormedPhase, found_has, covered_changed, covered_placed, formed_changed_rows, formed_new_row, formed_placed, phase_of_formed, terms_changed}
+use Rattle.rk_laws_formed.proofs.Rows.{AreFormedRows, AreTermsUpTo, Cover, IsFormedPhase, all_found, all_placed, found_has, covered_changed, covered_placed, formed_changed_rows, formed_new_row, formed_placed, phase_of_formed, terms_below, terms_changed}
 use Rattle.rk_laws_formed.proofs.Work.{AreLimits}
 
 -- ---- coordinators
@@ -507,10 +507,75 @@ formed_coordinator_turn limits coordinator are formed room =
     (record { are = are; formed = formed; room = room }))
     (λ k d within. record { formed = formed.rows k d within; term = room.terms k d within })
 
--- ---- a tablet begins to move
+-- ---- a tablet begins to move, or is added
 
--- a coordinator after a change that is no answer: it is well formed, has what it had before, and no term is greater than this
-pub record Moves (limits : Limits) (most : ℕ) (after before : Coordinator) : Type 0 where
+-- a coordinator after a change: it is well formed, has what it had before, and each term rose by one at most
+pub record IsFormedChange (limits : Limits) (before after : Coordinator) : Type 0 where
   pub formed : IsFormedCoordinator limits after
   pub keeps : Keeps after before
-  pub terms : AreTermsUpTo most after.rows
+  pub terms : (most : ℕ) → AreTermsUpTo most before.rows → AreTermsUpTo (most + 1) after.rows
+
+-- nothing changes
+no_change : (limits : Limits) (coordinator : Coordinator) → IsFormedCoordinator limits coordinator → IsFormedChange limits coordinator coordinator
+no_change limits coordinator formed = record {
+  formed = formed;
+  keeps = keeps_all coordinator;
+  terms = λ most all. terms_below most (most + 1) coordinator.rows (omega arith) all;
+}
+
+-- a row is at the next term and another phase
+pub next_term : (limits : Limits) (coordinator : Coordinator) (row : Row) (tablet : ℕ) (phase : Phase) → row_of coordinator.rows tablet ≡ Some row → IsFormedPhase limits phase → IsFormedCoordinator limits coordinator → IsFormedChange limits coordinator (with_term coordinator row phase)
+next_term limits coordinator row tablet phase found there formed = record {
+  formed =
+      formed_with_rows limits coordinator (with_term coordinator row phase).rows
+      (formed_changed_rows limits coordinator.rows row.tablet (row.term + 1) phase (omega arith) there
+      (rows_of_formed limits coordinator formed))
+      formed;
+  keeps = record { masters = refl; noticed = refl; covers = covered_changed coordinator.rows row.tablet (row.term + 1) phase };
+  terms = λ most all.
+      let below : row.term ≤ most = all_found (λ r. r.term ≤ most) row tablet coordinator.rows found all in
+      terms_changed (most + 1) coordinator.rows row.tablet (row.term + 1) phase (omega arith)
+      (terms_below most (most + 1) coordinator.rows (omega arith) all);
+}
+
+-- a row, at its phase, begins to move
+migrating_changes : (limits : Limits) (coordinator : Coordinator) (row : Row) (tablet to : ℕ) (phase : Phase) → row_of coordinator.rows tablet ≡ Some row → IsFormedPhase limits phase → IsMaster limits.masters to → IsFormedCoordinator limits coordinator → IsFormedChange limits coordinator (migrating coordinator row phase to)
+migrating_changes limits coordinator row tablet to (Owned master from) found there target formed =
+    next_term limits coordinator row tablet (Opening master from to None) found
+    (record {
+      named =
+          two_named limits (member master from) (member to 0) (first_named limits (member master from) [] there.named)
+          (record { master = target; from = record { least_is = omega arith; fits = omega arith } });
+      few = omega arith;
+    })
+    formed
+migrating_changes limits coordinator row tablet to (Opening source sfrom target dfrom) found there target_is formed = no_change limits coordinator formed
+migrating_changes limits coordinator row tablet to (Moving source sfrom target dfrom) found there target_is formed = no_change limits coordinator formed
+migrating_changes limits coordinator row tablet to (Rebuilding lineage rebuilder) found there target_is formed = no_change limits coordinator formed
+
+-- a tablet begins to move to a master that is there
+pub formed_tablet_migrated : (limits : Limits) (coordinator : Coordinator) (tablet to : ℕ) → IsMaster limits.masters to → IsFormedCoordinator limits coordinator → IsFormedChange limits coordinator (tablet_migrated coordinator tablet to)
+formed_tablet_migrated limits coordinator tablet to target formed =
+    go (row_of coordinator.rows tablet) refl
+  where
+    go : (found : Option Row) → row_of coordinator.rows tablet ≡ found → IsFormedChange limits coordinator (row_migrated coordinator found to)
+    go None found = no_change limits coordinator formed
+    go (Some row) found =
+        migrating_changes limits coordinator row tablet to row.phase found
+        (phase_of_formed limits row (all_found (IsFormedRow limits) row tablet coordinator.rows found formed.rows)) target formed
+
+-- a tablet is added at a master that is there, where that is not refused
+pub formed_with_row : (limits : Limits) (coordinator : Coordinator) (tablet : ℕ) (range : Range) (master : ℕ) → add_fault coordinator.rows (new_row tablet range master) ≡ None → IsNumber w32 1 tablet → IsLawfulRange range → IsMaster limits.masters master → IsFormedCoordinator limits coordinator → IsFormedChange limits coordinator (with_row coordinator (new_row tablet range master))
+formed_with_row limits coordinator tablet range master none number lawful there formed =
+    let row = new_row tablet range master in
+    record {
+      formed =
+          formed_with_rows limits coordinator (with_row coordinator row).rows
+          (formed_placed limits row coordinator.rows none (formed_new_row limits tablet range master number lawful there)
+          (rows_of_formed limits coordinator formed))
+          formed;
+      keeps = record { masters = refl; noticed = refl; covers = covered_placed row coordinator.rows };
+      terms = λ most all.
+          let first : 1 ≤ most + 1 = omega arith in
+          all_placed (λ r. r.term ≤ most + 1) row coordinator.rows first (terms_below most (most + 1) coordinator.rows (omega arith) all);
+    }

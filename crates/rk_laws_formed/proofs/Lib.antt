@@ -1,3 +1,4 @@
 pub mod Work
 pub mod Rows
 pub mod Coordinators
+pub mod SplitLaws

@@ -1,8 +1,9 @@
 -- Rows of a tablet map that are well formed stay so when one of them takes another term and phase, when one is added and when one is
 -- split. They cover then what they covered, and their terms stay below what bounds the old ones and the new.
 use Rattle.std.proofs.Common.{◌≡◌, ◌≤◌, ◌<◌, ℕ, w32, Bool, true, false, ◌||◌, cond, ◌==◌, nat_le, nat_lt, List, [], ◌∷◌, All, length, Option, None, Some, is_some, find, IfSome, refl, sym, ap, subst, ◌∙◌, arith}
+use Rattle.std.proofs.Math.Nat.{le_trans}
 use Rattle.std.proofs.lemmas.Bool.{and_parts, leb-true, ltb-true}
-use Rattle.std.proofs.lemmas.List.Elements.{All-cons, All-head, All-nil, All-tail}
+use Rattle.std.proofs.lemmas.List.Elements.{All-cons, All-head, All-nil, All-tail, All-weaker}
 use Rattle.rk_types.specs.Range.{has}
 use Rattle.rk_types.specs.declared.range.Range.{Range}
 use Rattle.rk_entry.specs.Ends.{IsLawfulRange}
@@ -111,6 +112,11 @@ pub record AreFormedRows (limits : Limits) (rows : List Row) : Type 0 where
 -- no term of the rows is greater than this number
 abbrev pub AreTermsUpTo : ℕ → List Row → Type 0
 AreTermsUpTo most rows = All (λ row. row.term ≤ most) rows
+
+-- what bounds them stands below greater numbers
+pub terms_below : (most greater : ℕ) (rows : List Row) → most ≤ greater → AreTermsUpTo most rows → AreTermsUpTo greater rows
+terms_below most greater rows less all =
+    All-weaker (λ row. row.term ≤ most) (λ row. row.term ≤ greater) (λ row below. le_trans below less) rows all
 
 -- the phase of a row that is well formed
 pub phase_of_formed : (limits : Limits) (row : Row) → IsFormedRow limits row → IsFormedPhase limits row.phase
