@@ -1,8 +1,10 @@
 -- A tablet is split or added: the coordinator's rows stay well formed, as does the master that serves it.
-use Rattle.std.proofs.Common.{◌≡◌, ◌≤◌, ◌+◌, ℕ, w32, w64, Bool, true, false, cond, List, [], ◌∷◌, All, Option, None, Some, nat_le, nat_lt, refl, sym, ap, subst, ◌∙◌, arith}
+use Rattle.std.proofs.Common.{◌≡◌, ◌≤◌, ◌<◌, ◌+◌, ℕ, w32, w64, Bool, true, false, cond, List, [], ◌∷◌, All, Option, None, Some, nat_le, nat_lt, refl, sym, ap, subst, ◌∙◌, arith}
 use Rattle.std.specs.Prelude.{unwrap_or}
+use Rattle.std.specs.List.{IsDistinct}
 use Rattle.std.specs.Option.{option_map}
 use Rattle.std.proofs.lemmas.Bool.{and_parts, leb-true, ltb-true}
+use Rattle.std.proofs.lemmas.Bool.Decides.{nat_tests}
 use Rattle.std.proofs.lemmas.List.Elements.{All-nil}
 use Rattle.rk_types.proofs.NumberMaps.{each_insert, in_order_insert}
 use Rattle.rk_types.specs.NumberMap.{get}
@@ -18,7 +20,7 @@ use Rattle.rk_tablet_map.specs.declared.row.Row.{Row}
 use Rattle.rk_transfer.specs.declared.role.Role.TheVariants as roles
 use Rattle.rk_world.specs.declared.error.MoveError.TheVariants as moves
 use Rattle.rk_world.specs.Coordinator.{Coordinator}
-use Rattle.rk_world.specs.Formed.{IsFormedCoordinator, IsFormedMaster, IsFormedRow, IsFormedTablet}
+use Rattle.rk_world.specs.Formed.{AreSideSegments, IsFormedCoordinator, IsFormedMaster, IsFormedRow, IsFormedTablet}
 use Rattle.rk_world.specs.Limits.{IsFormedNumber, Limits}
 use Rattle.rk_world.specs.Master.{Master, tablet_at, with_tablet}
 use Rattle.rk_world.specs.Ranges.{range_below, range_from}
@@ -84,3 +86,130 @@ formed_rows_split limits coordinator tablet at new none number formed =
     go None found fault = absurd (cc fault)
     go (Some row) found fault =
         with_rows_split_changes limits coordinator tablet row at new found (rows_allow coordinator row row.phase at new fault) number formed
+
+-- ---- the master
+
+-- a master with another tablet that is well formed
+formed_with_tablet : (limits : Limits) (number : ℕ) (master : Master) (tablet : ℕ) (it : Tablet) → IsFormedTablet limits tablet it → IsFormedMaster limits number master → IsFormedMaster limits number (with_tablet master tablet it)
+formed_with_tablet limits number master tablet it new formed = record {
+  number_is = formed.number_is;
+  known = formed.known;
+  lengths = formed.lengths;
+  written = formed.written;
+  spelled = formed.spelled;
+  sides = formed.sides;
+  items = formed.items;
+  records = formed.records;
+  scanned = formed.scanned;
+  applied = formed.applied;
+  calls_order = formed.calls_order;
+  calls = formed.calls;
+  tablets_order = in_order_insert master.tablets tablet it formed.tablets_order;
+  tablets = each_insert (IsFormedTablet limits) master.tablets tablet it formed.tablets new;
+}
+
+-- a half of a tablet
+half_is_formed : (limits : Limits) (number half : ℕ) (tablet : Tablet) (range : Range) (term : ℕ) → IsNumber w32 1 half → IsLawfulRange range → IsFormedNumber limits term → IsFormedTablet limits number tablet → IsFormedTablet limits half (with_half tablet range term)
+half_is_formed limits number half tablet range term is lawful stood old = record {
+  number_is = is;
+  term = stood;
+  place = record { least_is = omega arith; fits = omega arith };
+  range = lawful;
+  counter = old.counter;
+  order = old.order;
+  ended = old.ended;
+  source = λ receives. absurd (cc receives);
+  pulled = old.pulled;
+  gathered = All-nil _;
+  merged = All-nil _;
+}
+
+-- both halves of a tablet that is known
+with_halves_is_formed : (limits : Limits) (number : ℕ) (master : Master) (tablet : ℕ) (it : Tablet) (at new term : ℕ) → has_parts it.handover.range at ≡ true → IsNumber w32 1 new → IsFormedNumber limits term → IsFormedTablet limits tablet it → IsFormedMaster limits number master → IsFormedMaster limits number (with_halves master tablet it at new term)
+with_halves_is_formed limits number master tablet it at new term parted is stood old formed =
+    formed_with_tablet limits number lower new (with_half it (range_from it.handover.range at) term)
+    (half_is_formed limits tablet new it (range_from it.handover.range at) term is
+    (lawful_from it.handover.range at above within old.range) stood old)
+    (formed_with_tablet limits number master tablet (with_half it (range_below it.handover.range at) term)
+    (half_is_formed limits tablet tablet it (range_below it.handover.range at) term old.number_is
+    (lawful_below it.handover.range at above within old.range) stood old)
+    formed)
+  where
+    lower : Master
+    lower = with_tablet master tablet (with_half it (range_below it.handover.range at) term)
+
+    above : it.handover.range.first < at
+    above = ltb-true it.handover.range.first at (and_parts (nat_lt it.handover.range.first at) (nat_le at it.handover.range.last) parted).0
+
+    within : at ≤ it.handover.range.last
+    within = leb-true at it.handover.range.last (and_parts (nat_lt it.handover.range.first at) (nat_le at it.handover.range.last) parted).1
+
+-- a tablet that is not known has no parts
+nothing_parts : (at : ℕ) → has_parts no_tablet.handover.range at ≡ false
+nothing_parts at = grind (arith, nat_tests)
+
+-- a master serves both halves of a tablet, at a term that has stood, where both have a hash
+pub formed_with_split : (limits : Limits) (number : ℕ) (master : Master) (tablet at new term : ℕ) → IsNumber w32 1 new → IsFormedNumber limits term → IsFormedMaster limits number master → IsFormedMaster limits number (with_split master tablet at new term)
+formed_with_split limits number master tablet at new term is stood formed =
+    known (get master.tablets tablet) refl
+  where
+    parted : (it : Tablet) → get master.tablets tablet ≡ Some it → (b : Bool) → has_parts it.handover.range at ≡ b → IsFormedMaster limits number (cond b (with_halves master tablet it at new term) master)
+    parted it found true both = with_halves_is_formed limits number master tablet it at new term both is stood (formed.tablets tablet it found) formed
+    parted it found false one = formed
+
+    known : (found : Option Tablet) → get master.tablets tablet ≡ found → IsFormedMaster limits number (cond (has_parts (unwrap_or found no_tablet).handover.range at) (with_halves master tablet (unwrap_or found no_tablet) at new term) master)
+    known None found =
+        subst (λ (b : Bool). IsFormedMaster limits number (cond b (with_halves master tablet no_tablet at new term) master))
+        (sym (nothing_parts at)) formed
+    known (Some it) found = parted it found (has_parts it.handover.range at) refl
+
+-- no side segment
+no_segments : AreSideSegments []
+unfolding IsDistinct
+no_segments = record { each = All-nil _; distinct = tt }
+
+-- a tablet that is served from the start, where nothing was known of it and where it was well formed
+served_is_formed : (limits : Limits) (tablet : ℕ) (range : Range) (known : Option Tablet) → 1 ≤ limits.top → IsNumber w32 1 tablet → IsLawfulRange range → ((it : Tablet) → known ≡ Some it → IsFormedTablet limits tablet it) → IsFormedTablet limits tablet (record (unwrap_or known no_tablet) { handover = record { role = roles.Serving; term = 1; range = range; counter = 1 } })
+served_is_formed limits tablet range None some is lawful each = record {
+  number_is = is;
+  term = record { first = omega arith; last = some };
+  place = record { least_is = omega arith; fits = omega arith };
+  range = lawful;
+  counter = record { first = omega arith; last = some };
+  order = tt;
+  ended = All-nil _;
+  source = λ receives. absurd (cc receives);
+  pulled = record {
+    token = (record { least_is = omega arith; fits = omega arith }, record { least_is = omega arith; fits = omega arith });
+    wanted = All-nil _;
+    outstanding = All-nil _;
+    workers = refl;
+    items = All-nil _;
+    sealed = no_segments;
+  };
+  gathered = All-nil _;
+  merged = All-nil _;
+}
+served_is_formed limits tablet range (Some it) some is lawful each =
+    let old = each it refl in
+    record {
+      number_is = is;
+      term = record { first = omega arith; last = some };
+      place = record { least_is = omega arith; fits = omega arith };
+      range = lawful;
+      counter = record { first = omega arith; last = some };
+      order = old.order;
+      ended = old.ended;
+      source = λ receives. absurd (cc receives);
+      pulled = old.pulled;
+      gathered = old.gathered;
+      merged = old.merged;
+    }
+
+-- a master serves a tablet that is added, where 1 has stood, as its term and its counter are
+pub formed_with_added : (limits : Limits) (number : ℕ) (master : Master) (tablet : ℕ) (range : Range) → 1 ≤ limits.top → IsNumber w32 1 tablet → IsLawfulRange range → IsFormedMaster limits number master → IsFormedMaster limits number (with_added master tablet range)
+formed_with_added limits number master tablet range some is lawful formed =
+    formed_with_tablet limits number master tablet
+    (record (tablet_at master tablet) { handover = record { role = roles.Serving; term = 1; range = range; counter = 1 } })
+    (served_is_formed limits tablet range (get master.tablets tablet) some is lawful (λ it found. formed.tablets tablet it found))
+    formed
