@@ -220,29 +220,29 @@ tested_answer limits before true a b first second = first
 tested_answer limits before false a b first second = second
 
 -- one member that is there
-one_named : (limits : Limits) (a : Member) → IsFormedMember limits a → All (IsFormedMember limits) (a ∷ [])
+pub one_named : (limits : Limits) (a : Member) → IsFormedMember limits a → All (IsFormedMember limits) (a ∷ [])
 one_named limits a first = All-cons (IsFormedMember limits) a [] first (All-nil _)
 
 -- two members that are there
-two_named : (limits : Limits) (a b : Member) → IsFormedMember limits a → IsFormedMember limits b → All (IsFormedMember limits) (a ∷ b ∷ [])
+pub two_named : (limits : Limits) (a b : Member) → IsFormedMember limits a → IsFormedMember limits b → All (IsFormedMember limits) (a ∷ b ∷ [])
 two_named limits a b first second = All-cons (IsFormedMember limits) a (b ∷ []) first (one_named limits b second)
 
 -- the first of two
-first_named : (limits : Limits) (a : Member) (rest : List Member) → All (IsFormedMember limits) (a ∷ rest) → IsFormedMember limits a
+pub first_named : (limits : Limits) (a : Member) (rest : List Member) → All (IsFormedMember limits) (a ∷ rest) → IsFormedMember limits a
 first_named limits a rest all = All-head (IsFormedMember limits) a rest all
 
 -- and the second
-second_named : (limits : Limits) (a b : Member) (rest : List Member) → All (IsFormedMember limits) (a ∷ b ∷ rest) → IsFormedMember limits b
+pub second_named : (limits : Limits) (a b : Member) (rest : List Member) → All (IsFormedMember limits) (a ∷ b ∷ rest) → IsFormedMember limits b
 second_named limits a b rest all = All-head (IsFormedMember limits) b rest (All-tail (IsFormedMember limits) a (b ∷ rest) all)
 
 -- the last of all
-last_named : (limits : Limits) (lineage : List Member) (a : Member) → All (IsFormedMember limits) (lineage ++ a ∷ []) → IsFormedMember limits a
+pub last_named : (limits : Limits) (lineage : List Member) (a : Member) → All (IsFormedMember limits) (lineage ++ a ∷ []) → IsFormedMember limits a
 last_named limits [] a all = first_named limits a [] all
 last_named limits (first ∷ rest) a all =
     last_named limits rest a (All-tail (IsFormedMember limits) first (rest ++ a ∷ []) all)
 
 -- all but the last
-before_last : (limits : Limits) (lineage : List Member) (a : Member) → All (IsFormedMember limits) (lineage ++ a ∷ []) → All (IsFormedMember limits) lineage
+pub before_last : (limits : Limits) (lineage : List Member) (a : Member) → All (IsFormedMember limits) (lineage ++ a ∷ []) → All (IsFormedMember limits) lineage
 before_last limits [] a all = All-nil _
 before_last limits (first ∷ rest) a all =
     All-cons (IsFormedMember limits) first rest (All-head (IsFormedMember limits) first (rest ++ a ∷ []) all)

@@ -2,3 +2,4 @@ pub mod Work
 pub mod Rows
 pub mod Coordinators
 pub mod SplitLaws
+pub mod NoticeLaws

@@ -1,0 +1,312 @@
+-- The notice of a crash: the coordinator stays well formed, where one of the masters is neither crashed nor noticed. Each row that has
+-- lost a master gets one that is there, so all that it covered is covered.
+use Rattle.std.proofs.Common.{◌≡◌, ◌≤◌, ◌<◌, ◌+◌, ℕ, zero, suc, w64, Bool, true, false, not, cond, ◌==◌, ◌&&◌, ◌||◌, List, [], ◌∷◌, ◌++◌, All, IfSome, length, filter, find, fold, map, Option, None, Some, refl, sym, ap, subst, ◌∙◌, arith}
+use Rattle.std.specs.List.{AllByRecursion, list_any, range_with_len}
+use Rattle.std.specs.Prelude.{unwrap_or}
+use Rattle.std.proofs.lemmas.Bool.{or_parts}
+use Rattle.std.proofs.lemmas.List.{length-append}
+use Rattle.std.proofs.lemmas.List.Elements.{All-append, All-cons, All-filter, All-head, All-map, All-nil, All-push, All-tail, All-weaker}
+use Rattle.rk_types.specs.Range.{has, meets}
+use Rattle.rk_types.specs.declared.lineage.Member.{Member}
+use Rattle.rk_entry.specs.Numbers.{IsNumber}
+use Rattle.rk_tablet_map.specs.Phase.{lineage_of, member}
+use Rattle.rk_tablet_map.specs.Rows.{IsTabletMap, Precedes, is_covered}
+use Rattle.rk_tablet_map.specs.declared.phase.Phase.{Phase}
+use Rattle.rk_tablet_map.specs.declared.phase.Phase.TheVariants.{Moving, Opening, Owned, Rebuilding}
+use Rattle.rk_tablet_map.specs.declared.row.Row.{Row}
+use Rattle.rk_world.specs.Coordinator.{Coordinator, is_noticed, lowest_left}
+use Rattle.rk_world.specs.Formed.{IsFormedCoordinator, IsFormedRow}
+use Rattle.rk_world.specs.Limits.{IsFormedMember, Limits}
+use Rattle.rk_world.specs.Notices.{coordinator_notice, is_named, next_rebuilder, notice_one, notice_order, phase_noticed, row_noticed}
+use Rattle.rk_world.specs.Premises.{IsMaster}
+use Rattle.rk_laws_formed.proofs.Coordinators.{before_last, first_named, one_named, second_named, two_named}
+use Rattle.rk_laws_formed.proofs.Rows.{AreTermsUpTo, Cover, IsFormedPhase, found_has, phase_of_formed, terms_below}
+
+-- ---- the lowest master that is left
+
+-- a number within a range
+record IsBetween (start count number : ℕ) : Type 0 where
+  first : start ≤ number
+  before : number < start + count
+
+-- the first number of a range that passes, where some number there passes, is within it
+first_between : (test : ℕ → Bool) (start count number : ℕ) → IsBetween start count number → test number ≡ true → IsBetween start count (unwrap_or (find test (range_with_len start count)) 0)
+first_between test start zero number within passes = absurd (omega (arith, within.first, within.before))
+first_between test start (suc count) number within passes =
+    elim (test start) as (λ b. test start ≡ b → IsBetween start (suc count) (unwrap_or (cond b (Some start) (find test (range_with_len (start + 1) count))) 0)) [
+      | true ↦ λ is. record { first = omega arith; before = omega arith }
+      | false ↦ λ fails.
+          let apart : number ≡ start → ⊥ = λ same. let both : true ≡ false = sym passes ∙ ap test same ∙ fails in absurd (cc both) in
+          let later =
+              first_between test (start + 1) count number
+              (record { first = omega (arith, apart, within.first); before = omega (arith, within.before) }) passes in
+          record { first = omega (arith, later.first); before = omega (arith, later.before) }
+    ] refl
+
+-- a master that is there and was not noticed
+pub record IsLeft (limits : Limits) (coordinator : Coordinator) (living : ℕ) : Type 0 where
+  pub masters : coordinator.masters ≡ limits.masters
+  pub there : IsMaster limits.masters living
+  pub unnoticed : is_noticed coordinator living ≡ false
+
+-- so the lowest one that is left is there
+lowest_is_there : (limits : Limits) (coordinator : Coordinator) (living : ℕ) → IsLeft limits coordinator living → IsMaster limits.masters (lowest_left coordinator)
+lowest_is_there limits coordinator living left =
+    let lowest =
+        first_between (λ master. not (is_noticed coordinator master)) 1 coordinator.masters living
+        (record { first = left.there.first; before = omega (arith, left.there.last, left.masters) })
+        (ap not left.unnoticed) in
+    record { first = lowest.first; last = omega (arith, lowest.before, left.masters) }
+
+-- what all have, and another one, what is found among them or else that other one has
+found_or : {X : Type 0} (P : X → Type 0) (test : X → Bool) (list : List X) (other : X) → All P list → P other → P (unwrap_or (find test list) other)
+found_or {X} P test list other all it =
+    go (find test list) (found_has P test list all)
+  where
+    go : (found : Option X) → IfSome found P → P (unwrap_or found other)
+    go None has = it
+    go (Some x) has = has
+
+-- who rebuilds next is there
+next_is_there : (limits : Limits) (coordinator : Coordinator) (lineage : List Member) → All (IsFormedMember limits) lineage → IsMaster limits.masters (lowest_left coordinator) → IsMaster limits.masters (next_rebuilder coordinator lineage)
+next_is_there limits coordinator lineage members lowest =
+    found_or (IsMaster limits.masters) (λ master. not (is_noticed coordinator master)) (map (λ m. m.master) lineage) (lowest_left coordinator)
+    (All-map (IsMaster limits.masters) (λ m. m.master) lineage (λ k d within. (members k d within).master)) lowest
+
+-- ---- the phase of a row
+
+-- a tablet is rebuilt by a master that is there
+rebuilding_is_formed : (limits : Limits) (lineage : List Member) (to : ℕ) → All (IsFormedMember limits) lineage → length lineage ≤ 2 → IsMaster limits.masters to → IsFormedPhase limits (Rebuilding lineage to)
+rebuilding_is_formed limits lineage to members few there = record {
+  named =
+      All-push (IsFormedMember limits) lineage (member to 0) members
+      (record { master = there; from = record { least_is = omega arith; fits = omega arith } });
+  few = few;
+}
+
+-- by a test: what has a property, or else another one that has it, if there is one
+some_where : {X : Type 0} (P : X → Type 0) (test : Bool) (x : X) (other : Option X) → P x → IfSome other P → IfSome (cond test (Some x) other) P
+some_where P true x other it has = it
+some_where P false x other it has = has
+
+-- the phase of a row, where it changes
+phase_is_formed : (limits : Limits) (coordinator : Coordinator) (dead : ℕ) (phase : Phase) → IsMaster limits.masters dead → IsMaster limits.masters (lowest_left coordinator) → IsFormedPhase limits phase → IfSome (phase_noticed coordinator dead phase) (IsFormedPhase limits)
+phase_is_formed limits coordinator dead (Owned master from) gone lowest there =
+    let own = first_named limits (member master from) [] there.named in
+    some_where (IsFormedPhase limits) (master == dead) (Rebuilding (member dead from ∷ []) (lowest_left coordinator)) None
+    (rebuilding_is_formed limits (member dead from ∷ []) (lowest_left coordinator)
+    (one_named limits (member dead from) (record { master = gone; from = own.from })) (omega arith) lowest)
+    tt
+phase_is_formed limits coordinator dead (Opening source sfrom target dfrom) gone lowest there =
+    let old = first_named limits (member source sfrom) (member target (unwrap_or dfrom 0) ∷ []) there.named in
+    some_where (IsFormedPhase limits) (source == dead) (Rebuilding (member dead sfrom ∷ []) (lowest_left coordinator)) _
+    (rebuilding_is_formed limits (member dead sfrom ∷ []) (lowest_left coordinator)
+    (one_named limits (member dead sfrom) (record { master = gone; from = old.from })) (omega arith) lowest)
+    (some_where (IsFormedPhase limits) (target == dead) (Rebuilding (member source sfrom ∷ []) source) None
+    (rebuilding_is_formed limits (member source sfrom ∷ []) source (one_named limits (member source sfrom) old) (omega arith) old.master)
+    tt)
+phase_is_formed limits coordinator dead (Moving source sfrom target dfrom) gone lowest there =
+    let old = first_named limits (member source sfrom) (member target dfrom ∷ []) there.named in
+    let own = second_named limits (member source sfrom) (member target dfrom) [] there.named in
+    some_where (IsFormedPhase limits) (source == dead) (Rebuilding (member dead sfrom ∷ member target dfrom ∷ []) target) _
+    (rebuilding_is_formed limits (member dead sfrom ∷ member target dfrom ∷ []) target
+    (two_named limits (member dead sfrom) (member target dfrom) (record { master = gone; from = old.from }) own) (omega arith) own.master)
+    (some_where (IsFormedPhase limits) (target == dead) (Rebuilding (member source sfrom ∷ member dead dfrom ∷ []) source) None
+    (rebuilding_is_formed limits (member source sfrom ∷ member dead dfrom ∷ []) source
+    (two_named limits (member source sfrom) (member dead dfrom) old (record { master = gone; from = own.from })) (omega arith) old.master)
+    tt)
+phase_is_formed limits coordinator dead (Rebuilding lineage to) gone lowest there =
+    let members = before_last limits lineage (member to 0) there.named in
+    some_where (IsFormedPhase limits) (to == dead) (Rebuilding lineage (next_rebuilder coordinator lineage)) None
+    (rebuilding_is_formed limits lineage (next_rebuilder coordinator lineage) members there.few (next_is_there limits coordinator lineage members lowest))
+    tt
+
+-- ---- rows
+
+-- a row whose phase may change
+row_is_formed : (limits : Limits) (row : Row) (changed : Option Phase) → IfSome changed (IsFormedPhase limits) → IsFormedRow limits row → IsFormedRow limits (row_noticed row changed)
+row_is_formed limits row None there formed = formed
+row_is_formed limits row (Some phase) there formed = record {
+  number_is = formed.number_is;
+  term = omega arith;
+  range = formed.range;
+  named = there.named;
+  few = there.few;
+}
+
+-- what leaves rows at their place: their numbers and their ranges stay
+record Stays (change : Row → Row) : Type 0 where
+  tablet : (row : Row) → (change row).tablet ≡ row.tablet
+  range : (row : Row) → (change row).range ≡ row.range
+
+-- what precedes others precedes them then
+precedes_changed : (change : Row → Row) (row : Row) (rows : List Row) → Stays change → AllByRecursion (Precedes row) rows → AllByRecursion (Precedes (change row)) (map change rows)
+precedes_changed change row [] stays all = tt
+precedes_changed change row (first ∷ rest) stays all =
+    (record {
+      smaller = omega (arith, stays.tablet row, stays.tablet first, all.0.smaller);
+      apart = rw (stays.range row, stays.range first) all.0.apart;
+    },
+    precedes_changed change row rest stays all.1)
+
+-- a map stays one
+map_changed : (change : Row → Row) (rows : List Row) → Stays change → IsTabletMap rows → IsTabletMap (map change rows)
+map_changed change [] stays map_is = tt
+map_changed change (first ∷ rest) stays map_is =
+    (precedes_changed change first rest stays map_is.0, map_changed change rest stays map_is.1)
+
+-- and covers what it covered
+covered_each : (change : Row → Row) (rows : List Row) (table hash : ℕ) → Stays change → is_covered (map change rows) table hash ≡ is_covered rows table hash
+covered_each change [] table hash stays = refl
+covered_each change (first ∷ rest) table hash stays =
+    rw (stays.range first) (ap (λ b. has first.range table hash || b) (covered_each change rest table hash stays))
+
+-- ---- one notice
+
+-- what no element of a list is, nor another one, none is with that one at the end
+none_pushed : (test : ℕ → Bool) (list : List ℕ) (last : ℕ) → list_any test list ≡ false → test last ≡ false → list_any test (list ++ last ∷ []) ≡ false
+none_pushed test [] last none fails = rw fails refl
+none_pushed test (first ∷ rest) last none fails =
+    let parts = or_parts (test first) (list_any test rest) none in
+    rw parts.0 (none_pushed test rest last parts.1 fails)
+
+-- a coordinator after notices: it is well formed, a master is left, and what was covered is covered; each term rose by so much at most
+pub record IsFormedNotice (limits : Limits) (living most_rise : ℕ) (before after : Coordinator) : Type 0 where
+  pub formed : IsFormedCoordinator limits after
+  pub masters : after.masters ≡ before.masters
+  pub left : IsLeft limits after living
+  pub covers : Cover after.rows before.rows
+  pub terms : (most : ℕ) → AreTermsUpTo most before.rows → AreTermsUpTo (most + most_rise) after.rows
+
+-- a master that is noticed is there, and is not the one that is left
+record IsGone (limits : Limits) (living dead : ℕ) : Type 0 where
+  there : IsMaster limits.masters dead
+  apart : (dead == living) ≡ false
+
+-- a master is marked as dead
+abbrev marked : Coordinator → ℕ → Coordinator
+marked coordinator dead = record coordinator { noticed = coordinator.noticed ++ dead ∷ [] }
+
+-- a row then
+abbrev after_notice : Coordinator → ℕ → Row → Row
+after_notice coordinator dead row = row_noticed row (phase_noticed (marked coordinator dead) dead row.phase)
+
+-- rows stay at their place
+row_stays : (row : Row) (changed : Option Phase) → (row_noticed row changed).tablet ≡ row.tablet
+row_stays row None = refl
+row_stays row (Some phase) = refl
+
+range_stays : (row : Row) (changed : Option Phase) → (row_noticed row changed).range ≡ row.range
+range_stays row None = refl
+range_stays row (Some phase) = refl
+
+notice_stays : (coordinator : Coordinator) (dead : ℕ) → Stays (after_notice coordinator dead)
+notice_stays coordinator dead = record {
+  tablet = λ row. row_stays row (phase_noticed (marked coordinator dead) dead row.phase);
+  range = λ row. range_stays row (phase_noticed (marked coordinator dead) dead row.phase);
+}
+
+-- a term rises by one at most
+term_rises : (row : Row) (changed : Option Phase) (most : ℕ) → row.term ≤ most → (row_noticed row changed).term ≤ most + 1
+term_rises row None most below = omega arith
+term_rises row (Some phase) most below = omega arith
+
+-- a master is noticed dead
+notice_one_is_formed : (limits : Limits) (coordinator : Coordinator) (living dead : ℕ) → IsLeft limits coordinator living → IsGone limits living dead → IsFormedCoordinator limits coordinator → IsFormedNotice limits living 1 coordinator (notice_one coordinator dead)
+notice_one_is_formed limits coordinator living dead left gone formed = record {
+  formed = record {
+    map = map_changed (after_notice coordinator dead) coordinator.rows (notice_stays coordinator dead) formed.map;
+    rows =
+        All-map (IsFormedRow limits) (after_notice coordinator dead) coordinator.rows
+        (All-weaker (IsFormedRow limits) (λ row. IsFormedRow limits (after_notice coordinator dead row))
+        (λ row old.
+        row_is_formed limits row (phase_noticed (marked coordinator dead) dead row.phase)
+        (phase_is_formed limits (marked coordinator dead) dead row.phase gone.there lowest (phase_of_formed limits row old)) old)
+        coordinator.rows formed.rows);
+    noticed = All-push (IsMaster limits.masters) coordinator.noticed dead formed.noticed gone.there;
+    handed_order = formed.handed_order;
+    handed = formed.handed;
+  };
+  masters = refl;
+  left = record { masters = left.masters; there = left.there; unnoticed = unnoticed };
+  covers = λ table hash covered.
+      covered_each (after_notice coordinator dead) coordinator.rows table hash (notice_stays coordinator dead) ∙ covered;
+  terms = λ most all.
+      All-map (λ row. row.term ≤ most + 1) (after_notice coordinator dead) coordinator.rows
+      (All-weaker (λ row. row.term ≤ most) (λ row. (after_notice coordinator dead row).term ≤ most + 1)
+      (λ row below. term_rises row (phase_noticed (marked coordinator dead) dead row.phase) most below) coordinator.rows all);
+}
+  where
+    unnoticed : is_noticed (marked coordinator dead) living ≡ false
+    unnoticed = none_pushed (λ noticed. noticed == living) coordinator.noticed dead left.unnoticed gone.apart
+
+    lowest : IsMaster limits.masters (lowest_left (marked coordinator dead))
+    lowest =
+        lowest_is_there limits (marked coordinator dead) living
+        (record { masters = left.masters; there = left.there; unnoticed = unnoticed })
+
+-- ---- all notices
+
+-- masters are noticed dead, one after the other
+notices_are_formed : (limits : Limits) (order : List ℕ) (coordinator : Coordinator) (living : ℕ) → IsLeft limits coordinator living → All (IsGone limits living) order → IsFormedCoordinator limits coordinator → IsFormedNotice limits living (length order) coordinator (fold notice_one coordinator order)
+notices_are_formed limits [] coordinator living left all formed = record {
+  formed = formed;
+  masters = refl;
+  left = left;
+  covers = λ table hash covered. covered;
+  terms = λ most all. terms_below most (most + 0) coordinator.rows (omega arith) all;
+}
+notices_are_formed limits (dead ∷ rest) coordinator living left all formed =
+    let first =
+        notice_one_is_formed limits coordinator living dead left (All-head (IsGone limits living) dead rest all) formed in
+    let later =
+        notices_are_formed limits rest (notice_one coordinator dead) living first.left (All-tail (IsGone limits living) dead rest all) first.formed in
+    record {
+      formed = later.formed;
+      masters = later.masters;
+      left = later.left;
+      covers = λ table hash covered. later.covers table hash (first.covers table hash covered);
+      terms = λ most below.
+          terms_below (most + 1 + length rest) (most + length (dead ∷ rest)) (fold notice_one (notice_one coordinator dead) rest).rows
+          (omega arith) (later.terms (most + 1) (first.terms most below));
+    }
+
+-- the order of the notices has what all have that are noticed
+order_has : (P : ℕ → Type 0) (rows : List Row) (dead : ℕ) (list : List ℕ) → All P list → All P (notice_order rows dead list)
+order_has P rows dead list all =
+    All-append P (filter (λ master. not (is_named rows master)) list)
+    (filter (λ master. is_named rows master && not (master == dead)) list ++ filter (λ master. is_named rows master && (master == dead)) list)
+    (All-filter (λ master. not (is_named rows master)) P list all)
+    (All-append P (filter (λ master. is_named rows master && not (master == dead)) list)
+    (filter (λ master. is_named rows master && (master == dead)) list)
+    (All-filter (λ master. is_named rows master && not (master == dead)) P list all)
+    (All-filter (λ master. is_named rows master && (master == dead)) P list all))
+
+-- a list has no fewer elements than pass a test
+pub filter_shorter : {X : Type 0} (test : X → Bool) (list : List X) → length (filter test list) ≤ length list
+filter_shorter test [] = omega arith
+filter_shorter test (first ∷ rest) =
+    elim (test first) as (λ b. length (cond b (first ∷ filter test rest) (filter test rest)) ≤ suc (length rest)) [
+      | true ↦ omega (arith, filter_shorter test rest)
+      | false ↦ omega (arith, filter_shorter test rest)
+    ]
+
+-- the parts of a list by two tests have no more elements than it
+parts_shorter : (a b : ℕ → Bool) (list : List ℕ) → length (filter (λ n. not (a n)) list) + (length (filter (λ n. a n && not (b n)) list) + length (filter (λ n. a n && b n) list)) ≤ length list
+parts_shorter a b [] = omega arith
+parts_shorter a b (first ∷ rest) =
+    go (a first) (b first) (filter (λ n. not (a n)) rest) (filter (λ n. a n && not (b n)) rest) (filter (λ n. a n && b n) rest) (parts_shorter a b rest)
+  where
+    go : (p q : Bool) (xs ys zs : List ℕ) → length xs + (length ys + length zs) ≤ length rest → length (cond (not p) (first ∷ xs) xs) + (length (cond (p && not q) (first ∷ ys) ys) + length (cond (p && q) (first ∷ zs) zs)) ≤ suc (length rest)
+    go true true xs ys zs shorter = omega arith
+    go true false xs ys zs shorter = omega arith
+    go false q xs ys zs shorter = omega arith
+
+order_shorter : (rows : List Row) (dead : ℕ) (list : List ℕ) → length (notice_order rows dead list) ≤ length list
+order_shorter rows dead list =
+    omega (arith,
+    length-append (filter (λ master. not (is_named rows master)) list)
+    (filter (λ master. is_named rows master && not (master == dead)) list ++ filter (λ master. is_named rows master && (master == dead)) list),
+    length-append (filter (λ master. is_named rows master && not (master == dead)) list)
+    (filter (λ master. is_named rows master && (master == dead)) list),
+    parts_shorter (is_named rows) (λ master. master == dead) list)
