@@ -3,9 +3,11 @@
 use Rattle.std.proofs.Common.{◌≡◌, ◌≤◌, ◌<◌, ◌+◌, ℕ, zero, suc, w64, Bool, true, false, not, cond, ◌==◌, ◌&&◌, ◌||◌, List, [], ◌∷◌, ◌++◌, All, IfSome, length, filter, find, fold, map, Option, None, Some, refl, sym, ap, subst, ◌∙◌, arith}
 use Rattle.std.specs.List.{AllByRecursion, list_any, range_with_len}
 use Rattle.std.specs.Prelude.{unwrap_or}
-use Rattle.std.proofs.lemmas.Bool.{or_parts}
+use Rattle.std.proofs.lemmas.Bool.{eqb-true, or_parts}
 use Rattle.std.proofs.lemmas.List.{length-append}
-use Rattle.std.proofs.lemmas.List.Elements.{All-append, All-cons, All-filter, All-head, All-map, All-nil, All-push, All-tail, All-weaker}
+use Rattle.std.proofs.lemmas.List.Elements.{All-append, All-cons, All-filter, All-head, All-map, All-nil, All-push, All-tail, All-weaker, filter_passes}
+use Rattle.std.proofs.lemmas.List.FromFn.{length-range_with_len}
+use Rattle.rk_types.specs.NumberMap.{numbers}
 use Rattle.rk_types.specs.Range.{has, meets}
 use Rattle.rk_types.specs.declared.lineage.Member.{Member}
 use Rattle.rk_entry.specs.Numbers.{IsNumber}
@@ -15,10 +17,11 @@ use Rattle.rk_tablet_map.specs.declared.phase.Phase.{Phase}
 use Rattle.rk_tablet_map.specs.declared.phase.Phase.TheVariants.{Moving, Opening, Owned, Rebuilding}
 use Rattle.rk_tablet_map.specs.declared.row.Row.{Row}
 use Rattle.rk_world.specs.Coordinator.{Coordinator, is_noticed, lowest_left}
-use Rattle.rk_world.specs.Formed.{IsFormedCoordinator, IsFormedRow}
+use Rattle.rk_world.specs.Formed.{IsFormedCoordinator, IsFormedRow, IsWellFormed, SomeLives}
 use Rattle.rk_world.specs.Limits.{IsFormedMember, Limits}
 use Rattle.rk_world.specs.Notices.{coordinator_notice, is_named, next_rebuilder, notice_one, notice_order, phase_noticed, row_noticed}
 use Rattle.rk_world.specs.Premises.{IsMaster}
+use Rattle.rk_world.specs.World.{World, crashed_masters, has_crashed}
 use Rattle.rk_laws_formed.proofs.Coordinators.{before_last, first_named, one_named, second_named, two_named}
 use Rattle.rk_laws_formed.proofs.Rows.{AreTermsUpTo, Cover, IsFormedPhase, found_has, phase_of_formed, terms_below}
 
@@ -310,3 +313,132 @@ order_shorter rows dead list =
     length-append (filter (λ master. is_named rows master && not (master == dead)) list)
     (filter (λ master. is_named rows master && (master == dead)) list),
     parts_shorter (is_named rows) (λ master. master == dead) list)
+
+-- a crash is noticed, where one of the masters is neither among the crashed nor noticed; so many terms at most rise as masters have
+-- crashed
+pub formed_coordinator_notice : (limits : Limits) (coordinator : Coordinator) (dead living : ℕ) (crashed : List ℕ) → IsLeft limits coordinator living → All (IsMaster limits.masters) crashed → All (λ master. (master == living) ≡ false) crashed → IsFormedCoordinator limits coordinator → IsFormedNotice limits living (length crashed) coordinator (coordinator_notice coordinator dead crashed)
+formed_coordinator_notice limits coordinator dead living crashed left there apart formed =
+    let rest = filter (λ master. not (is_noticed coordinator master)) crashed in
+    let order = notice_order coordinator.rows dead rest in
+    let done =
+        notices_are_formed limits order coordinator living left
+        (order_has (IsGone limits living) coordinator.rows dead rest
+        (All-filter (λ master. not (is_noticed coordinator master)) (IsGone limits living) crashed
+        (λ k d within. record { there = there k d within; apart = apart k d within })))
+        formed in
+    record {
+      formed = done.formed;
+      masters = done.masters;
+      left = done.left;
+      covers = done.covers;
+      terms = λ most below.
+          terms_below (most + length order) (most + length crashed) (fold notice_one coordinator order).rows
+          (omega (arith, order_shorter coordinator.rows dead rest, filter_shorter (λ master. not (is_noticed coordinator master)) crashed))
+          (done.terms most below);
+    }
+
+-- all who are noticed after some were noticed, one after the other
+noticed_in_order : (P : ℕ → Type 0) (order : List ℕ) (coordinator : Coordinator) → All P coordinator.noticed → All P order → All P (fold notice_one coordinator order).noticed
+noticed_in_order P [] coordinator before all = before
+noticed_in_order P (dead ∷ rest) coordinator before all =
+    noticed_in_order P rest (notice_one coordinator dead)
+    (All-push P coordinator.noticed dead before (All-head P dead rest all)) (All-tail P dead rest all)
+
+-- all who are noticed then were noticed before or have crashed: what both have, they have
+pub noticed_after_notice : (P : ℕ → Type 0) (coordinator : Coordinator) (dead : ℕ) (crashed : List ℕ) → All P coordinator.noticed → All P crashed → All P (coordinator_notice coordinator dead crashed).noticed
+noticed_after_notice P coordinator dead crashed before all =
+    noticed_in_order P (notice_order coordinator.rows dead rest) coordinator before
+    (order_has P coordinator.rows dead rest (All-filter (λ master. not (is_noticed coordinator master)) P crashed all))
+  where
+    rest : List ℕ
+    rest = filter (λ master. not (is_noticed coordinator master)) crashed
+
+-- ---- in a lane
+
+-- who fails a test is none of those that pass it
+pub apart_from_all : (test : ℕ → Bool) (list : List ℕ) (living : ℕ) → All (λ master. test master ≡ true) list → test living ≡ false → All (λ master. (master == living) ≡ false) list
+apart_from_all test list living all fails =
+    All-weaker (λ master. test master ≡ true) (λ master. (master == living) ≡ false)
+    (λ master passes. apart master passes (master == living) refl) list all
+  where
+    apart : (master : ℕ) → test master ≡ true → (b : Bool) → (master == living) ≡ b → b ≡ false
+    apart master passes false is = refl
+    apart master passes true is =
+        let both : true ≡ false = sym passes ∙ ap test (eqb-true master living is) ∙ fails in
+        absurd (cc both)
+
+-- none is noticed that no noticed one is
+pub unnoticed_apart : (list : List ℕ) (living : ℕ) → All (λ master. (master == living) ≡ false) list → list_any (λ master. master == living) list ≡ false
+unnoticed_apart [] living all = refl
+unnoticed_apart (first ∷ rest) living all =
+    rw (All-head (λ master. (master == living) ≡ false) first rest all)
+    (unnoticed_apart rest living (All-tail (λ master. (master == living) ≡ false) first rest all))
+
+-- the numbers of a range lie in it
+range_between : (start count : ℕ) → All (IsBetween start count) (range_with_len start count)
+range_between start zero = All-nil _
+range_between start (suc count) =
+    All-cons (IsBetween start (suc count)) start (range_with_len (start + 1) count)
+    (record { first = omega arith; before = omega arith })
+    (All-weaker (IsBetween (start + 1) count) (IsBetween start (suc count))
+    (λ number within. record { first = omega (arith, within.first); before = omega (arith, within.before) })
+    (range_with_len (start + 1) count) (range_between (start + 1) count))
+
+-- the masters of a lane that have crashed are there
+pub crashed_are_there : (w : World) → numbers w.masters ≡ range_with_len 1 w.coordinator.masters → All (IsMaster w.coordinator.masters) (crashed_masters w)
+crashed_are_there w are =
+    All-filter (has_crashed w) (IsMaster w.coordinator.masters) (numbers w.masters)
+    (subst (All (IsMaster w.coordinator.masters)) (sym are)
+    (All-weaker (IsBetween 1 w.coordinator.masters) (IsMaster w.coordinator.masters)
+    (λ number within. record { first = within.first; last = omega (arith, within.before) })
+    (range_with_len 1 w.coordinator.masters) (range_between 1 w.coordinator.masters)))
+
+-- they are no more than all
+pub crashed_are_few : (w : World) → numbers w.masters ≡ range_with_len 1 w.coordinator.masters → length (crashed_masters w) ≤ w.coordinator.masters
+crashed_are_few w are =
+    omega (arith, filter_shorter (has_crashed w) (numbers w.masters), ap length are, length-range_with_len 1 w.coordinator.masters)
+
+-- and each has crashed
+pub crashed_have_crashed : (w : World) → All (λ master. has_crashed w master ≡ true) (crashed_masters w)
+crashed_have_crashed w = filter_passes (has_crashed w) (numbers w.masters)
+
+-- what the coordinator of a lane is after the notice of a master that has crashed
+pub record IsNoticed (limits : Limits) (w : World) (after : Coordinator) : Type 0 where
+  pub formed : IsFormedCoordinator limits after
+  pub masters : after.masters ≡ w.coordinator.masters
+  pub noticed : All (λ master. has_crashed w master ≡ true) after.noticed
+  pub covers : Cover after.rows w.coordinator.rows
+  pub terms : (most : ℕ) → AreTermsUpTo most w.coordinator.rows → AreTermsUpTo (most + w.coordinator.masters) after.rows
+
+-- so the coordinator of a well formed lane stays well formed
+pub formed_noticed : (limits : Limits) (w : World) (dead : ℕ) → has_crashed w dead ≡ true → w.coordinator.masters ≡ limits.masters → IsFormedCoordinator limits w.coordinator → IsWellFormed w → IsNoticed limits w (coordinator_notice w.coordinator dead (crashed_masters w))
+formed_noticed limits w dead crashed are coordinator formed = record {
+  formed = done.formed;
+  masters = done.masters;
+  noticed =
+      noticed_after_notice (λ master. has_crashed w master ≡ true) w.coordinator dead (crashed_masters w) formed.noticed (crashed_have_crashed w);
+  covers = done.covers;
+  terms = λ most below.
+      terms_below (most + length (crashed_masters w)) (most + w.coordinator.masters)
+      (coordinator_notice w.coordinator dead (crashed_masters w)).rows
+      (omega (arith, crashed_are_few w formed.masters_are)) (done.terms most below);
+}
+  where
+    some : SomeLives w
+    some = formed.left dead crashed
+
+    living : ℕ
+    living = some.master
+
+    left : IsLeft limits w.coordinator living
+    left = record {
+      masters = are;
+      there = subst (λ (count : ℕ). IsMaster count living) are some.there;
+      unnoticed = unnoticed_apart w.coordinator.noticed living (apart_from_all (has_crashed w) w.coordinator.noticed living formed.noticed some.lives);
+    }
+
+    done : IsFormedNotice limits living (length (crashed_masters w)) w.coordinator (coordinator_notice w.coordinator dead (crashed_masters w))
+    done =
+        formed_coordinator_notice limits w.coordinator dead living (crashed_masters w) left
+        (subst (λ (count : ℕ). All (IsMaster count) (crashed_masters w)) are (crashed_are_there w formed.masters_are))
+        (apart_from_all (has_crashed w) (crashed_masters w) living (crashed_have_crashed w) some.lives) coordinator
