@@ -1,6 +1,6 @@
 -- What the coordinator makes of a message, of its turn and of a tablet that begins to move: where the coordinator is well formed, it
 -- stays so, all that it sends is well formed, and what its rows covered is covered.
-use Rattle.std.proofs.Common.{◌≡◌, ◌≤◌, ◌+◌, ℕ, w8, w32, w64, Bool, true, false, cond, ◌==◌, List, [], ◌∷◌, ◌++◌, All, IfSome, length, find, Option, None, Some, refl, arith}
+use Rattle.std.proofs.Common.{◌≡◌, ◌≤◌, ◌+◌, ℕ, w8, w32, w64, Bool, true, false, cond, ◌==◌, List, [], ◌∷◌, ◌++◌, All, IfSome, find, Option, None, Some, refl, arith}
 use Rattle.std.specs.List.{AllByRecursion, flat_map}
 use Rattle.std.specs.Prelude.{unwrap_or}
 use Rattle.std.proofs.lemmas.List.Elements.{All-append, All-cons, All-head, All-nil, All-tail, recursion_from_All, All-weaker}
@@ -12,7 +12,7 @@ use Rattle.rk_types.specs.declared.lineage.Member.{Member}
 use Rattle.rk_types.specs.declared.node.Node.{Node}
 use Rattle.rk_types.specs.declared.node.Node.TheVariants as nodes
 use Rattle.rk_types.specs.declared.range.Range.{Range}
-use Rattle.rk_entry.specs.Ends.{IsLawfulEnd, IsLawfulRange, RiseAbove}
+use Rattle.rk_entry.specs.Ends.{IsLawfulEnd, IsLawfulRange}
 use Rattle.rk_entry.specs.Numbers.{IsNumber}
 use Rattle.rk_tablet_map.specs.Phase.{member}
 use Rattle.rk_tablet_map.specs.Rows.{add_fault, row_of, row_with}
@@ -23,7 +23,6 @@ use Rattle.rk_message.specs.Calls.{IsLawfulOwner}
 use Rattle.rk_message.specs.Fields.{IsAnyRange, IsLawfulTenure}
 use Rattle.rk_message.specs.Frames.{IsLawfulBody}
 use Rattle.rk_message.specs.Rebuilding.{IsLawfulMember}
-use Rattle.rk_message.specs.declared.calls.Lookup.{Lookup}
 use Rattle.rk_message.specs.declared.handover.Ready.{Ready}
 use Rattle.rk_message.specs.declared.handover.Tenure.{Tenure}
 use Rattle.rk_message.specs.declared.handover.Transfer.{Transfer}
@@ -32,9 +31,9 @@ use Rattle.rk_message.specs.declared.message.Body.TheVariants as bodies
 use Rattle.rk_message.specs.declared.message.Message.{Message}
 use Rattle.rk_message.specs.declared.rebuilding.Rebuilt.{Rebuilt}
 use Rattle.rk_world.specs.Coordinator.{Coordinator, Handed, from_coordinator, is_noticed, new_row, owner_of, row_tenure, with_handed, with_phase, with_row, with_term}
-use Rattle.rk_world.specs.CoordinatorStep.{Coordinated, about, answered, at_term, coordinator_step, coordinator_turn, joined_in, located, lookup_taken, own_to, question, ready_in, rebuilt_in, release_to, report, row_duty, row_for, row_moved, row_owned, told_again, told_coordinator, transfer_in, unanswered}
+use Rattle.rk_world.specs.CoordinatorStep.{Coordinated, about, answered, at_term, coordinator_step, coordinator_turn, joined_in, located, own_to, question, ready_in, rebuilt_in, release_to, report, row_duty, row_for, told_again, told_coordinator, transfer_in, unanswered}
 use Rattle.rk_world.specs.Formed.{IsFormedCoordinator, IsFormedHanded, IsFormedRow}
-use Rattle.rk_world.specs.Limits.{IsFormedBody, IsFormedEnd, IsFormedEnds, IsFormedMember, IsFormedMessage, IsFormedNumber, IsFormedTenure, IsFormedTransfer, IsThere, Limits}
+use Rattle.rk_world.specs.Limits.{IsFormedBody, IsFormedEnd, IsFormedEnds, IsFormedMember, IsFormedMessage, IsFormedTenure, IsFormedTransfer, IsThere, Limits}
 use Rattle.rk_world.specs.Migrations.{migrating, row_migrated, tablet_migrated}
 use Rattle.rk_world.specs.Premises.{IsMaster}
 use Rattle.rk_laws_formed.proofs.Rows.{AreFormedRows, AreTermsUpTo, Cover, IsFormedPhase, all_found, all_placed, found_has, covered_changed, covered_placed, formed_changed_rows, formed_new_row, formed_placed, phase_of_formed, terms_below, terms_changed}

@@ -1,6 +1,6 @@
 -- The notice of a crash: the coordinator stays well formed, where one of the masters is neither crashed nor noticed. Each row that has
 -- lost a master gets one that is there, so all that it covered is covered.
-use Rattle.std.proofs.Common.{◌≡◌, ◌≤◌, ◌<◌, ◌+◌, ℕ, zero, suc, w64, Bool, true, false, not, cond, ◌==◌, ◌&&◌, ◌||◌, List, [], ◌∷◌, ◌++◌, All, IfSome, length, filter, find, fold, map, Option, None, Some, refl, sym, ap, subst, ◌∙◌, arith}
+use Rattle.std.proofs.Common.{◌≡◌, ◌≤◌, ◌<◌, ◌+◌, ℕ, zero, suc, Bool, true, false, not, cond, ◌==◌, ◌&&◌, ◌||◌, List, [], ◌∷◌, ◌++◌, All, IfSome, length, filter, find, fold, map, Option, None, Some, refl, sym, ap, subst, ◌∙◌, arith}
 use Rattle.std.specs.List.{AllByRecursion, list_any, range_with_len}
 use Rattle.std.specs.Prelude.{unwrap_or}
 use Rattle.std.proofs.lemmas.Bool.{eqb-true, or_parts}
@@ -8,10 +8,9 @@ use Rattle.std.proofs.lemmas.List.{length-append}
 use Rattle.std.proofs.lemmas.List.Elements.{All-append, All-cons, All-filter, All-head, All-map, All-nil, All-push, All-tail, All-weaker, filter_passes}
 use Rattle.std.proofs.lemmas.List.FromFn.{length-range_with_len}
 use Rattle.rk_types.specs.NumberMap.{numbers}
-use Rattle.rk_types.specs.Range.{has, meets}
+use Rattle.rk_types.specs.Range.{has}
 use Rattle.rk_types.specs.declared.lineage.Member.{Member}
-use Rattle.rk_entry.specs.Numbers.{IsNumber}
-use Rattle.rk_tablet_map.specs.Phase.{lineage_of, member}
+use Rattle.rk_tablet_map.specs.Phase.{member}
 use Rattle.rk_tablet_map.specs.Rows.{IsTabletMap, Precedes, is_covered}
 use Rattle.rk_tablet_map.specs.declared.phase.Phase.{Phase}
 use Rattle.rk_tablet_map.specs.declared.phase.Phase.TheVariants.{Moving, Opening, Owned, Rebuilding}
@@ -41,8 +40,8 @@ first_between test start (suc count) number within passes =
       | false ↦ λ fails.
           let apart : number ≡ start → ⊥ = λ same. let both : true ≡ false = sym passes ∙ ap test same ∙ fails in absurd (cc both) in
           let later =
-              first_between test (start + 1) count number
-              (record { first = omega (arith, apart, within.first); before = omega (arith, within.before) }) passes in
+          first_between test (start + 1) count number
+          (record { first = omega (arith, apart, within.first); before = omega (arith, within.before) }) passes in
           record { first = omega (arith, later.first); before = omega (arith, later.before) }
     ] refl
 
@@ -56,9 +55,9 @@ pub record IsLeft (limits : Limits) (coordinator : Coordinator) (living : ℕ) :
 lowest_is_there : (limits : Limits) (coordinator : Coordinator) (living : ℕ) → IsLeft limits coordinator living → IsMaster limits.masters (lowest_left coordinator)
 lowest_is_there limits coordinator living left =
     let lowest =
-        first_between (λ master. not (is_noticed coordinator master)) 1 coordinator.masters living
-        (record { first = left.there.first; before = omega (arith, left.there.last, left.masters) })
-        (ap not left.unnoticed) in
+    first_between (λ master. not (is_noticed coordinator master)) 1 coordinator.masters living
+    (record { first = left.there.first; before = omega (arith, left.there.last, left.masters) })
+    (ap not left.unnoticed) in
     record { first = lowest.first; last = omega (arith, lowest.before, left.masters) }
 
 -- what all have, and another one, what is found among them or else that other one has
@@ -145,12 +144,13 @@ record Stays (change : Row → Row) : Type 0 where
 -- what precedes others precedes them then
 precedes_changed : (change : Row → Row) (row : Row) (rows : List Row) → Stays change → AllByRecursion (Precedes row) rows → AllByRecursion (Precedes (change row)) (map change rows)
 precedes_changed change row [] stays all = tt
-precedes_changed change row (first ∷ rest) stays all =
-    (record {
-      smaller = omega (arith, stays.tablet row, stays.tablet first, all.0.smaller);
-      apart = rw (stays.range row, stays.range first) all.0.apart;
-    },
-    precedes_changed change row rest stays all.1)
+precedes_changed change row (first ∷ rest) stays all = (
+  record {
+    smaller = omega (arith, stays.tablet row, stays.tablet first, all.0.smaller);
+    apart = rw (stays.range row, stays.range first) all.0.apart;
+  },
+  precedes_changed change row rest stays all.1,
+)
 
 -- a map stays one
 map_changed : (change : Row → Row) (rows : List Row) → Stays change → IsTabletMap rows → IsTabletMap (map change rows)
@@ -261,9 +261,9 @@ notices_are_formed limits [] coordinator living left all formed = record {
 }
 notices_are_formed limits (dead ∷ rest) coordinator living left all formed =
     let first =
-        notice_one_is_formed limits coordinator living dead left (All-head (IsGone limits living) dead rest all) formed in
+    notice_one_is_formed limits coordinator living dead left (All-head (IsGone limits living) dead rest all) formed in
     let later =
-        notices_are_formed limits rest (notice_one coordinator dead) living first.left (All-tail (IsGone limits living) dead rest all) first.formed in
+    notices_are_formed limits rest (notice_one coordinator dead) living first.left (All-tail (IsGone limits living) dead rest all) first.formed in
     record {
       formed = later.formed;
       masters = later.masters;
@@ -307,12 +307,14 @@ parts_shorter a b (first ∷ rest) =
 
 order_shorter : (rows : List Row) (dead : ℕ) (list : List ℕ) → length (notice_order rows dead list) ≤ length list
 order_shorter rows dead list =
-    omega (arith,
-    length-append (filter (λ master. not (is_named rows master)) list)
-    (filter (λ master. is_named rows master && not (master == dead)) list ++ filter (λ master. is_named rows master && (master == dead)) list),
-    length-append (filter (λ master. is_named rows master && not (master == dead)) list)
-    (filter (λ master. is_named rows master && (master == dead)) list),
-    parts_shorter (is_named rows) (λ master. master == dead) list)
+    omega (
+      arith,
+      length-append (filter (λ master. not (is_named rows master)) list)
+          (filter (λ master. is_named rows master && not (master == dead)) list ++ filter (λ master. is_named rows master && (master == dead)) list),
+      length-append (filter (λ master. is_named rows master && not (master == dead)) list)
+          (filter (λ master. is_named rows master && (master == dead)) list),
+      parts_shorter (is_named rows) (λ master. master == dead) list,
+    )
 
 -- a crash is noticed, where one of the masters is neither among the crashed nor noticed; so many terms at most rise as masters have
 -- crashed
@@ -321,11 +323,11 @@ formed_coordinator_notice limits coordinator dead living crashed left there apar
     let rest = filter (λ master. not (is_noticed coordinator master)) crashed in
     let order = notice_order coordinator.rows dead rest in
     let done =
-        notices_are_formed limits order coordinator living left
-        (order_has (IsGone limits living) coordinator.rows dead rest
-        (All-filter (λ master. not (is_noticed coordinator master)) (IsGone limits living) crashed
-        (λ k d within. record { there = there k d within; apart = apart k d within })))
-        formed in
+    notices_are_formed limits order coordinator living left
+    (order_has (IsGone limits living) coordinator.rows dead rest
+    (All-filter (λ master. not (is_noticed coordinator master)) (IsGone limits living) crashed
+    (λ k d within. record { there = there k d within; apart = apart k d within })))
+    formed in
     record {
       formed = done.formed;
       masters = done.masters;

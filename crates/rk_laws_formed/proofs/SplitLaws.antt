@@ -1,5 +1,5 @@
 -- A tablet is split or added: the coordinator's rows stay well formed, as does the master that serves it.
-use Rattle.std.proofs.Common.{◌≡◌, ◌≤◌, ◌<◌, ◌+◌, ℕ, w32, w64, Bool, true, false, cond, List, [], ◌∷◌, All, Option, None, Some, nat_le, nat_lt, refl, sym, ap, subst, ◌∙◌, arith}
+use Rattle.std.proofs.Common.{◌≡◌, ◌≤◌, ◌<◌, ◌+◌, ℕ, w32, Bool, true, false, cond, List, [], Option, None, Some, nat_le, nat_lt, refl, sym, subst, arith}
 use Rattle.std.specs.Prelude.{unwrap_or}
 use Rattle.std.specs.List.{IsDistinct}
 use Rattle.std.specs.Option.{option_map}
@@ -11,9 +11,7 @@ use Rattle.rk_types.specs.NumberMap.{get}
 use Rattle.rk_types.specs.declared.range.Range.{Range}
 use Rattle.rk_entry.specs.Ends.{IsLawfulRange}
 use Rattle.rk_entry.specs.Numbers.{IsNumber}
-use Rattle.rk_tablet_map.proofs.Lawful.{number_of}
 use Rattle.rk_tablet_map.specs.Rows.{changed_rows, row_of, split_fault, split_rows}
-use Rattle.rk_tablet_map.specs.declared.error.MapError.{MapError}
 use Rattle.rk_tablet_map.specs.declared.phase.Phase.{Phase}
 use Rattle.rk_tablet_map.specs.declared.phase.Phase.TheVariants.{Moving, Opening, Owned, Rebuilding}
 use Rattle.rk_tablet_map.specs.declared.row.Row.{Row}
@@ -28,7 +26,7 @@ use Rattle.rk_world.specs.Splits.{has_parts, rows_split, rows_split_of, tablet_s
 use Rattle.rk_world.specs.Step.{with_added}
 use Rattle.rk_world.specs.Tablet.{Tablet, no_tablet}
 use Rattle.rk_laws_formed.proofs.Coordinators.{IsFormedChange, formed_with_rows, rows_of_formed}
-use Rattle.rk_laws_formed.proofs.Rows.{AreFormedRows, AreTermsUpTo, Cover, IsFormedPhase, all_found, covered_changed, covered_split_rows, formed_changed_rows, formed_split_rows, lawful_below, lawful_from, phase_of_formed, terms_below, terms_changed, terms_split_rows}
+use Rattle.rk_laws_formed.proofs.Rows.{IsFormedPhase, all_found, covered_changed, covered_split_rows, formed_changed_rows, formed_split_rows, lawful_below, lawful_from, phase_of_formed, terms_below, terms_changed, terms_split_rows}
 
 -- ---- the rows
 
