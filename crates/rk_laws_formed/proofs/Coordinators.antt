@@ -74,14 +74,14 @@ formed_with_rows limits coordinator rows new formed = record {
   handed = formed.handed;
 }
 
--- one with a row at another phase
+-- a coordinator with a row at another phase
 formed_with_phase : (limits : Limits) (coordinator : Coordinator) (row : Row) (phase : Phase) → 1 ≤ row.term → IsFormedPhase limits phase → IsFormedCoordinator limits coordinator → IsFormedCoordinator limits (with_phase coordinator row phase)
 formed_with_phase limits coordinator row phase first there formed =
     formed_with_rows limits coordinator (with_phase coordinator row phase).rows
     (formed_changed_rows limits coordinator.rows row.tablet row.term phase first there (rows_of_formed limits coordinator formed))
     formed
 
--- one that has noted what a source told
+-- a coordinator that has noted what a source told
 formed_with_handed : (limits : Limits) (coordinator : Coordinator) (tablet : ℕ) (handed : Handed) → IsFormedHanded limits handed → IsFormedCoordinator limits coordinator → IsFormedCoordinator limits (with_handed coordinator tablet handed)
 formed_with_handed limits coordinator tablet handed told formed = record {
   map = formed.map;
@@ -91,18 +91,47 @@ formed_with_handed limits coordinator tablet handed told formed = record {
   handed = each_insert (λ number other. IsFormedHanded limits other) coordinator.handed tablet handed formed.handed told;
 }
 
+-- ---- members that are there
+
+module _ (limits : Limits) where
+  -- one member
+  pub one_named : (a : Member) → IsFormedMember limits a → All (IsFormedMember limits) (a ∷ [])
+  one_named a first = All-cons (IsFormedMember limits) a [] first (All-nil _)
+
+  -- two members
+  pub two_named : (a b : Member) → IsFormedMember limits a → IsFormedMember limits b → All (IsFormedMember limits) (a ∷ b ∷ [])
+  two_named a b first second = All-cons (IsFormedMember limits) a (b ∷ []) first (one_named b second)
+
+  -- the first of all
+  pub first_named : (a : Member) (rest : List Member) → All (IsFormedMember limits) (a ∷ rest) → IsFormedMember limits a
+  first_named a rest all = All-head (IsFormedMember limits) a rest all
+
+  -- the second
+  pub second_named : (a b : Member) (rest : List Member) → All (IsFormedMember limits) (a ∷ b ∷ rest) → IsFormedMember limits b
+  second_named a b rest all = All-head (IsFormedMember limits) b rest (All-tail (IsFormedMember limits) a (b ∷ rest) all)
+
+  -- the last
+  pub last_named : (lineage : List Member) (a : Member) → All (IsFormedMember limits) (lineage ++ a ∷ []) → IsFormedMember limits a
+  last_named [] a all = first_named a [] all
+  last_named (first ∷ rest) a all = last_named rest a (All-tail (IsFormedMember limits) first (rest ++ a ∷ []) all)
+
+  -- all but the last
+  pub before_last : (lineage : List Member) (a : Member) → All (IsFormedMember limits) (lineage ++ a ∷ []) → All (IsFormedMember limits) lineage
+  before_last [] a all = All-nil _
+  before_last (first ∷ rest) a all =
+      All-cons (IsFormedMember limits) first rest (All-head (IsFormedMember limits) first (rest ++ a ∷ []) all)
+      (before_last rest a (All-tail (IsFormedMember limits) first (rest ++ a ∷ []) all))
+
+  -- the owner that a phase tells is there
+  owner_is_there : (phase : Phase) → IsFormedPhase limits phase → IfSome (owner_of phase) (IsMaster limits.masters)
+  owner_is_there (Owned master from) there = (first_named (member master from) [] there.named).master
+  owner_is_there (Opening source sfrom target dfrom) there =
+      (first_named (member source sfrom) (member target (unwrap_or dfrom 0) ∷ []) there.named).master
+  owner_is_there (Moving source sfrom target dfrom) there =
+      (second_named (member source sfrom) (member target dfrom) [] there.named).master
+  owner_is_there (Rebuilding lineage to) there = tt
+
 -- ---- numbers and ranges that can be spelled
-
--- a number that has stood
-fits_below_top : (limits : Limits) (number : ℕ) → AreLimits limits → number ≤ limits.top → IsNumber w64 0 number
-fits_below_top limits number are below = record { least_is = omega arith; fits = omega (arith, are.top) }
-
--- a master that is there
-fits_master : (limits : Limits) (least master : ℕ) → least ≤ 1 → AreLimits limits → IsMaster limits.masters master → IsNumber w8 least master
-fits_master limits least master few are there = record {
-  least_is = omega (arith, there.first);
-  fits = omega (arith, there.last, are.masters);
-}
 
 -- a range that is not empty
 any_range : (range : Range) → IsLawfulRange range → IsAnyRange range
@@ -112,10 +141,6 @@ any_range range lawful = record {
   last = record { least_is = omega arith; fits = lawful.last.fits };
 }
 
--- a member of a lineage
-lawful_member : (limits : Limits) (member : Member) → AreLimits limits → IsFormedMember limits member → IsLawfulMember member
-lawful_member limits member are formed = (fits_master limits 0 member.master (omega arith) are formed.master, formed.from)
-
 -- a row that is well formed, whose term is one that has stood
 pub record HasTenure (limits : Limits) (row : Row) : Type 0 where
   pub formed : IsFormedRow limits row
@@ -123,14 +148,10 @@ pub record HasTenure (limits : Limits) (row : Row) : Type 0 where
 
 -- its tenure
 formed_tenure : (limits : Limits) (row : Row) → HasTenure limits row → IsFormedTenure limits (row_tenure row)
-formed_tenure limits row has = record {
-  tablet = has.formed.number_is;
-  term = record { first = has.formed.term; last = has.term };
+formed_tenure limits row stood = record {
+  tablet = stood.formed.number_is;
+  term = record { first = stood.formed.term; last = stood.term };
 }
-
-lawful_tenure : (limits : Limits) (tenure : Tenure) → AreLimits limits → IsFormedTenure limits tenure → IsLawfulTenure tenure
-lawful_tenure limits tenure are formed =
-    (record { least_is = omega arith; fits = formed.tablet.fits }, fits_below_top limits tenure.term are formed.term.last)
 
 -- ends of calls of clients
 lawful_ends : (limits : Limits) (ends : List Ended) → IsFormedEnds limits ends → AllByRecursion IsLawfulEnd ends
@@ -138,23 +159,68 @@ lawful_ends limits ends told =
     recursion_from_All IsLawfulEnd ends
     (All-weaker (IsFormedEnd limits) IsLawfulEnd (λ end formed. formed.lawful) ends told.each)
 
--- ---- what the coordinator sends
+module _ (limits : Limits) (are : AreLimits limits) where
+  -- a number that has stood
+  fits_below_top : (number : ℕ) → number ≤ limits.top → IsNumber w64 0 number
+  fits_below_top number below = record { least_is = omega arith; fits = omega (arith, are.top) }
 
--- a message of the coordinator
-sent_to : (limits : Limits) (to : Node) (body : Body) → IsThere limits to → IsLawfulBody body → IsFormedBody limits nodes.Coordinator body → IsFormedMessage limits (from_coordinator to body)
-sent_to limits to body there lawful says = record { from = tt; to = there; lawful = lawful; says = says }
+  -- a master that is there
+  fits_master : (least master : ℕ) → least ≤ 1 → IsMaster limits.masters master → IsNumber w8 least master
+  fits_master least master few there = record {
+    least_is = omega (arith, there.first);
+    fits = omega (arith, there.last, are.masters);
+  }
 
--- a master is told that it owns a tablet
-formed_own : (limits : Limits) (master : ℕ) (row : Row) → AreLimits limits → IsMaster limits.masters master → HasTenure limits row → IsFormedMessage limits (own_to master row)
-formed_own limits master row are there has =
-    let tenure = formed_tenure limits row has in
-    sent_to limits (nodes.Master master) (bodies.Own (row_tenure row)) there (lawful_tenure limits (row_tenure row) are tenure) tenure
+  -- an owner that is there, if there is one
+  lawful_owner : (owner : Option ℕ) → IfSome owner (IsMaster limits.masters) → IsLawfulOwner owner
+  lawful_owner None there = tt
+  lawful_owner (Some owner) there = fits_master 1 owner (omega arith) there
 
--- or that another one owns it
-formed_release : (limits : Limits) (master : ℕ) (row : Row) → AreLimits limits → IsMaster limits.masters master → HasTenure limits row → IsFormedMessage limits (release_to master row)
-formed_release limits master row are there has =
-    let tenure = formed_tenure limits row has in
-    sent_to limits (nodes.Master master) (bodies.Release (row_tenure row)) there (lawful_tenure limits (row_tenure row) are tenure) tenure
+  -- the members of a lineage
+  lawful_lineage : (lineage : List Member) → All (IsFormedMember limits) lineage → AllByRecursion IsLawfulMember lineage
+  lawful_lineage lineage members =
+      recursion_from_All IsLawfulMember lineage
+      (All-weaker (IsFormedMember limits) IsLawfulMember
+      (λ m formed. (fits_master 0 m.master (omega arith) formed.master, formed.from)) lineage members)
+
+  -- a tenure
+  lawful_tenure : (tenure : Tenure) → IsFormedTenure limits tenure → IsLawfulTenure tenure
+  lawful_tenure tenure formed =
+      (record { least_is = omega arith; fits = formed.tablet.fits }, fits_below_top tenure.term formed.term.last)
+
+  -- ---- what the coordinator sends
+
+  -- a message of the coordinator
+  sent_to : (to : Node) (body : Body) → IsThere limits to → IsLawfulBody body → IsFormedBody limits nodes.Coordinator body → IsFormedMessage limits (from_coordinator to body)
+  sent_to to body there lawful says = record { from = tt; to = there; lawful = lawful; says = says }
+
+  -- a message alone
+  only_message : (message : Message) → IsFormedMessage limits message → All (IsFormedMessage limits) (message ∷ [])
+  only_message message formed = All-cons (IsFormedMessage limits) message [] formed (All-nil _)
+
+  -- a master is told that it owns a tablet
+  formed_own : (master : ℕ) (row : Row) → IsMaster limits.masters master → HasTenure limits row → IsFormedMessage limits (own_to master row)
+  formed_own master row there stood =
+      let tenure = formed_tenure limits row stood in
+      sent_to (nodes.Master master) (bodies.Own (row_tenure row)) there (lawful_tenure (row_tenure row) tenure) tenure
+
+  -- or that another one owns it
+  formed_release : (master : ℕ) (row : Row) → IsMaster limits.masters master → HasTenure limits row → IsFormedMessage limits (release_to master row)
+  formed_release master row there stood =
+      let tenure = formed_tenure limits row stood in
+      sent_to (nodes.Master master) (bodies.Release (row_tenure row)) there (lawful_tenure (row_tenure row) tenure) tenure
+
+  -- the answer to a look-up
+  formed_located : (sender : Node) (found : Option Row) → IsThere limits sender → IfSome found (HasTenure limits) → All (IsFormedMessage limits) (located sender found)
+  formed_located sender None there stood = All-nil _
+  formed_located sender (Some row) there stood =
+      let range = stood.formed.range in
+      let owner = owner_is_there limits row.phase (phase_of_formed limits row stood.formed) in
+      let tablet : IsNumber w32 0 row.tablet = record { least_is = omega arith; fits = stood.formed.number_is.fits } in
+      let message = bodies.Located (record { tablet = row.tablet; range = row.range; owner = owner_of row.phase }) in
+      only_message (from_coordinator sender message)
+      (sent_to sender message there (tablet, any_range row.range range, lawful_owner (owner_of row.phase) owner)
+      (record { range = range; owner = owner }))
 
 -- ---- what it makes of a message
 
@@ -177,257 +243,210 @@ pub record Answers (limits : Limits) (before : Coordinator) (coordinated : Coord
   pub room : HasRowRoom limits coordinated.coordinator
   pub rebuilt : IfSome coordinated.rebuilt (IsTaken limits)
 
--- nothing changes
-same_answer : (limits : Limits) (coordinator : Coordinator) (sends : List Message) → All (IsFormedMessage limits) sends → MaySend limits coordinator → Answers limits coordinator (answered coordinator sends)
-same_answer limits coordinator sends all may = record {
-  answer = record { coordinator = may.formed; sends = all };
-  keeps = keeps_all coordinator;
-  room = may.room;
-  rebuilt = tt;
-}
-
--- nothing changes, and nothing is sent
-no_answer : (limits : Limits) (coordinator : Coordinator) → MaySend limits coordinator → Answers limits coordinator (unanswered coordinator)
-no_answer limits coordinator may = same_answer limits coordinator [] (All-nil _) may
-
--- a row is at another phase
-turned_answer : (limits : Limits) (coordinator : Coordinator) (row : Row) (phase : Phase) (sends : List Message) (rebuilt : Option Rebuilt) → HasTenure limits row → IsFormedPhase limits phase → All (IsFormedMessage limits) sends → IfSome rebuilt (IsTaken limits) → MaySend limits coordinator → Answers limits coordinator (record { coordinator = with_phase coordinator row phase; sends = sends; rebuilt = rebuilt })
-turned_answer limits coordinator row phase sends rebuilt has there all taken may = record {
-  answer = record { coordinator = formed_with_phase limits coordinator row phase has.formed.term there may.formed; sends = all };
-  keeps = record { masters = refl; noticed = refl; covers = covered_changed coordinator.rows row.tablet row.term phase };
-  room = record { terms = terms_changed limits.top coordinator.rows row.tablet row.term phase has.term may.room.terms };
-  rebuilt = taken;
-}
-
--- a row is at another phase, and what a source told is noted
-moved_answer : (limits : Limits) (coordinator : Coordinator) (row : Row) (phase : Phase) (handed : Handed) → HasTenure limits row → IsFormedPhase limits phase → IsFormedHanded limits handed → MaySend limits coordinator → Answers limits coordinator (unanswered (with_handed (with_phase coordinator row phase) row.tablet handed))
-moved_answer limits coordinator row phase handed has there told may = record {
-  answer = record {
-    coordinator =
-        formed_with_handed limits (with_phase coordinator row phase) row.tablet handed told
-        (formed_with_phase limits coordinator row phase has.formed.term there may.formed);
-    sends = All-nil _;
-  };
-  keeps = record { masters = refl; noticed = refl; covers = covered_changed coordinator.rows row.tablet row.term phase };
-  room = record { terms = terms_changed limits.top coordinator.rows row.tablet row.term phase has.term may.room.terms };
-  rebuilt = tt;
-}
-
--- an answer by a test
+-- by a test: one answer or the other
 tested_answer : (limits : Limits) (before : Coordinator) (test : Bool) (a b : Coordinated) → Answers limits before a → Answers limits before b → Answers limits before (cond test a b)
 tested_answer limits before true a b first second = first
 tested_answer limits before false a b first second = second
 
--- one member that is there
-pub one_named : (limits : Limits) (a : Member) → IsFormedMember limits a → All (IsFormedMember limits) (a ∷ [])
-one_named limits a first = All-cons (IsFormedMember limits) a [] first (All-nil _)
-
--- two members that are there
-pub two_named : (limits : Limits) (a b : Member) → IsFormedMember limits a → IsFormedMember limits b → All (IsFormedMember limits) (a ∷ b ∷ [])
-two_named limits a b first second = All-cons (IsFormedMember limits) a (b ∷ []) first (one_named limits b second)
-
--- the first of two
-pub first_named : (limits : Limits) (a : Member) (rest : List Member) → All (IsFormedMember limits) (a ∷ rest) → IsFormedMember limits a
-first_named limits a rest all = All-head (IsFormedMember limits) a rest all
-
--- and the second
-pub second_named : (limits : Limits) (a b : Member) (rest : List Member) → All (IsFormedMember limits) (a ∷ b ∷ rest) → IsFormedMember limits b
-second_named limits a b rest all = All-head (IsFormedMember limits) b rest (All-tail (IsFormedMember limits) a (b ∷ rest) all)
-
--- the last of all
-pub last_named : (limits : Limits) (lineage : List Member) (a : Member) → All (IsFormedMember limits) (lineage ++ a ∷ []) → IsFormedMember limits a
-last_named limits [] a all = first_named limits a [] all
-last_named limits (first ∷ rest) a all =
-    last_named limits rest a (All-tail (IsFormedMember limits) first (rest ++ a ∷ []) all)
-
--- all but the last
-pub before_last : (limits : Limits) (lineage : List Member) (a : Member) → All (IsFormedMember limits) (lineage ++ a ∷ []) → All (IsFormedMember limits) lineage
-before_last limits [] a all = All-nil _
-before_last limits (first ∷ rest) a all =
-    All-cons (IsFormedMember limits) first rest (All-head (IsFormedMember limits) first (rest ++ a ∷ []) all)
-    (before_last limits rest a (All-tail (IsFormedMember limits) first (rest ++ a ∷ []) all))
-
--- the target is ready
-ready_answers : (limits : Limits) (coordinator : Coordinator) (sender : ℕ) (message : Ready) (row : Row) (phase : Phase) → IsNumber w64 0 message.place → HasTenure limits row → IsFormedPhase limits phase → MaySend limits coordinator → Answers limits coordinator (ready_in coordinator sender message row phase)
-ready_answers limits coordinator sender message row (Opening source sfrom target None) place has there may =
-    tested_answer limits coordinator (sender == target) _ _
-    (turned_answer limits coordinator row (Opening source sfrom target (Some message.place)) [] None has
-    (record {
-      named =
-          two_named limits (member source sfrom) (member target message.place)
-          (first_named limits (member source sfrom) (member target 0 ∷ []) there.named)
-          (record { master = (second_named limits (member source sfrom) (member target 0) [] there.named).master; from = place });
-      few = there.few;
-    })
-    (All-nil _) tt may)
-    (no_answer limits coordinator may)
-ready_answers limits coordinator sender message row (Opening source sfrom target (Some dfrom)) place has there may = no_answer limits coordinator may
-ready_answers limits coordinator sender message row (Owned master from) place has there may = no_answer limits coordinator may
-ready_answers limits coordinator sender message row (Moving source sfrom target dfrom) place has there may = no_answer limits coordinator may
-ready_answers limits coordinator sender message row (Rebuilding lineage to) place has there may = no_answer limits coordinator may
-
--- the source has frozen the tablet
-transfer_answers : (limits : Limits) (coordinator : Coordinator) (sender : ℕ) (message : Transfer) (row : Row) (phase : Phase) → IsFormedTransfer limits message → HasTenure limits row → IsFormedPhase limits phase → MaySend limits coordinator → Answers limits coordinator (transfer_in coordinator sender message row phase)
-transfer_answers limits coordinator sender message row (Opening source sfrom target (Some dfrom)) told has there may =
-    tested_answer limits coordinator (sender == source) _ _
-    (moved_answer limits coordinator row (Moving source sfrom target dfrom) (record { floor = message.floor; ends = message.ends }) has
-    (record { named = there.named; few = omega arith }) (record { floor = told.floor; told = told.told }) may)
-    (no_answer limits coordinator may)
-transfer_answers limits coordinator sender message row (Opening source sfrom target None) told has there may = no_answer limits coordinator may
-transfer_answers limits coordinator sender message row (Owned master from) told has there may = no_answer limits coordinator may
-transfer_answers limits coordinator sender message row (Moving source sfrom target dfrom) told has there may = no_answer limits coordinator may
-transfer_answers limits coordinator sender message row (Rebuilding lineage to) told has there may = no_answer limits coordinator may
-
--- the owner is told again
-again_answers : (limits : Limits) (coordinator : Coordinator) (sender : ℕ) (row : Row) (master : ℕ) → IsMaster limits.masters master → HasTenure limits row → MaySend limits coordinator → Answers limits coordinator (told_again coordinator sender row master)
-again_answers limits coordinator sender row master there has may =
-    tested_answer limits coordinator (sender == master) _ _
-    (same_answer limits coordinator (own_to master row ∷ [])
-    (All-cons (IsFormedMessage limits) (own_to master row) [] (formed_own limits master row may.are there has) (All-nil _)) may)
-    (no_answer limits coordinator may)
-
--- the target has all
-joined_answers : (limits : Limits) (coordinator : Coordinator) (sender : ℕ) (row : Row) (phase : Phase) → HasTenure limits row → IsFormedPhase limits phase → MaySend limits coordinator → Answers limits coordinator (joined_in coordinator sender row phase)
-joined_answers limits coordinator sender row (Moving source sfrom target dfrom) has there may =
-    let old = first_named limits (member source sfrom) (member target dfrom ∷ []) there.named in
-    let own = second_named limits (member source sfrom) (member target dfrom) [] there.named in
-    tested_answer limits coordinator (sender == target) _ _
-    (turned_answer limits coordinator row (Owned target dfrom) (own_to target row ∷ release_to source row ∷ []) None has
-    (record { named = one_named limits (member target dfrom) own; few = omega arith })
-    (All-cons (IsFormedMessage limits) (own_to target row) (release_to source row ∷ []) (formed_own limits target row may.are own.master has)
-    (All-cons (IsFormedMessage limits) (release_to source row) [] (formed_release limits source row may.are old.master has) (All-nil _)))
-    tt may)
-    (no_answer limits coordinator may)
-joined_answers limits coordinator sender row (Owned master from) has there may =
-    again_answers limits coordinator sender row master (first_named limits (member master from) [] there.named).master has may
-joined_answers limits coordinator sender row (Opening source sfrom target dfrom) has there may = no_answer limits coordinator may
-joined_answers limits coordinator sender row (Rebuilding lineage to) has there may = no_answer limits coordinator may
-
--- the tablet is rebuilt
-rebuilt_answers : (limits : Limits) (coordinator : Coordinator) (sender : ℕ) (message : Rebuilt) (row : Row) (phase : Phase) → IsNumber w64 0 message.place → IsTaken limits message → HasTenure limits row → IsFormedPhase limits phase → MaySend limits coordinator → Answers limits coordinator (rebuilt_in coordinator sender message row phase)
-rebuilt_answers limits coordinator sender message row (Rebuilding lineage to) place told has there may =
-    let rebuilder = last_named limits lineage (member to 0) there.named in
-    tested_answer limits coordinator (sender == to) _ _
-    (turned_answer limits coordinator row (Owned to message.place) (own_to to row ∷ []) (Some message) has
-    (record { named = one_named limits (member to message.place) (record { master = rebuilder.master; from = place }); few = omega arith })
-    (All-cons (IsFormedMessage limits) (own_to to row) [] (formed_own limits to row may.are rebuilder.master has) (All-nil _))
-    told may)
-    (no_answer limits coordinator may)
-rebuilt_answers limits coordinator sender message row (Owned master from) place told has there may =
-    again_answers limits coordinator sender row master (first_named limits (member master from) [] there.named).master has may
-rebuilt_answers limits coordinator sender message row (Opening source sfrom target dfrom) place told has there may = no_answer limits coordinator may
-rebuilt_answers limits coordinator sender message row (Moving source sfrom target dfrom) place told has there may = no_answer limits coordinator may
-
--- ---- the row that a message speaks of
-
--- what has its tenure among the rows
-found_row : (limits : Limits) (coordinator : Coordinator) (test : Row → Bool) → MaySend limits coordinator → IfSome (find test coordinator.rows) (HasTenure limits)
-found_row limits coordinator test may =
-    found_has (HasTenure limits) test coordinator.rows
-    (λ k d within. record { formed = may.formed.rows k d within; term = may.room.terms k d within })
-
--- that at the term of a tenure, if it is there
+-- the row at the term of a tenure, if it is there
 row_at_term : (limits : Limits) (tenure : Tenure) (found : Option Row) → IfSome found (HasTenure limits) → IfSome (at_term tenure found) (HasTenure limits)
-row_at_term limits tenure None has = tt
-row_at_term limits tenure (Some row) has =
-    elim (row.term == tenure.term) as (λ b. IfSome (cond b (Some row) None) (HasTenure limits)) [ true ↦ has | false ↦ tt ]
-
--- that which a master may speak of
-row_spoken_of : (limits : Limits) (coordinator : Coordinator) (sender : ℕ) (tenure : Tenure) → MaySend limits coordinator → IfSome (row_for coordinator sender tenure) (HasTenure limits)
-row_spoken_of limits coordinator sender tenure may =
-    elim (is_noticed coordinator sender) as (λ b. IfSome (cond b None (at_term tenure (row_of coordinator.rows tenure.tablet))) (HasTenure limits)) [
-      | true ↦ tt
-      | false ↦ row_at_term limits tenure (row_of coordinator.rows tenure.tablet)
-          (found_row limits coordinator (λ row. row.tablet == tenure.tablet) may)
+row_at_term limits tenure None stood = tt
+row_at_term limits tenure (Some row) stood =
+    elim (row.term == tenure.term) as (λ b. IfSome (cond b (Some row) None) (HasTenure limits)) [
+      | true ↦ stood
+      | false ↦ tt
     ]
 
--- what is made of a message about it
-about_answers : (limits : Limits) (coordinator : Coordinator) (taken : Row → Coordinated) (found : Option Row) → IfSome found (HasTenure limits) → ((row : Row) → HasTenure limits row → Answers limits coordinator (taken row)) → MaySend limits coordinator → Answers limits coordinator (about coordinator taken found)
-about_answers limits coordinator taken None has each may = no_answer limits coordinator may
-about_answers limits coordinator taken (Some row) has each may = each row has
+module _ (limits : Limits) (coordinator : Coordinator) (may : MaySend limits coordinator) where
+  -- nothing changes
+  same_answer : (sends : List Message) → All (IsFormedMessage limits) sends → Answers limits coordinator (answered coordinator sends)
+  same_answer sends all = record {
+    answer = record { coordinator = may.formed; sends = all };
+    keeps = keeps_all coordinator;
+    room = may.room;
+    rebuilt = tt;
+  }
 
--- ---- where a tablet is
+  -- nothing changes, and nothing is sent
+  no_answer : Answers limits coordinator (unanswered coordinator)
+  no_answer = same_answer [] (All-nil _)
 
--- the owner that a phase tells is there
-owner_is_there : (limits : Limits) (phase : Phase) → IsFormedPhase limits phase → IfSome (owner_of phase) (IsMaster limits.masters)
-owner_is_there limits (Owned master from) there = (first_named limits (member master from) [] there.named).master
-owner_is_there limits (Opening source sfrom target dfrom) there =
-    (first_named limits (member source sfrom) (member target (unwrap_or dfrom 0) ∷ []) there.named).master
-owner_is_there limits (Moving source sfrom target dfrom) there =
-    (second_named limits (member source sfrom) (member target dfrom) [] there.named).master
-owner_is_there limits (Rebuilding lineage to) there = tt
+  -- with a row at another phase it has what it had
+  phase_keeps : (row : Row) (phase : Phase) → Keeps (with_phase coordinator row phase) coordinator
+  phase_keeps row phase = record {
+    masters = refl;
+    noticed = refl;
+    covers = covered_changed coordinator.rows row.tablet row.term phase;
+  }
 
--- so it can be spelled
-lawful_owner : (limits : Limits) (owner : Option ℕ) → AreLimits limits → IfSome owner (IsMaster limits.masters) → IsLawfulOwner owner
-lawful_owner limits None are there = tt
-lawful_owner limits (Some owner) are there = fits_master limits 1 owner (omega arith) are there
+  -- and its terms have stood
+  phase_room : (row : Row) (phase : Phase) → HasTenure limits row → HasRowRoom limits (with_phase coordinator row phase)
+  phase_room row phase stood = record {
+    terms = terms_changed limits.top coordinator.rows row.tablet row.term phase stood.term may.room.terms;
+  }
 
--- the answer to a look-up
-formed_located : (limits : Limits) (sender : Node) (found : Option Row) → AreLimits limits → IsThere limits sender → IfSome found (HasTenure limits) → All (IsFormedMessage limits) (located sender found)
-formed_located limits sender None are there has = All-nil _
-formed_located limits sender (Some row) are there has =
-    let range = has.formed.range in
-    let owner = owner_is_there limits row.phase (phase_of_formed limits row has.formed) in
-    let tablet : IsNumber w32 0 row.tablet = record { least_is = omega arith; fits = has.formed.number_is.fits } in
-    let message = bodies.Located (record { tablet = row.tablet; range = row.range; owner = owner_of row.phase }) in
-    All-cons (IsFormedMessage limits) (from_coordinator sender message) []
-    (sent_to limits sender message there
-    (tablet, any_range row.range range, lawful_owner limits (owner_of row.phase) are owner)
-    (record { range = range; owner = owner }))
-    (All-nil _)
+  -- a row is at another phase
+  turned_answer : (row : Row) (phase : Phase) (sends : List Message) → HasTenure limits row → IsFormedPhase limits phase → All (IsFormedMessage limits) sends → Answers limits coordinator (answered (with_phase coordinator row phase) sends)
+  turned_answer row phase sends stood there all = record {
+    answer = record { coordinator = formed_with_phase limits coordinator row phase stood.formed.term there may.formed; sends = all };
+    keeps = phase_keeps row phase;
+    room = phase_room row phase stood;
+    rebuilt = tt;
+  }
 
--- ---- any message
+  -- a row is at another phase, and what a source told is noted
+  moved_answer : (row : Row) (phase : Phase) (handed : Handed) → HasTenure limits row → IsFormedPhase limits phase → IsFormedHanded limits handed → Answers limits coordinator (unanswered (with_handed (with_phase coordinator row phase) row.tablet handed))
+  moved_answer row phase handed stood there told = record {
+    answer = record {
+      coordinator =
+          formed_with_handed limits (with_phase coordinator row phase) row.tablet handed told
+          (formed_with_phase limits coordinator row phase stood.formed.term there may.formed);
+      sends = All-nil _;
+    };
+    keeps = record { masters = refl; noticed = refl; covers = (phase_keeps row phase).covers };
+    room = record { terms = (phase_room row phase stood).terms };
+    rebuilt = tt;
+  }
 
--- what a master sent
-report_answers : (limits : Limits) (coordinator : Coordinator) (sender : ℕ) (body : Body) → IsLawfulBody body → IsFormedBody limits (nodes.Master sender) body → MaySend limits coordinator → Answers limits coordinator (report coordinator sender body)
-report_answers limits coordinator sender (bodies.Ready message) lawful says may =
-    about_answers limits coordinator (λ row. ready_in coordinator sender message row row.phase) (row_for coordinator sender message.tenure)
-    (row_spoken_of limits coordinator sender message.tenure may)
-    (λ row has. ready_answers limits coordinator sender message row row.phase lawful.1 has (phase_of_formed limits row has.formed) may)
-    may
-report_answers limits coordinator sender (bodies.Transfer message) lawful says may =
-    about_answers limits coordinator (λ row. transfer_in coordinator sender message row row.phase) (row_for coordinator sender message.tenure)
-    (row_spoken_of limits coordinator sender message.tenure may)
-    (λ row has. transfer_answers limits coordinator sender message row row.phase says has (phase_of_formed limits row has.formed) may)
-    may
-report_answers limits coordinator sender (bodies.Joined tenure) lawful says may =
-    about_answers limits coordinator (λ row. joined_in coordinator sender row row.phase) (row_for coordinator sender tenure)
-    (row_spoken_of limits coordinator sender tenure may)
-    (λ row has. joined_answers limits coordinator sender row row.phase has (phase_of_formed limits row has.formed) may)
-    may
-report_answers limits coordinator sender (bodies.Rebuilt message) lawful says may =
-    about_answers limits coordinator (λ row. rebuilt_in coordinator sender message row row.phase) (row_for coordinator sender message.tenure)
-    (row_spoken_of limits coordinator sender message.tenure may)
-    (λ row has.
-    rebuilt_answers limits coordinator sender message row row.phase lawful.place (record { tenure = says.0; ends = says.1 }) has
-    (phase_of_formed limits row has.formed) may)
-    may
-report_answers limits coordinator sender _ lawful says may = no_answer limits coordinator may
+  -- the target is ready
+  ready_answers : (sender : ℕ) (message : Ready) (row : Row) (phase : Phase) → IsNumber w64 0 message.place → HasTenure limits row → IsFormedPhase limits phase → Answers limits coordinator (ready_in coordinator sender message row phase)
+  ready_answers sender message row (Opening source sfrom target None) place stood there =
+      let old = first_named limits (member source sfrom) (member target 0 ∷ []) there.named in
+      let own = second_named limits (member source sfrom) (member target 0) [] there.named in
+      let at_place : IsFormedMember limits (member target message.place) = record { master = own.master; from = place } in
+      tested_answer limits coordinator (sender == target) _ _
+      (turned_answer row (Opening source sfrom target (Some message.place)) [] stood
+      (record { named = two_named limits (member source sfrom) (member target message.place) old at_place; few = there.few })
+      (All-nil _))
+      no_answer
+  ready_answers sender message row (Opening source sfrom target (Some dfrom)) place stood there = no_answer
+  ready_answers sender message row (Owned master from) place stood there = no_answer
+  ready_answers sender message row (Moving source sfrom target dfrom) place stood there = no_answer
+  ready_answers sender message row (Rebuilding lineage to) place stood there = no_answer
 
--- what a client sent
-question_answers : (limits : Limits) (coordinator : Coordinator) (client : ℕ) (body : Body) → IsThere limits (nodes.Client client) → MaySend limits coordinator → Answers limits coordinator (question coordinator client body)
-question_answers limits coordinator client (bodies.Lookup lookup) there may =
-    same_answer limits coordinator
-    (located (nodes.Client client) (row_with coordinator.rows lookup.table lookup.hash))
-    (formed_located limits (nodes.Client client) (row_with coordinator.rows lookup.table lookup.hash) may.are there
-    (found_row limits coordinator (λ row. has row.range lookup.table lookup.hash) may))
-    may
-question_answers limits coordinator client _ there may = no_answer limits coordinator may
+  -- the source has frozen the tablet
+  transfer_answers : (sender : ℕ) (message : Transfer) (row : Row) (phase : Phase) → IsFormedTransfer limits message → HasTenure limits row → IsFormedPhase limits phase → Answers limits coordinator (transfer_in coordinator sender message row phase)
+  transfer_answers sender message row (Opening source sfrom target (Some dfrom)) told stood there =
+      tested_answer limits coordinator (sender == source) _ _
+      (moved_answer row (Moving source sfrom target dfrom) (record { floor = message.floor; ends = message.ends }) stood
+      (record { named = there.named; few = omega arith }) (record { floor = told.floor; told = told.told }))
+      no_answer
+  transfer_answers sender message row (Opening source sfrom target None) told stood there = no_answer
+  transfer_answers sender message row (Owned master from) told stood there = no_answer
+  transfer_answers sender message row (Moving source sfrom target dfrom) told stood there = no_answer
+  transfer_answers sender message row (Rebuilding lineage to) told stood there = no_answer
 
--- by its sender
-told_answers : (limits : Limits) (coordinator : Coordinator) (sender : Node) (body : Body) → IsThere limits sender → IsLawfulBody body → IsFormedBody limits sender body → MaySend limits coordinator → Answers limits coordinator (told_coordinator coordinator sender body)
-told_answers limits coordinator (nodes.Client client) body there lawful says may =
-    question_answers limits coordinator client body there may
-told_answers limits coordinator (nodes.Master master) body there lawful says may =
-    report_answers limits coordinator master body lawful says may
-told_answers limits coordinator nodes.Coordinator body there lawful says may = no_answer limits coordinator may
-told_answers limits coordinator (nodes.Backup backup) body there lawful says may = no_answer limits coordinator may
+  -- the owner is told again
+  again_answers : (sender : ℕ) (row : Row) (master : ℕ) → IsMaster limits.masters master → HasTenure limits row → Answers limits coordinator (told_again coordinator sender row master)
+  again_answers sender row master there stood =
+      tested_answer limits coordinator (sender == master) _ _
+      (same_answer (own_to master row ∷ [])
+      (only_message limits may.are (own_to master row) (formed_own limits may.are master row there stood)))
+      no_answer
+
+  -- the target has all
+  joined_answers : (sender : ℕ) (row : Row) (phase : Phase) → HasTenure limits row → IsFormedPhase limits phase → Answers limits coordinator (joined_in coordinator sender row phase)
+  joined_answers sender row (Moving source sfrom target dfrom) stood there =
+      let old = first_named limits (member source sfrom) (member target dfrom ∷ []) there.named in
+      let own = second_named limits (member source sfrom) (member target dfrom) [] there.named in
+      tested_answer limits coordinator (sender == target) _ _
+      (turned_answer row (Owned target dfrom) (own_to target row ∷ release_to source row ∷ []) stood
+      (record { named = one_named limits (member target dfrom) own; few = omega arith })
+      (All-cons (IsFormedMessage limits) (own_to target row) (release_to source row ∷ [])
+      (formed_own limits may.are target row own.master stood)
+      (only_message limits may.are (release_to source row) (formed_release limits may.are source row old.master stood))))
+      no_answer
+  joined_answers sender row (Owned master from) stood there =
+      again_answers sender row master (first_named limits (member master from) [] there.named).master stood
+  joined_answers sender row (Opening source sfrom target dfrom) stood there = no_answer
+  joined_answers sender row (Rebuilding lineage to) stood there = no_answer
+
+  -- the tablet is rebuilt
+  rebuilt_answers : (sender : ℕ) (message : Rebuilt) (row : Row) (phase : Phase) → IsNumber w64 0 message.place → IsTaken limits message → HasTenure limits row → IsFormedPhase limits phase → Answers limits coordinator (rebuilt_in coordinator sender message row phase)
+  rebuilt_answers sender message row (Rebuilding lineage to) place told stood there =
+      let rebuilder = (last_named limits lineage (member to 0) there.named).master in
+      let at_place : IsFormedMember limits (member to message.place) = record { master = rebuilder; from = place } in
+      let owned =
+      turned_answer row (Owned to message.place) (own_to to row ∷ []) stood
+      (record { named = one_named limits (member to message.place) at_place; few = omega arith })
+      (only_message limits may.are (own_to to row) (formed_own limits may.are to row rebuilder stood)) in
+      tested_answer limits coordinator (sender == to) _ _
+      (record {
+        answer = record { coordinator = owned.answer.coordinator; sends = owned.answer.sends };
+        keeps = owned.keeps;
+        room = owned.room;
+        rebuilt = told;
+      })
+      no_answer
+  rebuilt_answers sender message row (Owned master from) place told stood there =
+      again_answers sender row master (first_named limits (member master from) [] there.named).master stood
+  rebuilt_answers sender message row (Opening source sfrom target dfrom) place told stood there = no_answer
+  rebuilt_answers sender message row (Moving source sfrom target dfrom) place told stood there = no_answer
+
+  -- ---- the row that a message speaks of
+
+  -- a row that is found has its tenure
+  found_row : (test : Row → Bool) → IfSome (find test coordinator.rows) (HasTenure limits)
+  found_row test =
+      found_has (HasTenure limits) test coordinator.rows
+      (λ k d within. record { formed = may.formed.rows k d within; term = may.room.terms k d within })
+
+  -- so has that which a master may speak of
+  row_spoken_of : (sender : ℕ) (tenure : Tenure) → IfSome (row_for coordinator sender tenure) (HasTenure limits)
+  row_spoken_of sender tenure =
+      elim (is_noticed coordinator sender) as (λ b. IfSome (cond b None (at_term tenure (row_of coordinator.rows tenure.tablet))) (HasTenure limits)) [
+        | true ↦ tt
+        | false ↦ row_at_term limits tenure (row_of coordinator.rows tenure.tablet) (found_row (λ row. row.tablet == tenure.tablet))
+      ]
+
+  -- what is made of a message about such a row
+  about_answers : (taken : Row → Coordinated) (found : Option Row) → IfSome found (HasTenure limits) → ((row : Row) → HasTenure limits row → IsFormedPhase limits row.phase → Answers limits coordinator (taken row)) → Answers limits coordinator (about coordinator taken found)
+  about_answers taken None stood each = no_answer
+  about_answers taken (Some row) stood each = each row stood (phase_of_formed limits row stood.formed)
+
+  -- ---- any message
+
+  -- what a master sent
+  report_answers : (sender : ℕ) (body : Body) → IsLawfulBody body → IsFormedBody limits (nodes.Master sender) body → Answers limits coordinator (report coordinator sender body)
+  report_answers sender (bodies.Ready message) lawful says =
+      about_answers (λ row. ready_in coordinator sender message row row.phase) (row_for coordinator sender message.tenure)
+      (row_spoken_of sender message.tenure)
+      (λ row stood there. ready_answers sender message row row.phase lawful.1 stood there)
+  report_answers sender (bodies.Transfer message) lawful says =
+      about_answers (λ row. transfer_in coordinator sender message row row.phase) (row_for coordinator sender message.tenure)
+      (row_spoken_of sender message.tenure)
+      (λ row stood there. transfer_answers sender message row row.phase says stood there)
+  report_answers sender (bodies.Joined tenure) lawful says =
+      about_answers (λ row. joined_in coordinator sender row row.phase) (row_for coordinator sender tenure)
+      (row_spoken_of sender tenure)
+      (λ row stood there. joined_answers sender row row.phase stood there)
+  report_answers sender (bodies.Rebuilt message) lawful says =
+      about_answers (λ row. rebuilt_in coordinator sender message row row.phase) (row_for coordinator sender message.tenure)
+      (row_spoken_of sender message.tenure)
+      (λ row stood there.
+      rebuilt_answers sender message row row.phase lawful.place (record { tenure = says.0; ends = says.1 }) stood there)
+  report_answers sender _ lawful says = no_answer
+
+  -- what a client sent
+  question_answers : (client : ℕ) (body : Body) → IsThere limits (nodes.Client client) → Answers limits coordinator (question coordinator client body)
+  question_answers client (bodies.Lookup lookup) there =
+      same_answer (located (nodes.Client client) (row_with coordinator.rows lookup.table lookup.hash))
+      (formed_located limits may.are (nodes.Client client) (row_with coordinator.rows lookup.table lookup.hash) there
+      (found_row (λ row. has row.range lookup.table lookup.hash)))
+  question_answers client _ there = no_answer
+
+  -- by its sender
+  told_answers : (sender : Node) (body : Body) → IsThere limits sender → IsLawfulBody body → IsFormedBody limits sender body → Answers limits coordinator (told_coordinator coordinator sender body)
+  told_answers (nodes.Client client) body there lawful says = question_answers client body there
+  told_answers (nodes.Master master) body there lawful says = report_answers master body lawful says
+  told_answers nodes.Coordinator body there lawful says = no_answer
+  told_answers (nodes.Backup backup) body there lawful says = no_answer
 
 -- what a well formed coordinator, whose terms have stood, makes of a well formed message
 pub formed_coordinator_step : (limits : Limits) (coordinator : Coordinator) (message : Message) → AreLimits limits → IsFormedCoordinator limits coordinator → HasRowRoom limits coordinator → IsFormedMessage limits message → Answers limits coordinator (coordinator_step coordinator message)
 formed_coordinator_step limits coordinator message are formed room told =
-    told_answers limits coordinator message.from message.body told.from told.lawful told.says
-    (record { are = are; formed = formed; room = room })
+    told_answers limits coordinator (record { are = are; formed = formed; room = room }) message.from message.body
+    told.from told.lawful told.says
 
 -- ---- its turn
 
@@ -438,72 +457,70 @@ all_flat_map P Q parts (first ∷ rest) each all =
     All-append P (parts first) (flat_map parts rest) (each first (All-head Q first rest all))
     (all_flat_map P Q parts rest each (All-tail Q first rest all))
 
--- what a source told, or that it told nothing
-handed_is_formed : (limits : Limits) (coordinator : Coordinator) (tablet : ℕ) → 1 ≤ limits.top → IsFormedCoordinator limits coordinator → IsFormedHanded limits (get_or (record { floor = 1; ends = [] }) coordinator.handed tablet)
-handed_is_formed limits coordinator tablet some formed =
-    go (get coordinator.handed tablet) refl
-  where
-    go : (found : Option Handed) → get coordinator.handed tablet ≡ found → IsFormedHanded limits (unwrap_or found (record { floor = 1; ends = [] }))
-    go None is = record {
-      floor = record { first = omega arith; last = some };
-      told = record { each = All-nil _; rising = tt };
-    }
-    go (Some handed) is = formed.handed tablet handed is
+module _ (limits : Limits) (coordinator : Coordinator) (may : MaySend limits coordinator) where
+  -- what a source told, or that it told nothing
+  handed_is_formed : (tablet : ℕ) → 1 ≤ limits.top → IsFormedHanded limits (get_or (record { floor = 1; ends = [] }) coordinator.handed tablet)
+  handed_is_formed tablet some =
+      go (get coordinator.handed tablet) refl
+    where
+      go : (found : Option Handed) → get coordinator.handed tablet ≡ found → IsFormedHanded limits (unwrap_or found (record { floor = 1; ends = [] }))
+      go None is = record {
+        floor = record { first = omega arith; last = some };
+        told = record { each = All-nil _; rising = tt };
+      }
+      go (Some handed) is = may.formed.handed tablet handed is
 
--- a message alone
-only_message : (limits : Limits) (message : Message) → IsFormedMessage limits message → All (IsFormedMessage limits) (message ∷ [])
-only_message limits message formed = All-cons (IsFormedMessage limits) message [] formed (All-nil _)
+  -- the message of a duty
+  duty_sent : (to : ℕ) (body : Body) → IsMaster limits.masters to → IsLawfulBody body → IsFormedBody limits nodes.Coordinator body → All (IsFormedMessage limits) (from_coordinator (nodes.Master to) body ∷ [])
+  duty_sent to body there lawful says =
+      only_message limits may.are (from_coordinator (nodes.Master to) body)
+      (sent_to limits may.are (nodes.Master to) body there lawful says)
 
--- what it does for a row
-formed_duty : (limits : Limits) (coordinator : Coordinator) (row : Row) (phase : Phase) → HasTenure limits row → IsFormedPhase limits phase → MaySend limits coordinator → All (IsFormedMessage limits) (row_duty coordinator row phase)
-formed_duty limits coordinator row (Owned master from) has there may = All-nil _
-formed_duty limits coordinator row (Opening source sfrom target None) has there may =
-    let tenure = formed_tenure limits row has in
-    let prepare = bodies.Prepare (record { tenure = row_tenure row; range = row.range }) in
-    only_message limits (from_coordinator (nodes.Master target) prepare)
-    (sent_to limits (nodes.Master target) prepare
-    (second_named limits (member source sfrom) (member target 0) [] there.named).master
-    (lawful_tenure limits (row_tenure row) may.are tenure, any_range row.range has.formed.range)
-    (tenure, has.formed.range))
-formed_duty limits coordinator row (Opening source sfrom target (Some dfrom)) has there may =
-    let tenure = formed_tenure limits row has in
-    only_message limits (from_coordinator (nodes.Master source) (bodies.Close (row_tenure row)))
-    (sent_to limits (nodes.Master source) (bodies.Close (row_tenure row))
-    (first_named limits (member source sfrom) (member target dfrom ∷ []) there.named).master
-    (lawful_tenure limits (row_tenure row) may.are tenure) tenure)
-formed_duty limits coordinator row (Moving source sfrom target dfrom) has there may =
-    let tenure = formed_tenure limits row has in
-    let from = (first_named limits (member source sfrom) (member target dfrom ∷ []) there.named).master in
-    let handed = get_or (record { floor = 1; ends = [] }) coordinator.handed row.tablet in
-    let told = handed_is_formed limits coordinator row.tablet (omega (arith, has.term, has.formed.term)) may.formed in
-    let grant = bodies.Grant (record { tenure = row_tenure row; source = source; floor = handed.floor; ends = handed.ends }) in
-    only_message limits (from_coordinator (nodes.Master target) grant)
-    (sent_to limits (nodes.Master target) grant
-    (second_named limits (member source sfrom) (member target dfrom) [] there.named).master
-    (lawful_tenure limits (row_tenure row) may.are tenure, fits_master limits 0 source (omega arith) may.are from, fits_below_top limits handed.floor may.are told.floor.last, lawful_ends limits handed.ends told.told)
-    (record { tenure = tenure; source = from; floor = told.floor; told = told.told }))
-formed_duty limits coordinator row (Rebuilding lineage to) has there may =
-    let tenure = formed_tenure limits row has in
-    let members = before_last limits lineage (member to 0) there.named in
-    let rebuild = bodies.Rebuild (record { tenure = row_tenure row; range = row.range; lineage = lineage }) in
-    only_message limits (from_coordinator (nodes.Master to) rebuild)
-    (sent_to limits (nodes.Master to) rebuild (last_named limits lineage (member to 0) there.named).master
-    (record {
-      tenure = lawful_tenure limits (row_tenure row) may.are tenure;
-      range = any_range row.range has.formed.range;
-      lineage =
-          recursion_from_All IsLawfulMember lineage
-          (All-weaker (IsFormedMember limits) IsLawfulMember (λ m formed. lawful_member limits m may.are formed) lineage members);
-    })
-    (record { tenure = tenure; range = has.formed.range; members = members; few = there.few }))
+  -- what it does for a row
+  formed_duty : (row : Row) (phase : Phase) → HasTenure limits row → IsFormedPhase limits phase → All (IsFormedMessage limits) (row_duty coordinator row phase)
+  formed_duty row (Owned master from) stood there = All-nil _
+  formed_duty row (Opening source sfrom target None) stood there =
+      let tenure = formed_tenure limits row stood in
+      let to = (second_named limits (member source sfrom) (member target 0) [] there.named).master in
+      duty_sent target (bodies.Prepare (record { tenure = row_tenure row; range = row.range })) to
+      (lawful_tenure limits may.are (row_tenure row) tenure, any_range row.range stood.formed.range)
+      (tenure, stood.formed.range)
+  formed_duty row (Opening source sfrom target (Some dfrom)) stood there =
+      let tenure = formed_tenure limits row stood in
+      let to = (first_named limits (member source sfrom) (member target dfrom ∷ []) there.named).master in
+      duty_sent source (bodies.Close (row_tenure row)) to (lawful_tenure limits may.are (row_tenure row) tenure) tenure
+  formed_duty row (Moving source sfrom target dfrom) stood there =
+      let tenure = formed_tenure limits row stood in
+      let to = (second_named limits (member source sfrom) (member target dfrom) [] there.named).master in
+      let from = (first_named limits (member source sfrom) (member target dfrom ∷ []) there.named).master in
+      let handed = get_or (record { floor = 1; ends = [] }) coordinator.handed row.tablet in
+      let told = handed_is_formed row.tablet (omega (arith, stood.term, stood.formed.term)) in
+      duty_sent target (bodies.Grant (record { tenure = row_tenure row; source = source; floor = handed.floor; ends = handed.ends })) to (
+        lawful_tenure limits may.are (row_tenure row) tenure,
+        fits_master limits may.are 0 source (omega arith) from,
+        fits_below_top limits may.are handed.floor told.floor.last,
+        lawful_ends limits handed.ends told.told,
+      )
+      (record { tenure = tenure; source = from; floor = told.floor; told = told.told })
+  formed_duty row (Rebuilding lineage to) stood there =
+      let tenure = formed_tenure limits row stood in
+      let members = before_last limits lineage (member to 0) there.named in
+      duty_sent to (bodies.Rebuild (record { tenure = row_tenure row; range = row.range; lineage = lineage }))
+      (last_named limits lineage (member to 0) there.named).master
+      (record {
+        tenure = lawful_tenure limits may.are (row_tenure row) tenure;
+        range = any_range row.range stood.formed.range;
+        lineage = lawful_lineage limits may.are lineage members;
+      })
+      (record { tenure = tenure; range = stood.formed.range; members = members; few = there.few })
 
 -- what a well formed coordinator, whose terms have stood, sends on its turn
 pub formed_coordinator_turn : (limits : Limits) (coordinator : Coordinator) → AreLimits limits → IsFormedCoordinator limits coordinator → HasRowRoom limits coordinator → All (IsFormedMessage limits) (coordinator_turn coordinator)
 formed_coordinator_turn limits coordinator are formed room =
     all_flat_map (IsFormedMessage limits) (HasTenure limits) (λ row. row_duty coordinator row row.phase) coordinator.rows
-    (λ row has.
-    formed_duty limits coordinator row row.phase has (phase_of_formed limits row has.formed)
-    (record { are = are; formed = formed; room = room }))
+    (λ row stood.
+    formed_duty limits coordinator (record { are = are; formed = formed; room = room }) row row.phase stood
+    (phase_of_formed limits row stood.formed))
     (λ k d within. record { formed = formed.rows k d within; term = room.terms k d within })
 
 -- ---- a tablet begins to move, or is added
@@ -514,67 +531,65 @@ pub record IsFormedChange (limits : Limits) (before after : Coordinator) : Type 
   pub keeps : Keeps after before
   pub terms : (most : ℕ) → AreTermsUpTo most before.rows → AreTermsUpTo (most + 1) after.rows
 
--- nothing changes
-no_change : (limits : Limits) (coordinator : Coordinator) → IsFormedCoordinator limits coordinator → IsFormedChange limits coordinator coordinator
-no_change limits coordinator formed = record {
-  formed = formed;
-  keeps = keeps_all coordinator;
-  terms = λ most all. terms_below most (most + 1) coordinator.rows (omega arith) all;
-}
+module _ (limits : Limits) (coordinator : Coordinator) (formed : IsFormedCoordinator limits coordinator) where
+  -- nothing changes
+  no_change : IsFormedChange limits coordinator coordinator
+  no_change = record {
+    formed = formed;
+    keeps = keeps_all coordinator;
+    terms = λ most all. terms_below most (most + 1) coordinator.rows (omega arith) all;
+  }
 
--- a row is at the next term and another phase
-pub next_term : (limits : Limits) (coordinator : Coordinator) (row : Row) (tablet : ℕ) (phase : Phase) → row_of coordinator.rows tablet ≡ Some row → IsFormedPhase limits phase → IsFormedCoordinator limits coordinator → IsFormedChange limits coordinator (with_term coordinator row phase)
-next_term limits coordinator row tablet phase found there formed = record {
-  formed =
-      formed_with_rows limits coordinator (with_term coordinator row phase).rows
-      (formed_changed_rows limits coordinator.rows row.tablet (row.term + 1) phase (omega arith) there
-      (rows_of_formed limits coordinator formed))
-      formed;
-  keeps = record { masters = refl; noticed = refl; covers = covered_changed coordinator.rows row.tablet (row.term + 1) phase };
-  terms = λ most all.
-      let below : row.term ≤ most = all_found (λ r. r.term ≤ most) row tablet coordinator.rows found all in
-      terms_changed (most + 1) coordinator.rows row.tablet (row.term + 1) phase (omega arith)
-      (terms_below most (most + 1) coordinator.rows (omega arith) all);
-}
+  -- a row that is found is at the next term and another phase
+  next_term : (row : Row) (tablet : ℕ) (phase : Phase) → row_of coordinator.rows tablet ≡ Some row → IsFormedPhase limits phase → IsFormedChange limits coordinator (with_term coordinator row phase)
+  next_term row tablet phase found there = record {
+    formed =
+        formed_with_rows limits coordinator (with_term coordinator row phase).rows
+        (formed_changed_rows limits coordinator.rows row.tablet (row.term + 1) phase (omega arith) there
+        (rows_of_formed limits coordinator formed))
+        formed;
+    keeps = record { masters = refl; noticed = refl; covers = covered_changed coordinator.rows row.tablet (row.term + 1) phase };
+    terms = λ most all.
+        let below : row.term ≤ most = all_found (λ r. r.term ≤ most) row tablet coordinator.rows found all in
+        terms_changed (most + 1) coordinator.rows row.tablet (row.term + 1) phase (omega arith)
+        (terms_below most (most + 1) coordinator.rows (omega arith) all);
+  }
 
--- a row, at its phase, begins to move
-migrating_changes : (limits : Limits) (coordinator : Coordinator) (row : Row) (tablet to : ℕ) (phase : Phase) → row_of coordinator.rows tablet ≡ Some row → IsFormedPhase limits phase → IsMaster limits.masters to → IsFormedCoordinator limits coordinator → IsFormedChange limits coordinator (migrating coordinator row phase to)
-migrating_changes limits coordinator row tablet to (Owned master from) found there target formed =
-    next_term limits coordinator row tablet (Opening master from to None) found
-    (record {
-      named =
-          two_named limits (member master from) (member to 0) (first_named limits (member master from) [] there.named)
-          (record { master = target; from = record { least_is = omega arith; fits = omega arith } });
-      few = omega arith;
-    })
-    formed
-migrating_changes limits coordinator row tablet to (Opening source sfrom target dfrom) found there target_is formed = no_change limits coordinator formed
-migrating_changes limits coordinator row tablet to (Moving source sfrom target dfrom) found there target_is formed = no_change limits coordinator formed
-migrating_changes limits coordinator row tablet to (Rebuilding lineage rebuilder) found there target_is formed = no_change limits coordinator formed
+  -- a row, at its phase, begins to move
+  migrating_changes : (row : Row) (tablet to : ℕ) (phase : Phase) → row_of coordinator.rows tablet ≡ Some row → IsFormedPhase limits phase → IsMaster limits.masters to → IsFormedChange limits coordinator (migrating coordinator row phase to)
+  migrating_changes row tablet to (Owned master from) found there target =
+      let own = first_named limits (member master from) [] there.named in
+      let new : IsFormedMember limits (member to 0) = record { master = target; from = record { least_is = omega arith; fits = omega arith } } in
+      next_term row tablet (Opening master from to None) found
+      (record { named = two_named limits (member master from) (member to 0) own new; few = omega arith })
+  migrating_changes row tablet to (Opening source sfrom other dfrom) found there target = no_change
+  migrating_changes row tablet to (Moving source sfrom other dfrom) found there target = no_change
+  migrating_changes row tablet to (Rebuilding lineage rebuilder) found there target = no_change
 
--- a tablet begins to move to a master that is there
-pub formed_tablet_migrated : (limits : Limits) (coordinator : Coordinator) (tablet to : ℕ) → IsMaster limits.masters to → IsFormedCoordinator limits coordinator → IsFormedChange limits coordinator (tablet_migrated coordinator tablet to)
-formed_tablet_migrated limits coordinator tablet to target formed =
-    go (row_of coordinator.rows tablet) refl
-  where
-    go : (found : Option Row) → row_of coordinator.rows tablet ≡ found → IsFormedChange limits coordinator (row_migrated coordinator found to)
-    go None found = no_change limits coordinator formed
-    go (Some row) found =
-        migrating_changes limits coordinator row tablet to row.phase found
-        (phase_of_formed limits row (all_found (IsFormedRow limits) row tablet coordinator.rows found formed.rows)) target formed
+  -- a tablet begins to move to a master that is there
+  pub formed_tablet_migrated : (tablet to : ℕ) → IsMaster limits.masters to → IsFormedChange limits coordinator (tablet_migrated coordinator tablet to)
+  formed_tablet_migrated tablet to target =
+      go (row_of coordinator.rows tablet) refl
+    where
+      go : (found : Option Row) → row_of coordinator.rows tablet ≡ found → IsFormedChange limits coordinator (row_migrated coordinator found to)
+      go None found = no_change
+      go (Some row) found =
+          migrating_changes row tablet to row.phase found
+          (phase_of_formed limits row (all_found (IsFormedRow limits) row tablet coordinator.rows found formed.rows)) target
 
--- a tablet is added at a master that is there, where that is not refused
-pub formed_with_row : (limits : Limits) (coordinator : Coordinator) (tablet : ℕ) (range : Range) (master : ℕ) → add_fault coordinator.rows (new_row tablet range master) ≡ None → IsNumber w32 1 tablet → IsLawfulRange range → IsMaster limits.masters master → IsFormedCoordinator limits coordinator → IsFormedChange limits coordinator (with_row coordinator (new_row tablet range master))
-formed_with_row limits coordinator tablet range master none number lawful there formed =
-    let row = new_row tablet range master in
-    record {
-      formed =
-          formed_with_rows limits coordinator (with_row coordinator row).rows
-          (formed_placed limits row coordinator.rows none (formed_new_row limits tablet range master number lawful there)
-          (rows_of_formed limits coordinator formed))
-          formed;
-      keeps = record { masters = refl; noticed = refl; covers = covered_placed row coordinator.rows };
-      terms = λ most all.
-          let first : 1 ≤ most + 1 = omega arith in
-          all_placed (λ r. r.term ≤ most + 1) row coordinator.rows first (terms_below most (most + 1) coordinator.rows (omega arith) all);
-    }
+  -- a tablet is added at a master that is there, where that is not refused
+  pub formed_with_row : (tablet : ℕ) (range : Range) (master : ℕ) → add_fault coordinator.rows (new_row tablet range master) ≡ None → IsNumber w32 1 tablet → IsLawfulRange range → IsMaster limits.masters master → IsFormedChange limits coordinator (with_row coordinator (new_row tablet range master))
+  formed_with_row tablet range master none number lawful there =
+      let row = new_row tablet range master in
+      record {
+        formed =
+            formed_with_rows limits coordinator (with_row coordinator row).rows
+            (formed_placed limits row coordinator.rows none (formed_new_row limits tablet range master number lawful there)
+            (rows_of_formed limits coordinator formed))
+            formed;
+        keeps = record { masters = refl; noticed = refl; covers = covered_placed row coordinator.rows };
+        terms = λ most all.
+            let first : 1 ≤ most + 1 = omega arith in
+            all_placed (λ r. r.term ≤ most + 1) row coordinator.rows first
+            (terms_below most (most + 1) coordinator.rows (omega arith) all);
+      }
