@@ -394,10 +394,11 @@ module _ (limits : Limits) (coordinator : Coordinator) (may : MaySend limits coo
   -- so has that which a master may speak of
   row_spoken_of : (sender : ℕ) (tenure : Tenure) → IfSome (row_for coordinator sender tenure) (HasTenure limits)
   row_spoken_of sender tenure =
-      elim (is_noticed coordinator sender) as (λ b. IfSome (cond b None (at_term tenure (row_of coordinator.rows tenure.tablet))) (HasTenure limits)) [
-        | true ↦ tt
-        | false ↦ row_at_term limits tenure (row_of coordinator.rows tenure.tablet) (found_row (λ row. row.tablet == tenure.tablet))
-      ]
+      go (is_noticed coordinator sender)
+    where
+      go : (noticed : Bool) → IfSome (cond noticed None (at_term tenure (row_of coordinator.rows tenure.tablet))) (HasTenure limits)
+      go true = tt
+      go false = row_at_term limits tenure (row_of coordinator.rows tenure.tablet) (found_row (λ row. row.tablet == tenure.tablet))
 
   -- what is made of a message about such a row
   about_answers : (taken : Row → Coordinated) (found : Option Row) → IfSome found (HasTenure limits) → ((row : Row) → HasTenure limits row → IsFormedPhase limits row.phase → Answers limits coordinator (taken row)) → Answers limits coordinator (about coordinator taken found)
@@ -577,19 +578,16 @@ module _ (limits : Limits) (coordinator : Coordinator) (formed : IsFormedCoordin
           migrating_changes row tablet to row.phase found
           (phase_of_formed limits row (all_found (IsFormedRow limits) row tablet coordinator.rows found formed.rows)) target
 
-  -- a tablet is added at a master that is there, where that is not refused
-  pub formed_with_row : (tablet : ℕ) (range : Range) (master : ℕ) → add_fault coordinator.rows (new_row tablet range master) ≡ None → IsNumber w32 1 tablet → IsLawfulRange range → IsMaster limits.masters master → IsFormedChange limits coordinator (with_row coordinator (new_row tablet range master))
-  formed_with_row tablet range master none number lawful there =
-      let row = new_row tablet range master in
-      record {
-        formed =
-            formed_with_rows limits coordinator (with_row coordinator row).rows
-            (formed_placed limits row coordinator.rows none (formed_new_row limits tablet range master number lawful there)
-            (rows_of_formed limits coordinator formed))
-            formed;
-        keeps = record { masters = refl; noticed = refl; covers = covered_placed row coordinator.rows };
-        terms = λ most all.
-            let first : 1 ≤ most + 1 = omega arith in
-            all_placed (λ r. r.term ≤ most + 1) row coordinator.rows first
-            (terms_below most (most + 1) coordinator.rows (omega arith) all);
-      }
+  -- a row at the first term is added, where that is not refused
+  pub formed_with_row : (row : Row) → add_fault coordinator.rows row ≡ None → IsFormedRow limits row → row.term ≡ 1 → IsFormedChange limits coordinator (with_row coordinator row)
+  formed_with_row row none new first = record {
+    formed =
+        formed_with_rows limits coordinator (with_row coordinator row).rows
+        (formed_placed limits row coordinator.rows none new (rows_of_formed limits coordinator formed))
+        formed;
+    keeps = record { masters = refl; noticed = refl; covers = covered_placed row coordinator.rows };
+    terms = λ most all.
+        let below : row.term ≤ most + 1 = omega arith in
+        all_placed (λ r. r.term ≤ most + 1) row coordinator.rows below
+        (terms_below most (most + 1) coordinator.rows (omega arith) all);
+  }

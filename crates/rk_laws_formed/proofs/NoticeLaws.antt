@@ -1,6 +1,6 @@
 -- The notice of a crash: the coordinator stays well formed, where one of the masters is neither crashed nor noticed. Each row that has
 -- lost a master gets one that is there, so all that it covered is covered.
-use Rattle.std.proofs.Common.{◌≡◌, ◌≤◌, ◌<◌, ◌+◌, ℕ, zero, suc, Bool, true, false, not, cond, ◌==◌, ◌&&◌, ◌||◌, List, [], ◌∷◌, ◌++◌, All, IfSome, length, filter, find, fold, map, Option, None, Some, refl, sym, ap, subst, ◌∙◌, arith}
+use Rattle.std.proofs.Common.{◌≡◌, ◌≤◌, ◌<◌, ◌+◌, ℕ, zero, suc, Bool, true, false, not, cond, ◌==◌, ◌&&◌, ◌||◌, List, [], ◌∷◌, ◌++◌, All, IfSome, length, filter, find, get_or, fold, map, Option, None, Some, refl, sym, ap, subst, ◌∙◌, arith}
 use Rattle.std.specs.List.{AllByRecursion, list_any, range_with_len}
 use Rattle.std.specs.Prelude.{unwrap_or}
 use Rattle.std.proofs.lemmas.Bool.{eqb-true, or_parts}
@@ -31,19 +31,29 @@ record IsBetween (start count number : ℕ) : Type 0 where
   first : start ≤ number
   before : number < start + count
 
+-- a number that passes is not one that fails
+passes_apart : (test : ℕ → Bool) (number other : ℕ) → test number ≡ true → test other ≡ false → number ≡ other → ⊥
+passes_apart test number other passes fails same =
+    let both : true ≡ false = sym passes ∙ ap test same ∙ fails in
+    absurd (cc both)
+
 -- the first number of a range that passes, where some number there passes, is within it
 first_between : (test : ℕ → Bool) (start count number : ℕ) → IsBetween start count number → test number ≡ true → IsBetween start count (unwrap_or (find test (range_with_len start count)) 0)
 first_between test start zero number within passes = absurd (omega (arith, within.first, within.before))
 first_between test start (suc count) number within passes =
-    elim (test start) as (λ b. test start ≡ b → IsBetween start (suc count) (unwrap_or (cond b (Some start) (find test (range_with_len (start + 1) count))) 0)) [
-      | true ↦ λ is. record { first = omega arith; before = omega arith }
-      | false ↦ λ fails.
-          let apart : number ≡ start → ⊥ = λ same. let both : true ≡ false = sym passes ∙ ap test same ∙ fails in absurd (cc both) in
-          let later =
-          first_between test (start + 1) count number
-          (record { first = omega (arith, apart, within.first); before = omega (arith, within.before) }) passes in
-          record { first = omega (arith, later.first); before = omega (arith, later.before) }
-    ] refl
+    go (test start) refl
+    (λ apart.
+    first_between test (start + 1) count number
+    (record { first = omega (arith, apart, within.first); before = omega (arith, within.before) }) passes)
+  where
+    rest : List ℕ
+    rest = range_with_len (start + 1) count
+
+    go : (b : Bool) → test start ≡ b → ((number ≡ start → ⊥) → IsBetween (start + 1) count (unwrap_or (find test rest) 0)) → IsBetween start (suc count) (unwrap_or (cond b (Some start) (find test rest)) 0)
+    go true is later = record { first = omega arith; before = omega arith }
+    go false fails later =
+        let found = later (passes_apart test number start passes fails) in
+        record { first = omega (arith, found.first); before = omega (arith, found.before) }
 
 -- a master that is there and was not noticed
 pub record IsLeft (limits : Limits) (coordinator : Coordinator) (living : ℕ) : Type 0 where
@@ -120,7 +130,8 @@ phase_is_formed limits coordinator dead (Moving source sfrom target dfrom) gone 
 phase_is_formed limits coordinator dead (Rebuilding lineage to) gone lowest there =
     let members = before_last limits lineage (member to 0) there.named in
     some_where (IsFormedPhase limits) (to == dead) (Rebuilding lineage (next_rebuilder coordinator lineage)) None
-    (rebuilding_is_formed limits lineage (next_rebuilder coordinator lineage) members there.few (next_is_there limits coordinator lineage members lowest))
+    (rebuilding_is_formed limits lineage (next_rebuilder coordinator lineage) members there.few
+    (next_is_there limits coordinator lineage members lowest))
     tt
 
 -- ---- rows
@@ -181,10 +192,10 @@ pub record IsFormedNotice (limits : Limits) (living most_rise : ℕ) (before aft
   pub covers : Cover after.rows before.rows
   pub terms : (most : ℕ) → AreTermsUpTo most before.rows → AreTermsUpTo (most + most_rise) after.rows
 
--- a master that is noticed is there, and is not the one that is left
-record IsGone (limits : Limits) (living dead : ℕ) : Type 0 where
-  there : IsMaster limits.masters dead
-  apart : (dead == living) ≡ false
+-- a master that has crashed is there, and is not the one that is left
+pub record IsGone (limits : Limits) (living dead : ℕ) : Type 0 where
+  pub there : IsMaster limits.masters dead
+  pub apart : (dead == living) ≡ false
 
 -- a master is marked as dead
 abbrev marked : Coordinator → ℕ → Coordinator
@@ -214,76 +225,64 @@ term_rises : (row : Row) (changed : Option Phase) (most : ℕ) → row.term ≤ 
 term_rises row None most below = omega arith
 term_rises row (Some phase) most below = omega arith
 
--- a master is noticed dead
-notice_one_is_formed : (limits : Limits) (coordinator : Coordinator) (living dead : ℕ) → IsLeft limits coordinator living → IsGone limits living dead → IsFormedCoordinator limits coordinator → IsFormedNotice limits living 1 coordinator (notice_one coordinator dead)
-notice_one_is_formed limits coordinator living dead left gone formed = record {
-  formed = record {
-    map = map_changed (after_notice coordinator dead) coordinator.rows (notice_stays coordinator dead) formed.map;
-    rows =
-        All-map (IsFormedRow limits) (after_notice coordinator dead) coordinator.rows
-        (All-weaker (IsFormedRow limits) (λ row. IsFormedRow limits (after_notice coordinator dead row))
-        (λ row old.
-        row_is_formed limits row (phase_noticed (marked coordinator dead) dead row.phase)
-        (phase_is_formed limits (marked coordinator dead) dead row.phase gone.there lowest (phase_of_formed limits row old)) old)
-        coordinator.rows formed.rows);
-    noticed = All-push (IsMaster limits.masters) coordinator.noticed dead formed.noticed gone.there;
-    handed_order = formed.handed_order;
-    handed = formed.handed;
-  };
-  masters = refl;
-  left = record { masters = left.masters; there = left.there; unnoticed = unnoticed };
-  covers = λ table hash covered.
-      covered_each (after_notice coordinator dead) coordinator.rows table hash (notice_stays coordinator dead) ∙ covered;
-  terms = λ most all.
-      All-map (λ row. row.term ≤ most + 1) (after_notice coordinator dead) coordinator.rows
-      (All-weaker (λ row. row.term ≤ most) (λ row. (after_notice coordinator dead row).term ≤ most + 1)
-      (λ row below. term_rises row (phase_noticed (marked coordinator dead) dead row.phase) most below) coordinator.rows all);
-}
-  where
-    unnoticed : is_noticed (marked coordinator dead) living ≡ false
-    unnoticed = none_pushed (λ noticed. noticed == living) coordinator.noticed dead left.unnoticed gone.apart
+-- a coordinator where a master is marked as dead
+module _ (limits : Limits) (coordinator : Coordinator) (living dead : ℕ) (left : IsLeft limits coordinator living) (gone : IsGone limits living dead) where
+  -- the other master is left
+  left_marked : IsLeft limits (marked coordinator dead) living
+  left_marked = record {
+    masters = left.masters;
+    there = left.there;
+    unnoticed = none_pushed (λ noticed. noticed == living) coordinator.noticed dead left.unnoticed gone.apart;
+  }
 
-    lowest : IsMaster limits.masters (lowest_left (marked coordinator dead))
-    lowest =
-        lowest_is_there limits (marked coordinator dead) living
-        (record { masters = left.masters; there = left.there; unnoticed = unnoticed })
+  -- each row is well formed
+  rows_noticed : All (IsFormedRow limits) coordinator.rows → All (IsFormedRow limits) (map (after_notice coordinator dead) coordinator.rows)
+  rows_noticed rows =
+      let lowest = lowest_is_there limits (marked coordinator dead) living left_marked in
+      All-map (IsFormedRow limits) (after_notice coordinator dead) coordinator.rows
+      (All-weaker (IsFormedRow limits) (λ row. IsFormedRow limits (after_notice coordinator dead row))
+      (λ row old.
+      row_is_formed limits row (phase_noticed (marked coordinator dead) dead row.phase)
+      (phase_is_formed limits (marked coordinator dead) dead row.phase gone.there lowest (phase_of_formed limits row old)) old)
+      coordinator.rows rows)
 
--- ---- all notices
+  -- and so is the coordinator
+  notice_one_is_formed : IsFormedCoordinator limits coordinator → IsFormedNotice limits living 1 coordinator (notice_one coordinator dead)
+  notice_one_is_formed formed = record {
+    formed = record {
+      map = map_changed (after_notice coordinator dead) coordinator.rows (notice_stays coordinator dead) formed.map;
+      rows = rows_noticed formed.rows;
+      noticed = All-push (IsMaster limits.masters) coordinator.noticed dead formed.noticed gone.there;
+      handed_order = formed.handed_order;
+      handed = formed.handed;
+    };
+    masters = refl;
+    left = record { masters = left.masters; there = left.there; unnoticed = left_marked.unnoticed };
+    covers = λ table hash covered.
+        covered_each (after_notice coordinator dead) coordinator.rows table hash (notice_stays coordinator dead) ∙ covered;
+    terms = λ most all.
+        All-map (λ row. row.term ≤ most + 1) (after_notice coordinator dead) coordinator.rows
+        (All-weaker (λ row. row.term ≤ most) (λ row. (after_notice coordinator dead row).term ≤ most + 1)
+        (λ row below. term_rises row (phase_noticed (marked coordinator dead) dead row.phase) most below) coordinator.rows all);
+  }
 
--- masters are noticed dead, one after the other
-notices_are_formed : (limits : Limits) (order : List ℕ) (coordinator : Coordinator) (living : ℕ) → IsLeft limits coordinator living → All (IsGone limits living) order → IsFormedCoordinator limits coordinator → IsFormedNotice limits living (length order) coordinator (fold notice_one coordinator order)
-notices_are_formed limits [] coordinator living left all formed = record {
-  formed = formed;
-  masters = refl;
-  left = left;
-  covers = λ table hash covered. covered;
-  terms = λ most all. terms_below most (most + 0) coordinator.rows (omega arith) all;
-}
-notices_are_formed limits (dead ∷ rest) coordinator living left all formed =
-    let first =
-    notice_one_is_formed limits coordinator living dead left (All-head (IsGone limits living) dead rest all) formed in
-    let later =
-    notices_are_formed limits rest (notice_one coordinator dead) living first.left (All-tail (IsGone limits living) dead rest all) first.formed in
-    record {
-      formed = later.formed;
-      masters = later.masters;
-      left = later.left;
-      covers = λ table hash covered. later.covers table hash (first.covers table hash covered);
-      terms = λ most below.
-          terms_below (most + 1 + length rest) (most + length (dead ∷ rest)) (fold notice_one (notice_one coordinator dead) rest).rows
-          (omega arith) (later.terms (most + 1) (first.terms most below));
-    }
+-- ---- the order of notices
+
+-- a master that rows name, but for that whose crash is noticed
+abbrev is_other : List Row → ℕ → ℕ → Bool
+is_other rows dead master = is_named rows master && not (master == dead)
+
+-- that one, where rows name it
+abbrev is_itself : List Row → ℕ → ℕ → Bool
+is_itself rows dead master = is_named rows master && (master == dead)
 
 -- the order of the notices has what all have that are noticed
 order_has : (P : ℕ → Type 0) (rows : List Row) (dead : ℕ) (list : List ℕ) → All P list → All P (notice_order rows dead list)
 order_has P rows dead list all =
-    All-append P (filter (λ master. not (is_named rows master)) list)
-    (filter (λ master. is_named rows master && not (master == dead)) list ++ filter (λ master. is_named rows master && (master == dead)) list)
+    All-append P (filter (λ master. not (is_named rows master)) list) (filter (is_other rows dead) list ++ filter (is_itself rows dead) list)
     (All-filter (λ master. not (is_named rows master)) P list all)
-    (All-append P (filter (λ master. is_named rows master && not (master == dead)) list)
-    (filter (λ master. is_named rows master && (master == dead)) list)
-    (All-filter (λ master. is_named rows master && not (master == dead)) P list all)
-    (All-filter (λ master. is_named rows master && (master == dead)) P list all))
+    (All-append P (filter (is_other rows dead) list) (filter (is_itself rows dead) list) (All-filter (is_other rows dead) P list all)
+    (All-filter (is_itself rows dead) P list all))
 
 -- a list has no fewer elements than pass a test
 pub filter_shorter : {X : Type 0} (test : X → Bool) (list : List X) → length (filter test list) ≤ length list
@@ -298,46 +297,66 @@ filter_shorter test (first ∷ rest) =
 parts_shorter : (a b : ℕ → Bool) (list : List ℕ) → length (filter (λ n. not (a n)) list) + (length (filter (λ n. a n && not (b n)) list) + length (filter (λ n. a n && b n) list)) ≤ length list
 parts_shorter a b [] = omega arith
 parts_shorter a b (first ∷ rest) =
-    go (a first) (b first) (filter (λ n. not (a n)) rest) (filter (λ n. a n && not (b n)) rest) (filter (λ n. a n && b n) rest) (parts_shorter a b rest)
+    go (a first) (b first) (filter (λ n. not (a n)) rest) (filter (λ n. a n && not (b n)) rest) (filter (λ n. a n && b n) rest)
+    (parts_shorter a b rest)
   where
     go : (p q : Bool) (xs ys zs : List ℕ) → length xs + (length ys + length zs) ≤ length rest → length (cond (not p) (first ∷ xs) xs) + (length (cond (p && not q) (first ∷ ys) ys) + length (cond (p && q) (first ∷ zs) zs)) ≤ suc (length rest)
     go true true xs ys zs shorter = omega arith
     go true false xs ys zs shorter = omega arith
     go false q xs ys zs shorter = omega arith
 
+-- the order has no more masters than are noticed
 order_shorter : (rows : List Row) (dead : ℕ) (list : List ℕ) → length (notice_order rows dead list) ≤ length list
 order_shorter rows dead list =
-    omega (
-      arith,
-      length-append (filter (λ master. not (is_named rows master)) list)
-          (filter (λ master. is_named rows master && not (master == dead)) list ++ filter (λ master. is_named rows master && (master == dead)) list),
-      length-append (filter (λ master. is_named rows master && not (master == dead)) list)
-          (filter (λ master. is_named rows master && (master == dead)) list),
-      parts_shorter (is_named rows) (λ master. master == dead) list,
-    )
+    omega (arith,
+    length-append (filter (λ master. not (is_named rows master)) list) (filter (is_other rows dead) list ++ filter (is_itself rows dead) list),
+    length-append (filter (is_other rows dead) list) (filter (is_itself rows dead) list),
+    parts_shorter (is_named rows) (λ master. master == dead) list)
 
--- a crash is noticed, where one of the masters is neither among the crashed nor noticed; so many terms at most rise as masters have
--- crashed
-pub formed_coordinator_notice : (limits : Limits) (coordinator : Coordinator) (dead living : ℕ) (crashed : List ℕ) → IsLeft limits coordinator living → All (IsMaster limits.masters) crashed → All (λ master. (master == living) ≡ false) crashed → IsFormedCoordinator limits coordinator → IsFormedNotice limits living (length crashed) coordinator (coordinator_notice coordinator dead crashed)
-formed_coordinator_notice limits coordinator dead living crashed left there apart formed =
-    let rest = filter (λ master. not (is_noticed coordinator master)) crashed in
-    let order = notice_order coordinator.rows dead rest in
-    let done =
-    notices_are_formed limits order coordinator living left
-    (order_has (IsGone limits living) coordinator.rows dead rest
-    (All-filter (λ master. not (is_noticed coordinator master)) (IsGone limits living) crashed
-    (λ k d within. record { there = there k d within; apart = apart k d within })))
-    formed in
-    record {
-      formed = done.formed;
-      masters = done.masters;
-      left = done.left;
-      covers = done.covers;
-      terms = λ most below.
-          terms_below (most + length order) (most + length crashed) (fold notice_one coordinator order).rows
-          (omega (arith, order_shorter coordinator.rows dead rest, filter_shorter (λ master. not (is_noticed coordinator master)) crashed))
-          (done.terms most below);
-    }
+-- ---- all notices
+
+module _ (limits : Limits) (living : ℕ) where
+  -- masters are noticed dead, one after the other
+  notices_are_formed : (order : List ℕ) (coordinator : Coordinator) → IsLeft limits coordinator living → All (IsGone limits living) order → IsFormedCoordinator limits coordinator → IsFormedNotice limits living (length order) coordinator (fold notice_one coordinator order)
+  notices_are_formed [] coordinator left all formed = record {
+    formed = formed;
+    masters = refl;
+    left = left;
+    covers = λ table hash covered. covered;
+    terms = λ most below. terms_below most (most + 0) coordinator.rows (omega arith) below;
+  }
+  notices_are_formed (dead ∷ rest) coordinator left all formed =
+      let gone = All-head (IsGone limits living) dead rest all in
+      let others = All-tail (IsGone limits living) dead rest all in
+      let first = notice_one_is_formed limits coordinator living dead left gone formed in
+      let later = notices_are_formed rest (notice_one coordinator dead) first.left others first.formed in
+      record {
+        formed = later.formed;
+        masters = later.masters;
+        left = later.left;
+        covers = λ table hash covered. later.covers table hash (first.covers table hash covered);
+        terms = λ most below.
+            terms_below (most + 1 + length rest) (most + length (dead ∷ rest)) (fold notice_one (notice_one coordinator dead) rest).rows
+            (omega arith) (later.terms (most + 1) (first.terms most below));
+      }
+
+  -- a crash is noticed, where one of the masters is neither among the crashed nor noticed; a term rises by no more than have crashed
+  pub formed_coordinator_notice : (coordinator : Coordinator) (dead : ℕ) (crashed : List ℕ) → IsLeft limits coordinator living → All (IsGone limits living) crashed → IsFormedCoordinator limits coordinator → IsFormedNotice limits living (length crashed) coordinator (coordinator_notice coordinator dead crashed)
+  formed_coordinator_notice coordinator dead crashed left gone formed =
+      let is_new : ℕ → Bool = λ master. not (is_noticed coordinator master) in
+      let order = notice_order coordinator.rows dead (filter is_new crashed) in
+      let all_gone = order_has (IsGone limits living) coordinator.rows dead (filter is_new crashed) (All-filter is_new (IsGone limits living) crashed gone) in
+      let done = notices_are_formed order coordinator left all_gone formed in
+      record {
+        formed = done.formed;
+        masters = done.masters;
+        left = done.left;
+        covers = done.covers;
+        terms = λ most below.
+            terms_below (most + length order) (most + length crashed) (fold notice_one coordinator order).rows
+            (omega (arith, order_shorter coordinator.rows dead (filter is_new crashed), filter_shorter is_new crashed))
+            (done.terms most below);
+      }
 
 -- all who are noticed after some were noticed, one after the other
 noticed_in_order : (P : ℕ → Type 0) (order : List ℕ) (coordinator : Coordinator) → All P coordinator.noticed → All P order → All P (fold notice_one coordinator order).noticed
@@ -439,8 +458,11 @@ formed_noticed limits w dead crashed are coordinator formed = record {
       unnoticed = unnoticed_apart w.coordinator.noticed living (apart_from_all (has_crashed w) w.coordinator.noticed living formed.noticed some.lives);
     }
 
+    gone : All (IsGone limits living) (crashed_masters w)
+    gone k d within = record {
+      there = subst (λ (count : ℕ). IsMaster count (get_or (crashed_masters w) k d)) are (crashed_are_there w formed.masters_are k d within);
+      apart = apart_from_all (has_crashed w) (crashed_masters w) living (crashed_have_crashed w) some.lives k d within;
+    }
+
     done : IsFormedNotice limits living (length (crashed_masters w)) w.coordinator (coordinator_notice w.coordinator dead (crashed_masters w))
-    done =
-        formed_coordinator_notice limits w.coordinator dead living (crashed_masters w) left
-        (subst (λ (count : ℕ). All (IsMaster count) (crashed_masters w)) are (crashed_are_there w formed.masters_are))
-        (apart_from_all (has_crashed w) (crashed_masters w) living (crashed_have_crashed w) some.lives) coordinator
+    done = formed_coordinator_notice limits living w.coordinator dead (crashed_masters w) left gone coordinator

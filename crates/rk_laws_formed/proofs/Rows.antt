@@ -50,7 +50,8 @@ all_replaced P new tablet [] it all = all
 all_replaced P new tablet (first ∷ rest) it all =
     elim (first.tablet == tablet) as (λ b. All P (cond b (new ∷ rest) (first ∷ replaced tablet new rest))) [
       | true ↦ All-cons P new rest it (All-tail P first rest all)
-      | false ↦ All-cons P first (replaced tablet new rest) (All-head P first rest all) (all_replaced P new tablet rest it (All-tail P first rest all))
+      | false ↦ All-cons P first (replaced tablet new rest) (All-head P first rest all)
+          (all_replaced P new tablet rest it (All-tail P first rest all))
     ]
 
 -- what all rows have, and a new one, all have with the new one placed
@@ -59,7 +60,8 @@ all_placed P row [] it all = All-cons P row [] it all
 all_placed P row (first ∷ rest) it all =
     elim (nat_le row.tablet first.tablet) as (λ b. All P (cond b (row ∷ first ∷ rest) (first ∷ placed row rest))) [
       | true ↦ All-cons P row (first ∷ rest) it all
-      | false ↦ All-cons P first (placed row rest) (All-head P first rest all) (all_placed P row rest it (All-tail P first rest all))
+      | false ↦ All-cons P first (placed row rest) (All-head P first rest all)
+          (all_placed P row rest it (All-tail P first rest all))
     ]
 
 -- ---- what rows cover
@@ -94,7 +96,8 @@ covered_placed row [] table hash covered = absurd (cc covered)
 covered_placed row (first ∷ rest) table hash covered =
     elim (nat_le row.tablet first.tablet) as (λ b. is_covered (cond b (row ∷ first ∷ rest) (first ∷ placed row rest)) table hash ≡ true) [
       | true ↦ or_right (has row.range table hash) (is_covered (first ∷ rest) table hash) covered
-      | false ↦ or_later (has first.range table hash) (is_covered rest table hash) (is_covered (placed row rest) table hash) covered (covered_placed row rest table hash)
+      | false ↦ or_later (has first.range table hash) (is_covered rest table hash) (is_covered (placed row rest) table hash) covered
+          (covered_placed row rest table hash)
     ]
 
 -- ---- rows that are well formed
@@ -168,14 +171,12 @@ terms_changed most rows tablet term phase below all =
 -- a row that is not refused is new
 pub not_refused : (rows : List Row) (row : Row) → add_fault rows row ≡ None → IsNew row rows
 not_refused rows row none =
-    elim (is_some (row_of rows row.tablet)) as (λ b. is_some (row_of rows row.tablet) ≡ b → cond b (Some (Taken row.tablet)) (cond (meets_any rows row.range) (Some Overlap) None) ≡ None → IsNew row rows) [
-      | true ↦ λ is it. absurd (cc it)
-      | false ↦ λ unknown it.
-          elim (meets_any rows row.range) as (λ b. meets_any rows row.range ≡ b → cond b (Some Overlap) None ≡ None → IsNew row rows) [
-            | true ↦ λ is fault. absurd (cc fault)
-            | false ↦ λ apart fault. record { unknown = unknown; apart = apart }
-          ] refl it
-    ] refl none
+    go (is_some (row_of rows row.tablet)) (meets_any rows row.range) refl refl none
+  where
+    go : (known meets : Bool) → is_some (row_of rows row.tablet) ≡ known → meets_any rows row.range ≡ meets → cond known (Some (Taken row.tablet)) (cond meets (Some Overlap) None) ≡ None → IsNew row rows
+    go true meets unknown apart fault = absurd (cc fault)
+    go false true unknown apart fault = absurd (cc fault)
+    go false false unknown apart fault = record { unknown = unknown; apart = apart }
 
 -- a row that is not refused is added to rows that are well formed
 pub formed_placed : (limits : Limits) (row : Row) (rows : List Row) → add_fault rows row ≡ None → IsFormedRow limits row → AreFormedRows limits rows → AreFormedRows limits (placed row rows)
