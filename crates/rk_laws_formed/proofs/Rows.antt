@@ -2,13 +2,13 @@
 -- split. They cover then what they covered, and their terms stay below what bounds the old ones and the new.
 use Rattle.std.proofs.Common.{◌≡◌, ◌≤◌, ◌<◌, ℕ, w32, Bool, true, false, ◌||◌, cond, ◌==◌, nat_le, nat_lt, List, [], ◌∷◌, All, length, Option, None, Some, is_some, find, IfSome, refl, sym, ap, subst, ◌∙◌, arith}
 use Rattle.std.proofs.Math.Nat.{le_trans}
-use Rattle.std.proofs.lemmas.Bool.{and_parts, leb-true, ltb-true}
+use Rattle.std.proofs.lemmas.Bool.{and_parts, eqb-false, eqb-true, leb-true, ltb-true}
 use Rattle.std.proofs.lemmas.List.Elements.{All-cons, All-head, All-nil, All-tail, All-weaker}
 use Rattle.rk_types.specs.Range.{has}
 use Rattle.rk_types.specs.declared.range.Range.{Range}
 use Rattle.rk_entry.specs.Ends.{IsLawfulRange}
 use Rattle.rk_entry.specs.Numbers.{IsNumber}
-use Rattle.rk_tablet_map.proofs.Lawful.{IsNew, covered_split, lawful_placed, lawful_split, lawful_turned}
+use Rattle.rk_tablet_map.proofs.Lawful.{IsNew, covered_split, lawful_placed, lawful_split, lawful_turned, number_of}
 use Rattle.rk_tablet_map.specs.Phase.{lineage_of}
 use Rattle.rk_tablet_map.specs.Rows.{IsTabletMap, add_fault, changed_rows, cut_fault, divided, is_covered, is_split, lower_part, meets_any, placed, replaced, row_of, split_fault, split_rows, turned, upper_part}
 use Rattle.rk_tablet_map.specs.declared.error.MapError.TheVariants.{BadSplit, Overlap, Taken}
@@ -63,6 +63,64 @@ all_placed P row (first ∷ rest) it all =
       | false ↦ All-cons P first (placed row rest) (All-head P first rest all)
           (all_placed P row rest it (All-tail P first rest all))
     ]
+
+-- what all have with a new row placed, it has
+pub placed_has : (P : Row → Type 0) (row : Row) (rows : List Row) → All P (placed row rows) → P row
+placed_has P row [] all = All-head P row [] all
+placed_has P row (first ∷ rest) all =
+    elim (nat_le row.tablet first.tablet) as (λ b. All P (cond b (row ∷ first ∷ rest) (first ∷ placed row rest)) → P row) [
+      | true ↦ λ here. All-head P row (first ∷ rest) here
+      | false ↦ λ later. placed_has P row rest (All-tail P first (placed row rest) later)
+    ] all
+
+-- what all have with a row in the place of one that is there, it has
+replaced_has : (P : Row → Type 0) (row new : Row) (tablet : ℕ) (rows : List Row) → row_of rows tablet ≡ Some row → All P (replaced tablet new rows) → P new
+replaced_has P row new tablet [] found all = absurd (cc found)
+replaced_has P row new tablet (first ∷ rest) found all =
+    found_cases _ first row rest tablet found
+    (λ is same. All-head P new rest (subst (λ b. All P (cond b (new ∷ rest) (first ∷ replaced tablet new rest))) is all))
+    (λ apart later.
+    replaced_has P row new tablet rest later
+    (All-tail P first (replaced tablet new rest) (subst (λ b. All P (cond b (new ∷ rest) (first ∷ replaced tablet new rest))) apart all)))
+
+-- ---- which tablets have rows
+
+-- a tablet has a row
+abbrev pub IsKnown : List Row → ℕ → Type 0
+IsKnown rows tablet = is_some (row_of rows tablet) ≡ true
+
+-- where the first row is that of the tablet, or a later one
+known_by : (first : Row) (rest : List Row) (tablet : ℕ) → ((first.tablet == tablet) ≡ false → IsKnown rest tablet) → IsKnown (first ∷ rest) tablet
+known_by first rest tablet later =
+    go (first.tablet == tablet) refl
+  where
+    go : (b : Bool) → (first.tablet == tablet) ≡ b → is_some (cond b (Some first) (row_of rest tablet)) ≡ true
+    go true is = refl
+    go false apart = later apart
+
+-- a row that is placed is there
+pub known_placed : (row : Row) (rows : List Row) → IsKnown (placed row rows) row.tablet
+known_placed row [] = known_by row [] row.tablet (λ apart. absurd (eqb-false row.tablet row.tablet apart refl))
+known_placed row (first ∷ rest) =
+    elim (nat_le row.tablet first.tablet) as (λ b. IsKnown (cond b (row ∷ first ∷ rest) (first ∷ placed row rest)) row.tablet) [
+      | true ↦ known_by row (first ∷ rest) row.tablet (λ apart. absurd (eqb-false row.tablet row.tablet apart refl))
+      | false ↦ known_by first (placed row rest) row.tablet (λ apart. known_placed row rest)
+    ]
+
+-- a row in the place of another one leaves all tablets known
+known_replaced : (new : Row) (tablet : ℕ) (rows : List Row) (other : ℕ) → new.tablet ≡ tablet → IsKnown rows other → IsKnown (replaced tablet new rows) other
+known_replaced new tablet [] other same known = known
+known_replaced new tablet (first ∷ rest) other same known =
+    go (first.tablet == tablet) refl (λ apart. known_replaced new tablet rest other same (behind apart))
+  where
+    behind : (first.tablet == other) ≡ false → IsKnown rest other
+    behind apart = subst (λ b. is_some (cond b (Some first) (row_of rest other)) ≡ true) apart known
+
+    go : (b : Bool) → (first.tablet == tablet) ≡ b → ((first.tablet == other) ≡ false → IsKnown (replaced tablet new rest) other) → IsKnown (cond b (new ∷ rest) (first ∷ replaced tablet new rest)) other
+    go true is later =
+        known_by new rest other
+        (λ apart. behind (ap (λ (n : ℕ). n == other) (eqb-true first.tablet tablet is ∙ sym same) ∙ apart))
+    go false is later = known_by first (replaced tablet new rest) other later
 
 -- ---- what rows cover
 
@@ -165,6 +223,24 @@ terms_changed most rows tablet term phase below all =
     go : (found : Option Row) → AreTermsUpTo most (turned found rows tablet term phase)
     go None = all
     go (Some row) = all_replaced (λ r. r.term ≤ most) (at_phase row term phase) tablet rows below all
+
+-- all tablets are known that were
+pub known_changed : (rows : List Row) (tablet term : ℕ) (phase : Phase) (other : ℕ) → IsKnown rows other → IsKnown (changed_rows rows tablet term phase) other
+known_changed rows tablet term phase other known =
+    go (row_of rows tablet) refl
+  where
+    go : (found : Option Row) → row_of rows tablet ≡ found → IsKnown (turned found rows tablet term phase) other
+    go None found = known
+    go (Some row) found = known_replaced (at_phase row term phase) tablet rows other (number_of rows tablet row found) known
+
+-- where the tablet is known, its new term is one that they have
+pub term_changed : (most : ℕ) (rows : List Row) (tablet term : ℕ) (phase : Phase) → IsKnown rows tablet → AreTermsUpTo most (changed_rows rows tablet term phase) → term ≤ most
+term_changed most rows tablet term phase known all =
+    go (row_of rows tablet) refl known all
+  where
+    go : (found : Option Row) → row_of rows tablet ≡ found → is_some found ≡ true → AreTermsUpTo most (turned found rows tablet term phase) → term ≤ most
+    go None found some below = absurd (cc some)
+    go (Some row) found some below = replaced_has (λ r. r.term ≤ most) row (at_phase row term phase) tablet rows found below
 
 -- ---- one more row
 
@@ -300,3 +376,12 @@ terms_split_rows most rows tablet at new all =
         let old : row.term ≤ most = all_found (λ r. r.term ≤ most) row tablet rows found all in
         all_placed (λ r. r.term ≤ most) (upper_part row at new) (replaced tablet (lower_part row at) rows) old
         (all_replaced (λ r. r.term ≤ most) (lower_part row at) tablet rows old all)
+
+-- the new tablet has a row
+pub known_split : (rows : List Row) (tablet at new : ℕ) → IsKnown rows tablet → IsKnown (split_rows rows tablet at new) new
+known_split rows tablet at new known =
+    go (row_of rows tablet) known
+  where
+    go : (found : Option Row) → is_some found ≡ true → IsKnown (divided found rows tablet at new) new
+    go None some = absurd (cc some)
+    go (Some row) some = known_placed (upper_part row at new) (replaced tablet (lower_part row at) rows)
