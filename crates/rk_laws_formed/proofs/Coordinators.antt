@@ -1,6 +1,6 @@
 -- What the coordinator makes of a message, of its turn and of a tablet that begins to move: where the coordinator is well formed, it
 -- stays so, all that it sends is well formed, and what its rows covered is covered.
-use Rattle.std.proofs.Common.{◌≡◌, ◌≤◌, ◌+◌, ℕ, w8, w32, w64, Bool, true, false, cond, ◌==◌, List, [], ◌∷◌, ◌++◌, All, IfSome, find, Option, None, Some, refl, arith}
+use Rattle.std.proofs.Common.{◌≡◌, ◌≤◌, ◌+◌, ℕ, w8, w32, w64, Bool, true, false, cond, ◌==◌, List, [], ◌∷◌, ◌++◌, All, IfSome, find, map, Option, None, Some, refl, arith}
 use Rattle.std.specs.List.{AllByRecursion, flat_map}
 use Rattle.std.specs.Prelude.{unwrap_or}
 use Rattle.std.proofs.lemmas.List.Elements.{All-append, All-cons, All-head, All-nil, All-tail, recursion_from_All, All-weaker}
@@ -30,13 +30,16 @@ use Rattle.rk_message.specs.declared.message.Body.{Body}
 use Rattle.rk_message.specs.declared.message.Body.TheVariants as bodies
 use Rattle.rk_message.specs.declared.message.Message.{Message}
 use Rattle.rk_message.specs.declared.rebuilding.Rebuilt.{Rebuilt}
-use Rattle.rk_world.specs.Coordinator.{Coordinator, Handed, from_coordinator, is_noticed, new_row, owner_of, row_tenure, with_handed, with_phase, with_row, with_term}
+use Rattle.rk_world.specs.Coordinator.{Coordinator, Handed, from_coordinator, is_noticed, owner_of, row_tenure, with_handed, with_phase, with_row, with_term}
 use Rattle.rk_world.specs.CoordinatorStep.{Coordinated, about, answered, at_term, coordinator_step, coordinator_turn, joined_in, located, own_to, question, ready_in, rebuilt_in, release_to, report, row_duty, row_for, told_again, told_coordinator, transfer_in, unanswered}
 use Rattle.rk_world.specs.Formed.{IsFormedCoordinator, IsFormedHanded, IsFormedRow}
 use Rattle.rk_world.specs.Limits.{IsFormedBody, IsFormedEnd, IsFormedEnds, IsFormedMember, IsFormedMessage, IsFormedTenure, IsFormedTransfer, IsThere, Limits}
 use Rattle.rk_world.specs.Migrations.{migrating, row_migrated, tablet_migrated}
 use Rattle.rk_world.specs.Premises.{IsMaster}
-use Rattle.rk_laws_formed.proofs.Rows.{AreFormedRows, AreTermsUpTo, Cover, IsFormedPhase, all_found, all_placed, found_has, covered_changed, covered_placed, formed_changed_rows, formed_new_row, formed_placed, phase_of_formed, terms_below, terms_changed}
+use Rattle.rk_world.specs.Journal.{last_stamp}
+use Rattle.rk_world.specs.Ledger.{seen_of}
+use Rattle.rk_world.specs.World.{World, counters_of, standing}
+use Rattle.rk_laws_formed.proofs.Rows.{AreFormedRows, AreTermsUpTo, Cover, IsFormedPhase, all_found, all_placed, found_has, covered_changed, covered_placed, formed_changed_rows, formed_placed, phase_of_formed, terms_below, terms_changed}
 use Rattle.rk_laws_formed.proofs.Work.{AreLimits}
 
 -- ---- coordinators
@@ -591,3 +594,44 @@ module _ (limits : Limits) (coordinator : Coordinator) (formed : IsFormedCoordin
         all_placed (λ r. r.term ≤ most + 1) row coordinator.rows below
         (terms_below most (most + 1) coordinator.rows (omega arith) all);
   }
+
+-- ---- in a lane
+
+-- the first of all
+all_first : {X : Type 0} (P : X → Type 0) (xs ys : List X) → All P (xs ++ ys) → All P xs
+all_first P [] ys all = All-nil _
+all_first P (x ∷ xs) ys all =
+    All-cons P x xs (All-head P x (xs ++ ys) all) (all_first P xs ys (All-tail P x (xs ++ ys) all))
+
+-- the rest of all
+all_rest : {X : Type 0} (P : X → Type 0) (xs ys : List X) → All P (xs ++ ys) → All P ys
+all_rest P [] ys all = all
+all_rest P (x ∷ xs) ys all = all_rest P xs ys (All-tail P x (xs ++ ys) all)
+
+-- rows whose terms are bounded as numbers
+terms_of_numbers : (most : ℕ) (rows : List Row) → All (λ number. number ≤ most) (map (λ row. row.term) rows) → AreTermsUpTo most rows
+terms_of_numbers most [] all = All-nil _
+terms_of_numbers most (first ∷ rest) all =
+    let numbers = map (λ row. row.term) rest in
+    All-cons (λ row. row.term ≤ most) first rest (All-head (λ number. number ≤ most) first.term numbers all)
+    (terms_of_numbers most rest (All-tail (λ number. number ≤ most) first.term numbers all))
+
+-- where no number that stands in a lane is greater than the greatest, no term is
+pub standing_terms : (most : ℕ) (w : World) → All (λ number. number ≤ most) (standing w) → AreTermsUpTo most w.coordinator.rows
+standing_terms most w all =
+    terms_of_numbers most w.coordinator.rows
+    (all_rest Up seen terms (all_first Up (seen ++ terms) counters
+    (All-tail Up (last_stamp w.ledger.journal) ((seen ++ terms) ++ counters)
+    (All-tail Up w.wire.sent (last_stamp w.ledger.journal ∷ ((seen ++ terms) ++ counters)) all))))
+  where
+    Up : ℕ → Type 0
+    Up number = number ≤ most
+
+    seen : List ℕ
+    seen = map (λ entry. seen_of entry.1) w.ledger.clients
+
+    terms : List ℕ
+    terms = map (λ row. row.term) w.coordinator.rows
+
+    counters : List ℕ
+    counters = flat_map (λ entry. counters_of entry.1) w.masters

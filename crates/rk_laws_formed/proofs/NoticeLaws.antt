@@ -308,10 +308,12 @@ parts_shorter a b (first ∷ rest) =
 -- the order has no more masters than are noticed
 order_shorter : (rows : List Row) (dead : ℕ) (list : List ℕ) → length (notice_order rows dead list) ≤ length list
 order_shorter rows dead list =
-    omega (arith,
-    length-append (filter (λ master. not (is_named rows master)) list) (filter (is_other rows dead) list ++ filter (is_itself rows dead) list),
-    length-append (filter (is_other rows dead) list) (filter (is_itself rows dead) list),
-    parts_shorter (is_named rows) (λ master. master == dead) list)
+    omega (
+      arith,
+      length-append (filter (λ master. not (is_named rows master)) list) (filter (is_other rows dead) list ++ filter (is_itself rows dead) list),
+      length-append (filter (is_other rows dead) list) (filter (is_itself rows dead) list),
+      parts_shorter (is_named rows) (λ master. master == dead) list,
+    )
 
 -- ---- all notices
 
