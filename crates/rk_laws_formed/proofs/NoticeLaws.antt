@@ -342,23 +342,32 @@ module _ (limits : Limits) (living : ℕ) where
             (omega arith) (later.terms (most + 1) (first.terms most below));
       }
 
+module _ (limits : Limits) (living : ℕ) (coordinator : Coordinator) where
   -- a crash is noticed, where one of the masters is neither among the crashed nor noticed; a term rises by no more than have crashed
-  pub formed_coordinator_notice : (coordinator : Coordinator) (dead : ℕ) (crashed : List ℕ) → IsLeft limits coordinator living → All (IsGone limits living) crashed → IsFormedCoordinator limits coordinator → IsFormedNotice limits living (length crashed) coordinator (coordinator_notice coordinator dead crashed)
-  formed_coordinator_notice coordinator dead crashed left gone formed =
-      let is_new : ℕ → Bool = λ master. not (is_noticed coordinator master) in
-      let order = notice_order coordinator.rows dead (filter is_new crashed) in
-      let all_gone = order_has (IsGone limits living) coordinator.rows dead (filter is_new crashed) (All-filter is_new (IsGone limits living) crashed gone) in
-      let done = notices_are_formed order coordinator left all_gone formed in
-      record {
-        formed = done.formed;
-        masters = done.masters;
-        left = done.left;
-        covers = done.covers;
-        terms = λ most below.
-            terms_below (most + length order) (most + length crashed) (fold notice_one coordinator order).rows
-            (omega (arith, order_shorter coordinator.rows dead (filter is_new crashed), filter_shorter is_new crashed))
-            (done.terms most below);
-      }
+  pub formed_coordinator_notice : (dead : ℕ) (crashed : List ℕ) → IsLeft limits coordinator living → All (IsGone limits living) crashed → IsFormedCoordinator limits coordinator → IsFormedNotice limits living (length crashed) coordinator (coordinator_notice coordinator dead crashed)
+  formed_coordinator_notice dead crashed left gone formed = record {
+    formed = done.formed;
+    masters = done.masters;
+    left = done.left;
+    covers = done.covers;
+    terms = λ most below.
+        terms_below (most + length order) (most + length crashed) (fold notice_one coordinator order).rows
+        (omega (arith, order_shorter coordinator.rows dead fresh, filter_shorter (λ master. not (is_noticed coordinator master)) crashed))
+        (done.terms most below);
+  }
+    where
+      fresh : List ℕ
+      fresh = filter (λ master. not (is_noticed coordinator master)) crashed
+
+      order : List ℕ
+      order = notice_order coordinator.rows dead fresh
+
+      done : IsFormedNotice limits living (length order) coordinator (fold notice_one coordinator order)
+      done =
+          notices_are_formed limits living order coordinator left
+          (order_has (IsGone limits living) coordinator.rows dead fresh
+          (All-filter (λ master. not (is_noticed coordinator master)) (IsGone limits living) crashed gone))
+          formed
 
 -- all who are noticed after some were noticed, one after the other
 noticed_in_order : (P : ℕ → Type 0) (order : List ℕ) (coordinator : Coordinator) → All P coordinator.noticed → All P order → All P (fold notice_one coordinator order).noticed
@@ -439,7 +448,8 @@ formed_noticed limits w dead crashed are coordinator formed = record {
   formed = done.formed;
   masters = done.masters;
   noticed =
-      noticed_after_notice (λ master. has_crashed w master ≡ true) w.coordinator dead (crashed_masters w) formed.noticed (crashed_have_crashed w);
+      noticed_after_notice (λ master. has_crashed w master ≡ true) w.coordinator dead (crashed_masters w) formed.noticed
+      (crashed_have_crashed w);
   covers = done.covers;
   terms = λ most below.
       terms_below (most + length (crashed_masters w)) (most + w.coordinator.masters)
@@ -457,7 +467,9 @@ formed_noticed limits w dead crashed are coordinator formed = record {
     left = record {
       masters = are;
       there = subst (λ (count : ℕ). IsMaster count living) are some.there;
-      unnoticed = unnoticed_apart w.coordinator.noticed living (apart_from_all (has_crashed w) w.coordinator.noticed living formed.noticed some.lives);
+      unnoticed =
+          unnoticed_apart w.coordinator.noticed living
+          (apart_from_all (has_crashed w) w.coordinator.noticed living formed.noticed some.lives);
     }
 
     gone : All (IsGone limits living) (crashed_masters w)
