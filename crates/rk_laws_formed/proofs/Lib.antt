@@ -22,3 +22,7 @@ pub mod Counters
 pub mod MasterSteps
 pub mod Bytes
 pub mod Backups
+pub mod Rows
+pub mod Coordinators
+pub mod SplitLaws
+pub mod NoticeLaws
