@@ -1,2 +1,5 @@
 pub mod Work
 pub mod More
+pub mod Bounds
+pub mod Numbered
+pub mod Ledgers
