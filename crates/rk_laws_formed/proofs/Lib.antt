@@ -3,3 +3,4 @@ pub mod More
 pub mod Bounds
 pub mod Numbered
 pub mod Ledgers
+pub mod Wires
