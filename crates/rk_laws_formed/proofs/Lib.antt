@@ -4,3 +4,4 @@ pub mod Bounds
 pub mod Numbered
 pub mod Ledgers
 pub mod Wires
+pub mod Worlds
