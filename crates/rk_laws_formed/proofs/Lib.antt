@@ -5,3 +5,4 @@ pub mod Numbered
 pub mod Ledgers
 pub mod Wires
 pub mod Worlds
+pub mod Works

@@ -76,8 +76,7 @@ filled_with : (journal : List Placed) (reply : Reply) (place : ℕ) (found : Opt
 filled_with journal reply place None found are room lawful = lawful
 filled_with journal reply place (Some placed) found are room lawful =
     let within = slice_get_within journal place placed found in
-    let count = are.records in
-    (
+    let count = are.records in (
       lawful.0,
       fitting placed.stamp (last_stamp journal) (all_got (λ one. one.stamp ≤ last_stamp journal) journal place placed found are.stamps) room,
       fitting place (last_stamp journal) (omega arith) room,

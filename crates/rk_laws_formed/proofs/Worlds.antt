@@ -1,6 +1,6 @@
 -- A world that keeps to limits: what is well formed keeps to wider limits, and so do the changes of a lane; a world that keeps to the
 -- limits that its greatest number gives it is well formed.
-use Rattle.std.proofs.Common.{◌≡◌, ◌≤◌, ℕ, suc, max, true, false, ◌||◌, cond, List, [], ◌∷◌, ◌++◌, length, map, All, Option, None, Some, is_some, refl, sym, ap, subst, ◌∙◌, ⊎_elim, arith}
+use Rattle.std.proofs.Common.{◌≡◌, ◌≤◌, ◌<◌, ℕ, suc, max, true, false, ◌||◌, cond, List, [], ◌∷◌, ◌++◌, length, map, All, Option, None, Some, is_some, refl, sym, ap, subst, ◌∙◌, ⊎_elim, arith}
 use Rattle.std.specs.Prelude.{nat_eq, unwrap_or}
 use Rattle.std.specs.Cmp.{nat_eq_equiv, unsigned_tied}
 use Rattle.std.specs.List.{flat_map, list_any, range_with_len}
@@ -16,7 +16,6 @@ use Rattle.rk_log.specs.declared.copied.TheConstants.{MOST_BACKUPS}
 use Rattle.rk_tablet_map.specs.Rows.{is_covered}
 use Rattle.rk_message.specs.Wire.{Traffic}
 use Rattle.rk_message.specs.declared.message.Message.{Message}
-use Rattle.rk_outside.specs.Segments.{Segments}
 use Rattle.rk_world.specs.Coordinator.{Coordinator}
 use Rattle.rk_world.specs.Formed.{IsFormedCoordinator, IsFormedLedger, IsFormedMaster, IsFormedWire, IsWellFormed, MOST_BASE_CLIENTS, SomeLives}
 use Rattle.rk_world.specs.Journal.{last_stamp}
@@ -25,7 +24,8 @@ use Rattle.rk_world.specs.Limits.{IsClient, IsFormedMessage, Limits, base_client
 use Rattle.rk_entry.specs.Lists.{is_among}
 use Rattle.rk_world.specs.Master.{Master, log_bytes, new_master}
 use Rattle.rk_world.specs.Premises.{IsMaster, MOST_MASTERS}
-use Rattle.rk_world.specs.Room.{HasRoom}
+use Rattle.rk_world.specs.Refusals.{MOST_CLIENTS}
+use Rattle.rk_world.specs.Room.{HasRoom, MOST_NUMBER}
 use Rattle.rk_world.specs.World.{World, counters_of, greatest, has_crashed, master_at, standing, with_all_sent, with_coordinator, with_crash, with_ledger, with_master, with_top, with_wire}
 use Rattle.rk_laws_formed.proofs.Bounds.{all_back, all_before, all_front, all_given, all_in_map, below_greatest, within_sum_of}
 use Rattle.rk_laws_formed.proofs.More.{IsMore, more_coordinator, more_ledger, more_master, more_master_number, more_wire}
@@ -63,10 +63,10 @@ added_is_client w top client added =
     ∙ or_left (is_among client (numbers w.ledger.clients)) (is_among client (base_clients w.base))
     (among_numbers w.ledger.clients client ∙ added)
 
--- a lane's limits are wider with a ledger that has its clients and with a greater greatest number
-pub more_limits : (w : World) (ledger : Ledger) (top : ℕ) → HasClientsOf ledger w.ledger → w.top ≤ top → IsMore (limits_of w) (limits_at (with_ledger w ledger) top)
-more_limits w ledger top has greater = record {
-  masters = refl;
+-- a lane's limits are wider with another coordinator of the same masters, a ledger that has its clients, and a greater greatest number
+pub more_limits : (w : World) (coordinator : Coordinator) (ledger : Ledger) (top : ℕ) → w.coordinator.masters ≡ coordinator.masters → HasClientsOf ledger w.ledger → w.top ≤ top → IsMore (limits_of w) (limits_at (with_ledger (with_coordinator w coordinator) ledger) top)
+more_limits w coordinator ledger top same has greater = record {
+  masters = same;
   backups = refl;
   top = greater;
   clients = λ client known.
@@ -83,20 +83,24 @@ more_limits w ledger top has greater = record {
       (cases_Bool (is_among client (numbers w.ledger.clients)));
 }
 
+-- these are limits that a lane may have, where there are few clients and the greatest number fits
+pub limits_with : (w : World) (coordinator : Coordinator) (ledger : Ledger) (top : ℕ) → w.coordinator.masters ≡ coordinator.masters → length ledger.clients ≤ MOST_CLIENTS → top < MOST_NUMBER → IsWellFormed w → AreLimits (limits_at (with_ledger (with_coordinator w coordinator) ledger) top)
+limits_with w coordinator ledger top same few room formed =
+    let base = formed.few_base_clients in
+    let both = length-append (numbers ledger.clients) (base_clients w.base) in
+    let added = length_numbers ledger.clients in
+    record {
+      masters = subst (λ (count : ℕ). count ≤ MOST_MASTERS) same formed.few_masters;
+      backed = formed.backed;
+      backups = formed.few_backups;
+      top = room;
+      clients = omega arith;
+    }
+
 -- a lane that is well formed and has room has limits that a lane may have
 pub formed_limits : (w : World) → IsWellFormed w → HasRoom w → AreLimits (limits_of w)
 formed_limits w formed room =
-    let few = formed.ledger.few in
-    let base = formed.few_base_clients in
-    let both = length-append (numbers w.ledger.clients) (base_clients w.base) in
-    let added = length_numbers w.ledger.clients in
-    record {
-      masters = formed.few_masters;
-      backed = formed.backed;
-      backups = formed.few_backups;
-      top = room.number;
-      clients = omega arith;
-    }
+    limits_with w w.coordinator w.ledger w.top refl formed.ledger.few room.number formed
 
 -- ---- what stands
 
@@ -327,24 +331,6 @@ module _ (limits : Limits) (w : World) (formed : IsFormedWorld limits w) where
   pub kept_with_all_sent : (messages : List Message) → All (IsFormedMessage limits) messages → IsFormedWorld limits (with_all_sent w messages)
   kept_with_all_sent messages all =
       kept_with_wire (with_all_sent w messages).wire (wire_of_all limits w.wire messages formed.wire all)
-
-  -- the backups store other segments
-  pub kept_with_backups : (backups : NumberMap Segments) → IsFormedWorld limits (record w { backups = backups })
-  kept_with_backups backups = record {
-    masters_are = formed.masters_are;
-    few_masters = formed.few_masters;
-    backed = formed.backed;
-    few_backups = formed.few_backups;
-    masters = formed.masters;
-    coordinator = formed.coordinator;
-    ledger = formed.ledger;
-    wire = formed.wire;
-    crashed = formed.crashed;
-    left = formed.left;
-    noticed = formed.noticed;
-    base = formed.base;
-    few_base_clients = formed.few_base_clients;
-  }
 
   -- a master stops while another one is left
   pub kept_with_crash : (master : ℕ) → IsMaster limits.masters master → SomeIsLeft limits.masters (w.crashed ++ master ∷ []) → IsFormedWorld limits (with_crash w master)
