@@ -6,3 +6,4 @@ pub mod Ledgers
 pub mod Wires
 pub mod Worlds
 pub mod Works
+pub mod Events

@@ -39,7 +39,7 @@ same_clients ledger later same client added =
     subst (λ clients. is_added (record later { clients = clients }) client ≡ true) (sym same) added
 
 -- the greatest number does not fall
-top_rises : (w : World) → w.top ≤ (with_top w).top
+pub top_rises : (w : World) → w.top ≤ (with_top w).top
 top_rises w = omega arith
 
 -- ---- nothing is sent
@@ -62,6 +62,15 @@ formed_sending_all w messages all formed =
     (more_limits w w.coordinator w.ledger (with_sends w messages).world.top refl (λ client added. added) (top_rises (with_all_sent w messages)))
     formed)
     messages all)
+
+-- so it is with messages that are well formed within the limits before it
+pub formed_sending_old : (w : World) (messages : List Message) → All (IsFormedMessage (limits_of w)) messages → IsWellFormed w → IsWellFormed (with_sends w messages).world
+formed_sending_old w messages all formed =
+    formed_sending_all w messages
+    (more_messages (limits_of w) (limits_of (with_sends w messages).world)
+    (more_limits w w.coordinator w.ledger (with_sends w messages).world.top refl (λ client added. added) (top_rises (with_all_sent w messages)))
+    messages all)
+    formed
 
 -- ---- a master has worked
 
@@ -274,11 +283,7 @@ pub formed_backed : (w : World) (backed : Backed) → All (IsFormedMessage (limi
 formed_backed w backed all formed =
     elim (backed.lost) as (λ b. IsWellFormed (cond b (losing w) (with_sends w backed.sends)).world) [
       | true ↦ formed_losing w formed
-      | false ↦ formed_sending_all w backed.sends
-          (more_messages (limits_of w) (limits_of (with_sends w backed.sends).world)
-          (more_limits w w.coordinator w.ledger (with_sends w backed.sends).world.top refl (λ client added. added) (top_rises (with_all_sent w backed.sends)))
-          backed.sends all)
-          formed
+      | false ↦ formed_sending_old w backed.sends all formed
     ]
 
 -- so it does when a message reaches a backup that answers what is well formed
