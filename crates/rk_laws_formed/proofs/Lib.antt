@@ -7,3 +7,4 @@ pub mod Wires
 pub mod Worlds
 pub mod Works
 pub mod Events
+pub mod Sessions
