@@ -33,16 +33,16 @@ use Rattle.rk_laws_formed.proofs.Worlds.{HasClientsOf, IsFormedWorld, SomeIsLeft
 -- ---- what is not refused
 
 -- where of two causes there is none, there is no first one
-no_first : {X : Type 0} (first second : Option X) → option_or first second ≡ None → first ≡ None
+pub no_first : {X : Type 0} (first second : Option X) → option_or first second ≡ None → first ≡ None
 no_first None second none = refl
 no_first (Some x) second none = absurd (cc none)
 
 -- and no second one
-no_second : {X : Type 0} (first second : Option X) → option_or first second ≡ None → second ≡ None
+pub no_second : {X : Type 0} (first second : Option X) → option_or first second ≡ None → second ≡ None
 no_second None second none = none
 no_second (Some x) second none = absurd (cc none)
 
-no_inner : {X Y : Type 0} (change : X → Y) (inner : Option X) → option_map change inner ≡ None → inner ≡ None
+pub no_inner : {X Y : Type 0} (change : X → Y) (inner : Option X) → option_map change inner ≡ None → inner ≡ None
 no_inner change None none = refl
 no_inner change (Some x) none = absurd (cc none)
 

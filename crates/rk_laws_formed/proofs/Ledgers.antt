@@ -78,6 +78,10 @@ last_accepted stamp (first ∷ rest) zero placed found =
     ap (λ (one : Placed). last_stamp_from one.stamp rest) (sym is)
 last_accepted stamp (first ∷ rest) (suc place) placed found = last_accepted first.stamp rest place placed found
 
+pub last_stamp_accepted : (journal : List Placed) (place : ℕ) (found : Option Placed) → slice_get journal place ≡ found → last_stamp (accepted_at journal place found) ≡ last_stamp journal
+last_stamp_accepted journal place None found = refl
+last_stamp_accepted journal place (Some placed) found = last_accepted 0 journal place placed found
+
 -- and so do the stamps
 pub stamps_accepted : (journal : List Placed) (place : ℕ) (found : Option Placed) → slice_get journal place ≡ found → AreStamps journal → AreStamps (accepted_at journal place found)
 stamps_accepted journal place None found are = are

@@ -8,3 +8,4 @@ pub mod Worlds
 pub mod Works
 pub mod Events
 pub mod Sessions
+pub mod Asks

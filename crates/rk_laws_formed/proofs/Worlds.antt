@@ -118,15 +118,15 @@ top_is_limit w =
     under n top greatest below = omega arith
 
 -- what the clients of a lane had seen when they asked
-abbrev stamps_seen : World → List ℕ
+abbrev pub stamps_seen : World → List ℕ
 stamps_seen w = map (λ entry. seen_of entry.1) w.ledger.clients
 
 -- the terms of its rows
-abbrev terms_in : World → List ℕ
+abbrev pub terms_in : World → List ℕ
 terms_in w = map (λ row. row.term) w.coordinator.rows
 
 -- the counters of all tablets
-abbrev counters_in : World → List ℕ
+abbrev pub counters_in : World → List ℕ
 counters_in w = flat_map (λ entry. counters_of entry.1) w.masters
 
 module _ (w : World) (limit : ℕ) (all : IsLimit limit w) where
