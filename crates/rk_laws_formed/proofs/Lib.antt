@@ -9,3 +9,4 @@ pub mod Works
 pub mod Events
 pub mod Sessions
 pub mod Asks
+pub mod Rises
