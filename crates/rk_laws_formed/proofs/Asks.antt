@@ -88,7 +88,7 @@ added_asked ledger session call client added =
     ]
 
 -- the clients stay when a request is saved
-clients_requested : (ledger : Ledger) (client : ℕ) (message : Message) (body : Body) → (ledger_requested ledger client message body).clients ≡ ledger.clients
+pub clients_requested : (ledger : Ledger) (client : ℕ) (message : Message) (body : Body) → (ledger_requested ledger client message body).clients ≡ ledger.clients
 clients_requested ledger client message (bodies.Request request) = refl
 clients_requested ledger client message body = refl
 
@@ -101,11 +101,11 @@ requested_is_formed limits w ledger client message body new formed = formed
 -- ---- a client asks
 
 module _ (w : World) (session : Session) (call : Call) (turned : ClientTurn) where
-  abbrev asked_ledger : Ledger
+  abbrev pub asked_ledger : Ledger
   asked_ledger =
       ledger_requested (ledger_asked w.ledger session call) session.client turned.message turned.message.body
 
-  abbrev after_asking : World
+  abbrev pub after_asking : World
   after_asking = (with_sends (with_ledger w asked_ledger) (turned.message ∷ [])).world
 
   asked_has : HasClientsOf asked_ledger w.ledger

@@ -60,7 +60,7 @@ has_no_fault w event none =
     ] none
 
 -- a number that is not too great is below the limit
-not_too_great : (limit number : ℕ) → too_great limit number ≡ None → number < limit
+pub not_too_great : (limit number : ℕ) → too_great limit number ≡ None → number < limit
 not_too_great limit number none = go (nat_le limit number) refl none
   where
     go : (b : Bool) → nat_le limit number ≡ b → cond b (Some number) None ≡ None → number < limit

@@ -10,3 +10,4 @@ pub mod Events
 pub mod Sessions
 pub mod Asks
 pub mod Rises
+pub mod Rooms

@@ -30,7 +30,7 @@ use Rattle.rk_laws_formed.proofs.Ledgers.{clients_rebuilt, clients_served, last_
 use Rattle.rk_laws_formed.proofs.Worlds.{counters_in, seen_within, sent_within, stamp_within, stamps_seen, terms_in, terms_within}
 
 -- what holds of each thing of a map, and of another one, holds of each with that one too
-all_inserted : {X : Type 0} (P : X → Type 0) (things : NumberMap X) (number : ℕ) (thing : X) → P thing → All (λ entry. P entry.1) things → All (λ entry. P entry.1) (insert things number thing)
+pub all_inserted : {X : Type 0} (P : X → Type 0) (things : NumberMap X) (number : ℕ) (thing : X) → P thing → All (λ entry. P entry.1) things → All (λ entry. P entry.1) (insert things number thing)
 all_inserted P [] number thing new all = All-cons (λ entry. P entry.1) (number, thing) [] new all
 all_inserted P (first ∷ rest) number thing new all =
     elim (nat_cmp number first.0) as (λ o. All (λ entry. P entry.1) (by_order o ((number, thing) ∷ first ∷ rest) ((first.0, thing) ∷ rest) (first ∷ insert rest number thing))) [
