@@ -2,10 +2,8 @@
 -- it.
 use Rattle.std.proofs.Common.{◌≡◌, ◌≤◌, ◌<◌, ℕ, true, false, cond, List, length, map, All, Option, None, Some, refl, sym, subst, arith}
 use Rattle.rk_types.proofs.NumberMaps.{get_same}
-use Rattle.rk_types.specs.Hashing.{hash_of}
 use Rattle.rk_types.specs.NumberMap.{get}
 use Rattle.rk_outside.specs.Segments.{Segments}
-use Rattle.rk_tablet_map.specs.Rows.{is_covered}
 use Rattle.rk_message.specs.declared.message.Message.{Message}
 use Rattle.rk_message.specs.declared.rebuilding.Rebuilt.{Rebuilt}
 use Rattle.rk_types.specs.declared.node.Node.{Node}
@@ -13,7 +11,7 @@ use Rattle.rk_message.specs.declared.message.Body.{Body}
 use Rattle.rk_world.specs.Master.{Master}
 use Rattle.rk_world.specs.Backup.{Backed, Called, backup_step, stored_after}
 use Rattle.rk_world.specs.Coordinator.{Coordinator}
-use Rattle.rk_world.specs.Formed.{IsFormedCoordinator, IsFormedLedger, IsFormedMaster, IsWellFormed}
+use Rattle.rk_world.specs.Formed.{IsFormedLedger, IsFormedMaster, IsWellFormed}
 use Rattle.rk_world.specs.Journal.{last_stamp}
 use Rattle.rk_world.specs.Refusals.{MOST_CLIENTS}
 use Rattle.rk_world.specs.Ledger.{Ledger, is_added, with_rebuilt}
@@ -28,10 +26,10 @@ use Rattle.rk_types.specs.declared.node.Node.TheVariants as nodes
 use Rattle.rk_world.specs.Worked.{Worked}
 use Rattle.rk_world.specs.World.{World, has_crashed, is_backup, master_at, with_all_sent, with_coordinator, with_ledger, with_master, with_stored_by, with_top}
 use Rattle.rk_laws_formed.proofs.Ledgers.{clients_rebuilt, clients_served, formed_ledger_after, formed_rebuilt}
-use Rattle.rk_laws_formed.proofs.More.{IsMore, more_master, more_message, more_messages}
+use Rattle.rk_laws_formed.proofs.More.{IsMore, more_coordinator, more_master, more_message, more_messages}
 use Rattle.rk_laws_formed.proofs.Wires.{all_filled}
 use Rattle.rk_laws_formed.proofs.Work.{AreLimits, HasRoomFor, IsFormedWork}
-use Rattle.rk_laws_formed.proofs.Worlds.{HasClientsOf, IsFormedWorld, formed_topped, formed_within, kept_with_all_sent, kept_with_coordinator, kept_with_ledger, kept_with_master, limits_with, master_of, more_limits, room_of_master, stamp_within, terms_within, top_is_limit}
+use Rattle.rk_laws_formed.proofs.Worlds.{HasClientsOf, IsFormedWorld, MayCoordinate, formed_topped, formed_within, kept_with_all_sent, kept_with_coordinator, kept_with_ledger, kept_with_master, limits_with, master_of, more_limits, room_of_master, stamp_within, terms_within, top_is_limit}
 
 -- a ledger with the same clients has the clients
 same_clients : (ledger later : Ledger) → later.clients ≡ ledger.clients → HasClientsOf later ledger
@@ -76,7 +74,7 @@ formed_sending_old w messages all formed =
 
 module _ (w : World) (number seen : ℕ) (worked : Worked) where
   -- the world after it
-  abbrev after_work : World
+  abbrev pub after_work : World
   after_work = (worked_at w number seen worked).world
 
   -- the world with the master and the ledger after it
@@ -186,13 +184,22 @@ formed_master_turn w number there works room formed =
 
 -- ---- the coordinator has worked
 
+-- a coordinator that may stand in a lane may where the limits are wider
+may_still : (w : World) (coordinator : Coordinator) (limits : Limits) → IsMore (limits_of w) limits → MayCoordinate (limits_of w) w coordinator → MayCoordinate limits w coordinator
+may_still w coordinator limits more may = record {
+  formed = more_coordinator (limits_of w) limits more coordinator may.formed;
+  masters = may.masters;
+  noticed = may.noticed;
+  base = may.base;
+}
+
 module _ (w : World) (coordinator : Coordinator) (rebuilt : Option Rebuilt) (sends : List Message) where
   -- the world with the coordinator and the ledger after it
   abbrev now_coordinated : World
   now_coordinated = with_ledger (with_coordinator w coordinator) (with_rebuilt w.ledger rebuilt)
 
   -- the world after it
-  abbrev after_coordinated : World
+  abbrev pub after_coordinated : World
   after_coordinated = (with_sends now_coordinated sends).world
 
   -- its limits are wider
@@ -215,23 +222,32 @@ module _ (w : World) (coordinator : Coordinator) (rebuilt : Option Rebuilt) (sen
       terms_within after_coordinated after_coordinated.top (top_is_limit (with_all_sent now_coordinated sends))
 
   -- and the world after it is well formed
-  pub formed_coordinated : w.coordinator.masters ≡ coordinator.masters → IsFormedCoordinator (limits_of after_coordinated) coordinator → All (λ master. has_crashed w master ≡ true) coordinator.noticed → All (λ item. is_covered coordinator.rows item.table (hash_of item.key) ≡ true) w.base.items → All (IsFormedMessage (limits_of after_coordinated)) sends → IsWellFormed w → IsWellFormed after_coordinated
-  formed_coordinated same new noticed base all formed =
+  pub formed_coordinated : MayCoordinate (limits_of after_coordinated) w coordinator → All (IsFormedMessage (limits_of after_coordinated)) sends → IsWellFormed w → IsWellFormed after_coordinated
+  formed_coordinated new all formed =
       formed_topped (with_all_sent now_coordinated sends)
       (kept_with_all_sent (limits_of after_coordinated) now_coordinated
       (kept_with_ledger (limits_of after_coordinated) (with_coordinator w coordinator)
-      (kept_with_coordinator (limits_of after_coordinated) w before coordinator new noticed base)
+      (kept_with_coordinator (limits_of after_coordinated) w before coordinator new)
       (with_rebuilt w.ledger rebuilt)
       (formed_rebuilt (limits_of after_coordinated) w.base w.lane w.ledger rebuilt before.ledger))
       sends all)
     where
       before : IsFormedWorld (limits_of after_coordinated) w
-      before = formed_within w (limits_of after_coordinated) (more_coordinated same) formed
+      before = formed_within w (limits_of after_coordinated) (more_coordinated new.masters) formed
+
+  -- so it is where what the coordinator made is well formed within the limits before it
+  pub formed_coordinated_old : MayCoordinate (limits_of w) w coordinator → All (IsFormedMessage (limits_of w)) sends → IsWellFormed w → IsWellFormed after_coordinated
+  formed_coordinated_old new all formed =
+      formed_coordinated (may_still w coordinator (limits_of after_coordinated) more new)
+      (more_messages (limits_of w) (limits_of after_coordinated) more sends all) formed
+    where
+      more : IsMore (limits_of w) (limits_of after_coordinated)
+      more = more_coordinated new.masters
 
 -- an event leaves a lane with another coordinator
 module _ (w : World) (coordinator : Coordinator) where
   -- the world after it
-  abbrev after_quiet : World
+  abbrev pub after_quiet : World
   after_quiet = (quietly (with_coordinator w coordinator)).world
 
   -- its limits are wider
@@ -249,10 +265,51 @@ module _ (w : World) (coordinator : Coordinator) where
   terms_with_coordinator = terms_within after_quiet after_quiet.top (top_is_limit (with_coordinator w coordinator))
 
   -- and the world after it is well formed
-  pub formed_with_coordinator : w.coordinator.masters ≡ coordinator.masters → IsFormedCoordinator (limits_of after_quiet) coordinator → All (λ master. has_crashed w master ≡ true) coordinator.noticed → All (λ item. is_covered coordinator.rows item.table (hash_of item.key) ≡ true) w.base.items → IsWellFormed w → IsWellFormed after_quiet
-  formed_with_coordinator same new noticed base formed =
+  pub formed_with_coordinator : MayCoordinate (limits_of after_quiet) w coordinator → IsWellFormed w → IsWellFormed after_quiet
+  formed_with_coordinator new formed =
       formed_topped (with_coordinator w coordinator)
-      (kept_with_coordinator (limits_of after_quiet) w (formed_within w (limits_of after_quiet) (more_with_coordinator same) formed) coordinator new noticed base)
+      (kept_with_coordinator (limits_of after_quiet) w
+      (formed_within w (limits_of after_quiet) (more_with_coordinator new.masters) formed)
+      coordinator new)
+
+  -- so it is where the coordinator is well formed within the limits before it
+  pub formed_with_coordinator_old : MayCoordinate (limits_of w) w coordinator → IsWellFormed w → IsWellFormed after_quiet
+  formed_with_coordinator_old new formed =
+      formed_with_coordinator
+      (may_still w coordinator (limits_of after_quiet) (more_with_coordinator new.masters) new) formed
+
+-- ---- a master and the coordinator are so, as once a tablet was added or split
+
+module _ (w : World) (number : ℕ) (master : Master) (coordinator : Coordinator) where
+  -- the world after it
+  abbrev pub after_both : World
+  after_both = (quietly (with_coordinator (with_master w number master) coordinator)).world
+
+  -- its limits are wider
+  pub more_with_both : w.coordinator.masters ≡ coordinator.masters → IsMore (limits_of w) (limits_of after_both)
+  more_with_both same =
+      more_limits w coordinator w.ledger after_both.top same (λ client added. added)
+      (top_rises (with_coordinator (with_master w number master) coordinator))
+
+  -- they are limits that a lane may have
+  pub limits_with_both : w.coordinator.masters ≡ coordinator.masters → IsWellFormed w → HasRoom after_both → AreLimits (limits_of after_both)
+  limits_with_both same formed room =
+      limits_with w coordinator w.ledger after_both.top same formed.ledger.few room.number formed
+
+  -- each term is within them
+  pub terms_with_both : All (λ row. row.term ≤ after_both.top) coordinator.rows
+  terms_with_both =
+      terms_within after_both after_both.top (top_is_limit (with_coordinator (with_master w number master) coordinator))
+
+  -- and the world after it is well formed
+  pub formed_with_both : IsMaster w.coordinator.masters number → IsFormedMaster (limits_of after_both) number master → MayCoordinate (limits_of after_both) w coordinator → IsWellFormed w → IsWellFormed after_both
+  formed_with_both there new_master new formed =
+      formed_topped (with_coordinator (with_master w number master) coordinator)
+      (kept_with_coordinator (limits_of after_both) (with_master w number master)
+      (kept_with_master (limits_of after_both) w
+      (formed_within w (limits_of after_both) (more_with_both new.masters) formed)
+      number master (subst (λ (count : ℕ). IsMaster count number) new.masters there) new_master)
+      coordinator (record { formed = new.formed; masters = new.masters; noticed = new.noticed; base = new.base }))
 
 -- ---- a backup has worked
 

@@ -14,6 +14,7 @@ use Rattle.rk_types.specs.Hashing.{hash_of}
 use Rattle.rk_types.specs.NumberMap.{EachIn, NumberMap, get, numbers}
 use Rattle.rk_log.specs.declared.copied.TheConstants.{MOST_BACKUPS}
 use Rattle.rk_tablet_map.specs.Rows.{is_covered}
+use Rattle.rk_tablet_map.specs.declared.row.Row.{Row}
 use Rattle.rk_message.specs.Wire.{Traffic}
 use Rattle.rk_message.specs.declared.message.Message.{Message}
 use Rattle.rk_world.specs.Coordinator.{Coordinator}
@@ -96,6 +97,11 @@ limits_with w coordinator ledger top same few room formed =
       top = room;
       clients = omega arith;
     }
+
+-- so it is with a lane's own ones where its greatest number fits
+pub limits_before : (w : World) (top : ℕ) → w.top ≤ top → top < MOST_NUMBER → IsWellFormed w → AreLimits (limits_of w)
+limits_before w top within room formed =
+    limits_with w w.coordinator w.ledger w.top refl formed.ledger.few (omega arith) formed
 
 -- a lane that is well formed and has room has limits that a lane may have
 pub formed_limits : (w : World) → IsWellFormed w → HasRoom w → AreLimits (limits_of w)
@@ -252,6 +258,33 @@ formed_topped w kept = record {
   standing = top_is_limit w;
 }
 
+-- rows cover what a history starts from
+abbrev pub CoversBase : World → List Row → Type 0
+CoversBase w rows = All (λ item. is_covered rows item.table (hash_of item.key) ≡ true) w.base.items
+
+-- a coordinator that may stand in a lane: it is well formed within limits and counts the lane's masters, who was noticed has crashed,
+-- and the rows cover what the history starts from
+pub record MayCoordinate (limits : Limits) (w : World) (coordinator : Coordinator) : Type 0 where
+  pub formed : IsFormedCoordinator limits coordinator
+  pub masters : w.coordinator.masters ≡ coordinator.masters
+  pub noticed : All (λ master. has_crashed w master ≡ true) coordinator.noticed
+  pub base : CoversBase w coordinator.rows
+
+-- rows that cover what was covered cover what the history starts from
+pub base_covered : (w : World) (rows : List Row) → ((table hash : ℕ) → is_covered w.coordinator.rows table hash ≡ true → is_covered rows table hash ≡ true) → IsWellFormed w → CoversBase w rows
+base_covered w rows covers formed =
+    All-weaker (λ item. is_covered w.coordinator.rows item.table (hash_of item.key) ≡ true) (λ item. is_covered rows item.table (hash_of item.key) ≡ true)
+    (λ item covered. covers item.table (hash_of item.key) covered) w.base.items formed.base
+
+-- so it may where it noticed no more masters than before, and covers what was covered
+pub may_coordinate : (limits : Limits) (w : World) (coordinator : Coordinator) → IsFormedCoordinator limits coordinator → w.coordinator.masters ≡ coordinator.masters → coordinator.noticed ≡ w.coordinator.noticed → ((table hash : ℕ) → is_covered w.coordinator.rows table hash ≡ true → is_covered coordinator.rows table hash ≡ true) → IsWellFormed w → MayCoordinate limits w coordinator
+may_coordinate limits w coordinator new masters noticed covers formed = record {
+  formed = new;
+  masters = masters;
+  noticed = subst (All (λ master. has_crashed w master ≡ true)) (sym noticed) formed.noticed;
+  base = base_covered w coordinator.rows covers formed;
+}
+
 -- ---- changes of a world that keeps to limits
 
 module _ (limits : Limits) (w : World) (formed : IsFormedWorld limits w) where
@@ -273,21 +306,21 @@ module _ (limits : Limits) (w : World) (formed : IsFormedWorld limits w) where
     few_base_clients = formed.few_base_clients;
   }
 
-  -- the coordinator is so: who was noticed has crashed, and the rows cover what the history starts from
-  pub kept_with_coordinator : (coordinator : Coordinator) → IsFormedCoordinator limits coordinator → All (λ master. has_crashed w master ≡ true) coordinator.noticed → All (λ item. is_covered coordinator.rows item.table (hash_of item.key) ≡ true) w.base.items → IsFormedWorld limits (with_coordinator w coordinator)
-  kept_with_coordinator coordinator new noticed base = record {
+  -- the coordinator is so
+  pub kept_with_coordinator : (coordinator : Coordinator) → MayCoordinate limits w coordinator → IsFormedWorld limits (with_coordinator w coordinator)
+  kept_with_coordinator coordinator new = record {
     masters_are = formed.masters_are;
     few_masters = formed.few_masters;
     backed = formed.backed;
     few_backups = formed.few_backups;
     masters = formed.masters;
-    coordinator = new;
+    coordinator = new.formed;
     ledger = formed.ledger;
     wire = formed.wire;
     crashed = formed.crashed;
     left = formed.left;
-    noticed = noticed;
-    base = base;
+    noticed = new.noticed;
+    base = new.base;
     few_base_clients = formed.few_base_clients;
   }
 
