@@ -26,3 +26,15 @@ pub mod Rows
 pub mod Coordinators
 pub mod SplitLaws
 pub mod NoticeLaws
+pub mod More
+pub mod Bounds
+pub mod Numbered
+pub mod Ledgers
+pub mod Wires
+pub mod Worlds
+pub mod Works
+pub mod Events
+pub mod Sessions
+pub mod Asks
+pub mod Rises
+pub mod Rooms
