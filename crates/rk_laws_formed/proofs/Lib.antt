@@ -11,3 +11,4 @@ pub mod Sessions
 pub mod Asks
 pub mod Rises
 pub mod Rooms
+pub mod Happenings
