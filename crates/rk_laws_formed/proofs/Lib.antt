@@ -38,3 +38,4 @@ pub mod Sessions
 pub mod Asks
 pub mod Rises
 pub mod Rooms
+pub mod Happenings
