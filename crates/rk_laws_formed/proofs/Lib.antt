@@ -39,3 +39,4 @@ pub mod Asks
 pub mod Rises
 pub mod Rooms
 pub mod Happenings
+pub mod Whole

@@ -146,7 +146,7 @@ module _ (w : World) (number seen : ℕ) (worked : Worked) where
 -- what a master makes of a message, in any lane
 abbrev pub StepIsFormed : ℕ → Master → Message → Type 0
 StepIsFormed number master message =
-    (limits : Limits) → AreLimits limits → IsFormedMaster limits number master → IsFormedMessage limits message →
+    (limits : Limits) → AreLimits limits → IsMaster limits.masters number → IsFormedMaster limits number master → IsFormedMessage limits message →
     HasRoomFor limits (master_step master message).master → IsFormedWork limits number (master_step master message)
 
 -- a lane stays well formed when a message reaches a master
@@ -157,7 +157,7 @@ formed_to_master w number message there says works room formed =
       | false ↦ λ room_left.
           formed_by_work w number (seen_in message.body) worked there
           (λ limits master fits.
-          works (limits_of taken.world) limits master
+          works (limits_of taken.world) limits there master
           (more_message (limits_of w) (limits_of taken.world) (more_worked w number (seen_in message.body) worked) message says)
           fits)
           room_left formed
@@ -172,14 +172,14 @@ formed_to_master w number message there says works room formed =
 -- what a master makes of its turn, in any lane
 abbrev pub TurnIsFormed : ℕ → Master → Type 0
 TurnIsFormed number master =
-    (limits : Limits) → AreLimits limits → IsFormedMaster limits number master →
+    (limits : Limits) → AreLimits limits → IsMaster limits.masters number → IsFormedMaster limits number master →
     HasRoomFor limits (master_turn master).master → IsFormedWork limits number (master_turn master)
 
 -- and when a master takes its turn
 pub formed_master_turn : (w : World) (number : ℕ) → IsMaster w.coordinator.masters number → TurnIsFormed number (master_at w number) → HasRoom (turned w (nodes.Master number)).world → IsWellFormed w → IsWellFormed (turned w (nodes.Master number)).world
 formed_master_turn w number there works room formed =
     formed_by_work w number 0 (master_turn (master_at w number)) there
-    (works (limits_of (turned w (nodes.Master number)).world))
+    (λ limits master fits. works (limits_of (turned w (nodes.Master number)).world) limits there master fits)
     room formed
 
 -- ---- the coordinator has worked
