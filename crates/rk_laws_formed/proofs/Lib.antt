@@ -12,3 +12,4 @@ pub mod Asks
 pub mod Rises
 pub mod Rooms
 pub mod Happenings
+pub mod New

@@ -280,14 +280,15 @@ base_covered w rows covers formed =
     All-weaker (λ item. is_covered w.coordinator.rows item.table (hash_of item.key) ≡ true) (λ item. is_covered rows item.table (hash_of item.key) ≡ true)
     (λ item covered. covers item.table (hash_of item.key) covered) w.base.items formed.base
 
--- so it may where it noticed no more masters than before, and covers what was covered
-pub may_coordinate : (limits : Limits) (w : World) (coordinator : Coordinator) → IsFormedCoordinator limits coordinator → w.coordinator.masters ≡ coordinator.masters → coordinator.noticed ≡ w.coordinator.noticed → StillCovers coordinator.rows w.coordinator.rows → IsWellFormed w → MayCoordinate limits w coordinator
-may_coordinate limits w coordinator new masters noticed covers formed = record {
-  formed = new;
-  masters = masters;
-  noticed = subst (All (λ master. has_crashed w master ≡ true)) (sym noticed) formed.noticed;
-  base = base_covered w coordinator.rows covers formed;
-}
+module _ (limits : Limits) (w : World) (coordinator : Coordinator) where
+  -- so it may where it noticed no more masters than before, and covers what was covered
+  pub may_coordinate : IsFormedCoordinator limits coordinator → w.coordinator.masters ≡ coordinator.masters → coordinator.noticed ≡ w.coordinator.noticed → StillCovers coordinator.rows w.coordinator.rows → IsWellFormed w → MayCoordinate limits w coordinator
+  may_coordinate new masters noticed covers formed = record {
+    formed = new;
+    masters = masters;
+    noticed = subst (All (λ master. has_crashed w master ≡ true)) (sym noticed) formed.noticed;
+    base = base_covered w coordinator.rows covers formed;
+  }
 
 -- ---- changes of a world that keeps to limits
 
