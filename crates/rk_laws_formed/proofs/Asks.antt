@@ -39,6 +39,18 @@ pub record IsFormedVisit (w : World) (visited : Visited) : Type 0 where
 
 -- ---- the ledger once a call was asked
 
+-- what a lane keeps of a call that a session asks
+abbrev pub now_asked : Session → Call → LastCall
+now_asked session call = record { call = call; seen = session.seen }
+
+-- the ledger stays where the call was asked, and else has it as its client's last
+pub asked_is : (P : Ledger → Type 0) (ledger : Ledger) (session : Session) (call : Call) → (is_asked ledger session call ≡ true → P ledger) → (is_asked ledger session call ≡ false → P (with_asked ledger session.client (now_asked session call))) → P (ledger_asked ledger session call)
+asked_is P ledger session call before now = go (is_asked ledger session call) refl
+  where
+    go : (b : Bool) → is_asked ledger session call ≡ b → P (cond b ledger (with_asked ledger session.client (now_asked session call)))
+    go true is = before is
+    go false is = now is
+
 -- the last call of a client, with what it had seen
 record HasSeen (ledger : Ledger) (client seen : ℕ) : Type 0 where
   last : LastCall
@@ -67,25 +79,24 @@ seen_where_asked ledger session call asked =
 -- so it is once the call was asked
 seen_asked : (ledger : Ledger) (session : Session) (call : Call) → HasSeen (ledger_asked ledger session call) session.client session.seen
 seen_asked ledger session call =
-    elim (is_asked ledger session call) as (λ b. is_asked ledger session call ≡ b → HasSeen (cond b ledger (with_asked ledger session.client (record { call = call; seen = session.seen }))) session.client session.seen) [
-      | true ↦ λ asked. seen_where_asked ledger session call asked
-      | false ↦ λ new. record {
-        last = record { call = call; seen = session.seen };
-        found = get_same ledger.clients session.client (Some (record { call = call; seen = session.seen })) session.client refl;
-        seen_is = refl;
-      }
-    ] refl
+    asked_is (λ now. HasSeen now session.client session.seen) ledger session call
+    (λ asked. seen_where_asked ledger session call asked)
+    (λ new. record {
+      last = now_asked session call;
+      found = get_same ledger.clients session.client (Some (now_asked session call)) session.client refl;
+      seen_is = refl;
+    })
 
 -- who was added is added once the call was asked
 added_asked : (ledger : Ledger) (session : Session) (call : Call) → HasClientsOf (ledger_asked ledger session call) ledger
 added_asked ledger session call client added =
-    elim (is_asked ledger session call) as (λ b. is_added (cond b ledger (with_asked ledger session.client (record { call = call; seen = session.seen }))) client ≡ true) [
-      | true ↦ added
-      | false ↦ ⊎_elim
-          (λ (is : client ≡ session.client). ap is_some (get_same ledger.clients session.client (Some (record { call = call; seen = session.seen })) client is))
-          (λ (apart : client ≡ session.client → ⊥). ap is_some (get_other ledger.clients session.client (Some (record { call = call; seen = session.seen })) client apart) ∙ added)
-          (cases_eq client session.client)
-    ]
+    asked_is (λ now. is_added now client ≡ true) ledger session call
+    (λ asked. added)
+    (λ new. ⊎_elim
+    (λ (is : client ≡ session.client). ap is_some (get_same ledger.clients session.client (Some (now_asked session call)) client is))
+    (λ (apart : client ≡ session.client → ⊥).
+    ap is_some (get_other ledger.clients session.client (Some (now_asked session call)) client apart) ∙ added)
+    (cases_eq client session.client))
 
 -- the clients stay when a request is saved
 pub clients_requested : (ledger : Ledger) (client : ℕ) (message : Message) (body : Body) → (ledger_requested ledger client message body).clients ≡ ledger.clients
@@ -99,6 +110,11 @@ requested_is_formed limits w ledger client message (bodies.Request request) new 
 requested_is_formed limits w ledger client message body new formed = formed
 
 -- ---- a client asks
+
+-- a new call of a session may be a lane's last of its client
+abbrev pub MayBeLast : World → Session → Call → Type 0
+MayBeLast w session call =
+    is_asked w.ledger session call ≡ false → IsFormedLast w.base w.lane session.client (now_asked session call)
 
 module _ (w : World) (session : Session) (call : Call) (turned : ClientTurn) where
   abbrev pub asked_ledger : Ledger
@@ -123,13 +139,15 @@ module _ (w : World) (session : Session) (call : Call) (turned : ClientTurn) whe
         let asked = seen_asked w.ledger session call in
         subst (λ (n : ℕ). n ≤ after_asking.top) asked.seen_is
         (all_in_map (λ (last : Option LastCall). seen_of last ≤ after_asking.top) asked_ledger.clients session.client (Some asked.last)
-        (ap (λ clients. get clients session.client) (clients_requested (ledger_asked w.ledger session call) session.client turned.message turned.message.body) ∙ asked.found)
+        (ap (λ clients. get clients session.client)
+        (clients_requested (ledger_asked w.ledger session call) session.client turned.message turned.message.body)
+        ∙ asked.found)
         (seen_within after_asking after_asking.top (top_is_limit (with_all_sent (with_ledger w asked_ledger) (turned.message ∷ [])))));
     top = room.number;
   }
 
   -- the world after it is well formed
-  formed_after_asking : IsFormedMessage (limits_of after_asking) turned.message → is_added w.ledger session.client ≡ true → MayAct w.coordinator.masters session → (is_asked w.ledger session call ≡ false → IsFormedLast w.base w.lane session.client (record { call = call; seen = session.seen })) → IsWellFormed w → IsWellFormed after_asking
+  formed_after_asking : IsFormedMessage (limits_of after_asking) turned.message → is_added w.ledger session.client ≡ true → MayAct w.coordinator.masters session → MayBeLast w session call → IsWellFormed w → IsWellFormed after_asking
   formed_after_asking message added may last formed =
       formed_topped (with_all_sent (with_ledger w asked_ledger) (turned.message ∷ []))
       (kept_with_all_sent limits (with_ledger w asked_ledger)
@@ -149,10 +167,10 @@ module _ (w : World) (session : Session) (call : Call) (turned : ClientTurn) whe
 
       ledger : IsFormedLedger limits w.base w.lane (ledger_asked w.ledger session call)
       ledger =
-          elim (is_asked w.ledger session call) as (λ b. is_asked w.ledger session call ≡ b → IsFormedLedger limits w.base w.lane (cond b w.ledger (with_asked w.ledger session.client (record { call = call; seen = session.seen })))) [
-            | true ↦ λ asked. before.ledger
-            | false ↦ λ new. formed_asked limits w.base w.lane w.ledger session.client (record { call = call; seen = session.seen }) may.client added (last new) before.ledger
-          ] refl
+          asked_is (IsFormedLedger limits w.base w.lane) w.ledger session call
+          (λ asked. before.ledger)
+          (λ new.
+          formed_asked limits w.base w.lane w.ledger session.client (now_asked session call) may.client added (last new) before.ledger)
 
 -- where one of two holds and not the first, the second does
 or_second : (a b : Bool) → (a || b) ≡ true → a ≡ false → b ≡ true
@@ -180,7 +198,7 @@ formed_asking w session may start none room formed =
     nothing : IsFormedVisit w (untouched w session None)
     nothing = record { world = formed; session = may }
 
-    last : (call : Call) → session.outstanding ≡ Some call → fits_with w session call ≡ true → is_asked w.ledger session call ≡ false → IsFormedLast w.base w.lane session.client (record { call = call; seen = session.seen })
+    last : (call : Call) → session.outstanding ≡ Some call → fits_with w session call ≡ true → MayBeLast w session call
     last call is fitting new = record {
       lawful = subst (λ o. IfSome o IsLawfulCall) is may.call;
       own = (subst (λ o. IfSome o (λ call. (call.client ≡ session.client) × (call.seq ≡ session.last))) is may.own).0;

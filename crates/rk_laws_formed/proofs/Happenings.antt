@@ -50,8 +50,13 @@ formed_received w message (nodes.Master master) called is it makes room formed =
 formed_received w message (nodes.Backup backup) called is it makes room formed =
     formed_to_backup w backup message.from message.body called makes formed
 
+-- what its receiver makes of the message of a number is well formed, if there is one
+abbrev pub DeliveryIsFormed : World → ℕ → Called → Type 0
+DeliveryIsFormed w number called =
+    (message : Message) → get w.wire.messages number ≡ Some message → IsFormedMessage (limits_of w) message → ReceiptIsFormed w message message.to called
+
 -- a lane stays well formed when a message is delivered of which its receiver makes what is well formed
-pub formed_delivered : (w : World) (number : ℕ) (called : Called) → ((message : Message) → get w.wire.messages number ≡ Some message → IsFormedMessage (limits_of w) message → ReceiptIsFormed w message message.to called) → HasRoom (happened w (events.Deliver number) called).world → IsWellFormed w → IsWellFormed (happened w (events.Deliver number) called).world
+pub formed_delivered : (w : World) (number : ℕ) (called : Called) → DeliveryIsFormed w number called → HasRoom (happened w (events.Deliver number) called).world → IsWellFormed w → IsWellFormed (happened w (events.Deliver number) called).world
 formed_delivered w number called makes room formed = go (get w.wire.messages number) refl room
   where
     go : (found : Option Message) → get w.wire.messages number ≡ found → HasRoom (delivered w found called).world → IsWellFormed (delivered w found called).world

@@ -1,6 +1,6 @@
 -- The ledger stays well formed when served calls and ends get their records, when a record is accepted, and when a client comes,
 -- asks or has a request saved.
-use Rattle.std.proofs.Common.{◌≡◌, ◌≤◌, ◌<◌, ℕ, zero, suc, ◌+◌, true, false, cond, List, [], ◌∷◌, ◌++◌, length, fold, All, Option, None, Some, is_some, refl, sym, ap, subst, ◌∙◌, arith, slice_get, slice_set}
+use Rattle.std.proofs.Common.{Bool, ◌≡◌, ◌≤◌, ◌<◌, ℕ, zero, suc, ◌+◌, true, false, cond, List, [], ◌∷◌, ◌++◌, length, fold, All, Option, None, Some, is_some, refl, sym, ap, subst, ◌∙◌, arith, slice_get, slice_set}
 use Rattle.std.specs.Prelude.{IfSome, not, ◌&&◌, ◌==◌}
 use Rattle.std.specs.Int.{w32}
 use Rattle.std.specs.Cmp.{nat_cmp_total}
@@ -99,6 +99,31 @@ stamps_accepted journal place (Some placed) found are =
 
 -- ---- records of calls
 
+-- a ledger stays or has the record, once a served call got its own
+pub served_is : (P : Ledger → Type 0) (seen : ℕ) (ledger : Ledger) (served : Served) → P ledger → P (with_record ledger served.call served.outcome seen) → P (with_record ledger served.call served.outcome (seen_of (asked_by ledger served.call.client))) → P (with_served seen ledger served)
+served_is P seen ledger served stays read applied =
+    elim (is_mutation served.call.op) as (λ b. P (cond b (with_mutation ledger served) (with_record ledger served.call served.outcome seen))) [
+      | true ↦ by_record (has_record ledger.journal served.call.client served.call.seq)
+      | false ↦ read
+    ]
+  where
+    by_record : (b : Bool) → P (cond b ledger (with_record ledger served.call served.outcome (seen_of (asked_by ledger served.call.client))))
+    by_record true = stays
+    by_record false = applied
+
+-- and once an end made a record
+pub ended_is : (P : Ledger → Type 0) (ledger : Ledger) (end : Ended) → P ledger → ((asked : LastCall) → asked_by ledger end.client ≡ Some asked → P (with_record ledger asked.call (outcome_of end.end) asked.seen)) → P (with_end ledger end)
+ended_is P ledger end stays told = go (asked_by ledger end.client) refl
+  where
+    by_record : (b : Bool) (asked : LastCall) → P (with_record ledger asked.call (outcome_of end.end) asked.seen) → P (cond b (with_record ledger asked.call (outcome_of end.end) asked.seen) ledger)
+    by_record true asked recorded = recorded
+    by_record false asked recorded = stays
+
+    go : (found : Option LastCall) → asked_by ledger end.client ≡ found → P (with_end_of ledger end found)
+    go None is = stays
+    go (Some asked) is =
+        by_record (asked.call.seq == end.seq && not (has_record ledger.journal end.client end.seq)) asked (told asked is)
+
 module _ (limits : Limits) (base : Base) (lane : ℕ) where
   -- a ledger with another journal is well formed where the journal's stamps are
   journaled : (ledger : Ledger) (journal : List Placed) → AreStamps journal → IsFormedLedger limits base lane ledger → IsFormedLedger limits base lane (record ledger { journal = journal })
@@ -133,13 +158,9 @@ module _ (limits : Limits) (base : Base) (lane : ℕ) where
 
   formed_served : (seen : ℕ) (ledger : Ledger) (served : Served) → IsFormedLedger limits base lane ledger → IsFormedLedger limits base lane (with_served seen ledger served)
   formed_served seen ledger served formed =
-      elim (is_mutation served.call.op) as (λ b. IsFormedLedger limits base lane (cond b (with_mutation ledger served) (with_record ledger served.call served.outcome seen))) [
-        | true ↦ elim (has_record ledger.journal served.call.client served.call.seq) as (λ b. IsFormedLedger limits base lane (cond b ledger (with_record ledger served.call served.outcome (seen_of (asked_by ledger served.call.client))))) [
-          | true ↦ formed
-          | false ↦ formed_recorded ledger served.call served.outcome (seen_of (asked_by ledger served.call.client)) formed
-        ]
-        | false ↦ formed_recorded ledger served.call served.outcome seen formed
-      ]
+      served_is (IsFormedLedger limits base lane) seen ledger served formed
+      (formed_recorded ledger served.call served.outcome seen formed)
+      (formed_recorded ledger served.call served.outcome (seen_of (asked_by ledger served.call.client)) formed)
 
   -- the ledger after a master's work
   pub formed_ledger_after : (ledger : Ledger) (seen : ℕ) (served : List Served) (marks : List Mark) → IsFormedLedger limits base lane ledger → IsFormedLedger limits base lane (with_marks (with_all_served seen ledger served) marks)
@@ -149,15 +170,9 @@ module _ (limits : Limits) (base : Base) (lane : ℕ) where
       (kept_by_fold (IsFormedLedger limits base lane) (with_served seen) (formed_served seen) served ledger formed)
 
   formed_ended : (ledger : Ledger) (end : Ended) → IsFormedLedger limits base lane ledger → IsFormedLedger limits base lane (with_end ledger end)
-  formed_ended ledger end formed = go (asked_by ledger end.client)
-    where
-      go : (asked : Option LastCall) → IsFormedLedger limits base lane (with_end_of ledger end asked)
-      go None = formed
-      go (Some asked) =
-          elim (asked.call.seq == end.seq && not (has_record ledger.journal end.client end.seq)) as (λ b. IsFormedLedger limits base lane (cond b (with_record ledger asked.call (outcome_of end.end) asked.seen) ledger)) [
-            | true ↦ formed_recorded ledger asked.call (outcome_of end.end) asked.seen formed
-            | false ↦ formed
-          ]
+  formed_ended ledger end formed =
+      ended_is (IsFormedLedger limits base lane) ledger end formed
+      (λ asked is. formed_recorded ledger asked.call (outcome_of end.end) asked.seen formed)
 
   -- the ledger once a rebuild is taken
   pub formed_rebuilt : (ledger : Ledger) (rebuilt : Option Rebuilt) → IsFormedLedger limits base lane ledger → IsFormedLedger limits base lane (with_rebuilt ledger rebuilt)
@@ -179,29 +194,16 @@ module _ (limits : Limits) (base : Base) (lane : ℕ) where
 
 served_keeps : (clients : NumberMap (Option LastCall)) (seen : ℕ) (ledger : Ledger) (served : Served) → ledger.clients ≡ clients → (with_served seen ledger served).clients ≡ clients
 served_keeps clients seen ledger served same =
-    elim (is_mutation served.call.op) as (λ b. (cond b (with_mutation ledger served) (with_record ledger served.call served.outcome seen)).clients ≡ clients) [
-      | true ↦ elim (has_record ledger.journal served.call.client served.call.seq) as (λ b. (cond b ledger (with_record ledger served.call served.outcome (seen_of (asked_by ledger served.call.client)))).clients ≡ clients) [
-        | true ↦ same
-        | false ↦ same
-      ]
-      | false ↦ same
-    ]
+    served_is (λ now. now.clients ≡ clients) seen ledger served same same same
 
 -- they do when served calls get their records
 pub clients_served : (ledger : Ledger) (seen : ℕ) (served : List Served) → (with_all_served seen ledger served).clients ≡ ledger.clients
 clients_served ledger seen served =
     kept_by_fold (λ now. now.clients ≡ ledger.clients) (with_served seen) (served_keeps ledger.clients seen) served ledger refl
 
-ended_keeps : (clients : NumberMap (Option LastCall)) (ledger : Ledger) (end : Ended) → ledger.clients ≡ clients → (with_end ledger end).clients ≡ clients
-ended_keeps clients ledger end same = go (asked_by ledger end.client)
-  where
-    go : (asked : Option LastCall) → (with_end_of ledger end asked).clients ≡ clients
-    go None = same
-    go (Some asked) =
-        elim (asked.call.seq == end.seq && not (has_record ledger.journal end.client end.seq)) as (λ b. (cond b (with_record ledger asked.call (outcome_of end.end) asked.seen) ledger).clients ≡ clients) [
-          | true ↦ same
-          | false ↦ same
-        ]
+pub ended_keeps : (clients : NumberMap (Option LastCall)) (ledger : Ledger) (end : Ended) → ledger.clients ≡ clients → (with_end ledger end).clients ≡ clients
+ended_keeps clients ledger end same =
+    ended_is (λ now. now.clients ≡ clients) ledger end same (λ asked is. same)
 
 -- and when a rebuild is taken
 pub clients_rebuilt : (ledger : Ledger) (rebuilt : Option Rebuilt) → (with_rebuilt ledger rebuilt).clients ≡ ledger.clients
@@ -221,6 +223,10 @@ length_more : {X : Type 0} (things : NumberMap X) (number : ℕ) (thing : X) →
 length_more things number thing order new =
     length-put nat_cmp nat_cmp_total number thing things order ∙ ap (λ b. cond b (length things) (length things + 1)) new
 
+-- what is well formed of a client: its number, and its last call, if there is one
+abbrev IsFormedClient : Base → ℕ → ℕ → Option LastCall → Type 0
+IsFormedClient base lane client last = IsNumber w32 1 client × IfSome last (IsFormedLast base lane client)
+
 module _ (limits : Limits) (base : Base) (lane : ℕ) where
   -- a client comes that was not added, where others are fewer than there may be
   pub formed_client : (ledger : Ledger) (client : ℕ) → IsNumber w32 1 client → is_added ledger client ≡ false → length ledger.clients < MOST_CLIENTS → IsFormedLedger limits base lane ledger → IsFormedLedger limits base lane (with_client ledger client)
@@ -228,7 +234,7 @@ module _ (limits : Limits) (base : Base) (lane : ℕ) where
       let count = length_more ledger.clients client None formed.clients_order new in
       record {
         clients_order = in_order_insert ledger.clients client None formed.clients_order;
-        clients = each_insert (λ client last. IsNumber w32 1 client × IfSome last (IsFormedLast base lane client)) ledger.clients client None formed.clients (number, tt);
+        clients = each_insert (IsFormedClient base lane) ledger.clients client None formed.clients (number, tt);
         few = omega arith;
         requests_order = formed.requests_order;
         requests = formed.requests;
@@ -243,7 +249,7 @@ module _ (limits : Limits) (base : Base) (lane : ℕ) where
       let few = formed.few in
       record {
         clients_order = in_order_insert ledger.clients client (Some asked) formed.clients_order;
-        clients = each_insert (λ client last. IsNumber w32 1 client × IfSome last (IsFormedLast base lane client)) ledger.clients client (Some asked) formed.clients (number, last);
+        clients = each_insert (IsFormedClient base lane) ledger.clients client (Some asked) formed.clients (number, last);
         few = omega arith;
         requests_order = formed.requests_order;
         requests = formed.requests;

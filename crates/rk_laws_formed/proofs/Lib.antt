@@ -40,3 +40,4 @@ pub mod Rises
 pub mod Rooms
 pub mod Happenings
 pub mod Whole
+pub mod New

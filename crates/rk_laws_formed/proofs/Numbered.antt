@@ -14,7 +14,7 @@ use Rattle.rk_world.specs.Premises.{IsMaster}
 -- ---- things of numbers that follow one another
 
 -- each number with its thing
-abbrev with_numbers : {X : Type 0} → (ℕ → X) → List ℕ → NumberMap X
+abbrev pub with_numbers : {X : Type 0} → (ℕ → X) → List ℕ → NumberMap X
 with_numbers thing numbers = map (λ number. (number, thing number)) numbers
 
 -- what is first in such a table is found where the number is its own
@@ -30,6 +30,22 @@ found_here thing n numbers q is =
 found_behind : {X : Type 0} (thing : ℕ → X) (n : ℕ) (numbers : List ℕ) (q : ℕ) → (q ≡ n → ⊥) → get (with_numbers thing (n ∷ numbers)) q ≡ get (with_numbers thing numbers) q
 found_behind thing n numbers q apart =
     found_first thing n numbers q ∙ cond-false (eqb q n) (Some (thing n)) (get (with_numbers thing numbers) q) (ne_eqb q n apart)
+
+-- what is found under a number is its thing
+pub found_numbered : {X : Type 0} (thing : ℕ → X) (numbers : List ℕ) (q : ℕ) (x : X) → get (with_numbers thing numbers) q ≡ Some x → thing q ≡ x
+found_numbered thing [] q x found = absurd (cc found)
+found_numbered thing (n ∷ numbers) q x found =
+    ⊎_elim
+    (λ (is : q ≡ n).
+    let same : Some (thing q) ≡ Some x = sym (found_here thing n numbers q is) ∙ found in
+    cc same)
+    (λ (apart : q ≡ n → ⊥). found_numbered thing numbers q x (sym (found_behind thing n numbers q apart) ∙ found))
+    (cases_eq q n)
+
+-- the numbers of such things are these
+pub numbers_are : {X : Type 0} (thing : ℕ → X) (list : List ℕ) → numbers (with_numbers thing list) ≡ list
+numbers_are thing [] = refl
+numbers_are thing (number ∷ list) = ap (λ (rest : List ℕ). number ∷ rest) (numbers_are thing list)
 
 above : (a b : ℕ) → a ≤ b → (b ≡ a → ⊥) → a + 1 ≤ b
 above a b low apart =

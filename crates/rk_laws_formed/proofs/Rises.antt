@@ -1,7 +1,7 @@
 -- How far the greatest number of a lane rises: by the messages that are sent, by the calls that get records, and by what terms and
 -- counters rise.
-use Rattle.std.proofs.Common.{◌≡◌, ◌≤◌, Less, Equal, Greater, ℕ, ◌+◌, true, false, cond, List, [], ◌∷◌, ◌++◌, length, map, fold, All, Option, None, Some, refl, sym, subst, arith}
-use Rattle.std.specs.Prelude.{not, unwrap_or, ◌&&◌, ◌==◌}
+use Rattle.std.proofs.Common.{◌≡◌, ◌≤◌, Less, Equal, Greater, ℕ, ◌+◌, List, [], ◌∷◌, ◌++◌, length, map, fold, All, Option, None, Some, refl, sym, subst, arith}
+use Rattle.std.specs.Prelude.{unwrap_or}
 use Rattle.std.specs.FinMap.Entries.{by_order}
 use Rattle.std.specs.Ordering.{nat_cmp}
 use Rattle.std.proofs.lemmas.List.{length-map}
@@ -11,7 +11,6 @@ use Rattle.rk_types.specs.NumberMap.{NumberMap, get, insert}
 use Rattle.rk_types.specs.declared.call.Call.{Call}
 use Rattle.rk_types.specs.declared.call.Ended.{Ended}
 use Rattle.rk_types.specs.declared.call.Outcome.{Outcome}
-use Rattle.rk_model.specs.Merged.{is_mutation}
 use Rattle.rk_message.specs.Wire.{Traffic, with_message}
 use Rattle.rk_message.specs.declared.message.Message.{Message}
 use Rattle.rk_message.specs.declared.rebuilding.Rebuilt.{Rebuilt}
@@ -19,14 +18,15 @@ use Rattle.rk_world.specs.declared.work.Served.{Served}
 use Rattle.rk_world.specs.Coordinator.{Coordinator}
 use Rattle.rk_world.specs.Ends.{outcome_of}
 use Rattle.rk_world.specs.Formed.{IsWellFormed}
-use Rattle.rk_world.specs.Journal.{has_record, last_stamp, next_record}
-use Rattle.rk_world.specs.Ledger.{LastCall, Ledger, asked_by, seen_of, with_all_served, with_end, with_end_of, with_ends, with_mutation, with_rebuilt, with_record, with_served}
+use Rattle.rk_world.specs.Journal.{last_stamp, next_record}
+use Rattle.rk_world.specs.Ledger.{LastCall, Ledger, asked_by, seen_of, with_all_served, with_end, with_ends, with_rebuilt, with_record, with_served}
 use Rattle.rk_world.specs.Master.{Master}
-use Rattle.rk_world.specs.Step.{ledger_after, quietly, with_sends, worked_at}
+use Rattle.rk_world.specs.Step.{ledger_after, quietly, with_sends}
 use Rattle.rk_world.specs.Worked.{Worked}
 use Rattle.rk_world.specs.World.{World, counters_of, standing, with_all_sent, with_coordinator, with_ledger, with_master, with_top}
 use Rattle.rk_laws_formed.proofs.Bounds.{all_flat, all_given, all_in_map, all_back, greatest_within}
-use Rattle.rk_laws_formed.proofs.Ledgers.{clients_rebuilt, clients_served, last_pushed}
+use Rattle.rk_laws_formed.proofs.Works.{after_coordinated, after_work}
+use Rattle.rk_laws_formed.proofs.Ledgers.{ended_is, ended_keeps, served_is, clients_rebuilt, clients_served, last_pushed}
 use Rattle.rk_laws_formed.proofs.Worlds.{counters_in, seen_within, sent_within, stamp_within, stamps_seen, terms_in, terms_within}
 
 -- what holds of each thing of a map, and of another one, holds of each with that one too
@@ -161,8 +161,16 @@ keeps_with_sent limit w messages keeps =
 
 -- ---- records
 
--- what a client had seen keeps to the limit that all keep to
-seen_of_asked : (limit : ℕ) (ledger : Ledger) (client : ℕ) → All (λ entry. seen_of entry.1 ≤ limit) ledger.clients → seen_of (asked_by ledger client) ≤ limit
+-- what clients had seen when they asked keeps to a limit
+abbrev pub HaveSeen : ℕ → Ledger → Type 0
+HaveSeen limit ledger = All (λ entry. seen_of entry.1 ≤ limit) ledger.clients
+
+-- it does with the same clients
+seen_kept : (limit : ℕ) (ledger later : Ledger) → later.clients ≡ ledger.clients → HaveSeen limit ledger → HaveSeen limit later
+seen_kept limit ledger later same all = subst (All (λ entry. seen_of entry.1 ≤ limit)) (sym same) all
+
+-- so what a client had seen keeps to it
+seen_of_asked : (limit : ℕ) (ledger : Ledger) (client : ℕ) → HaveSeen limit ledger → seen_of (asked_by ledger client) ≤ limit
 seen_of_asked limit ledger client all = go (get ledger.clients client) refl
   where
     go : (found : Option (Option LastCall)) → get ledger.clients client ≡ found → seen_of (unwrap_or found None) ≤ limit
@@ -175,52 +183,40 @@ stamp_recorded most ledger call outcome seen last within =
     let is = last_pushed 0 ledger.journal (next_record ledger.journal call outcome seen) in
     omega arith
 
-stamp_served_once : (limit most seen : ℕ) (ledger : Ledger) (served : Served) → limit ≤ most → seen ≤ limit → All (λ entry. seen_of entry.1 ≤ limit) ledger.clients → last_stamp ledger.journal ≤ most → last_stamp (with_served seen ledger served).journal ≤ most + 1
+stamp_served_once : (limit most seen : ℕ) (ledger : Ledger) (served : Served) → limit ≤ most → seen ≤ limit → HaveSeen limit ledger → last_stamp ledger.journal ≤ most → last_stamp (with_served seen ledger served).journal ≤ most + 1
 stamp_served_once limit most seen ledger served greater within all last =
     let asked = seen_of_asked limit ledger served.call.client all in
-    elim (is_mutation served.call.op) as (λ b. last_stamp (cond b (with_mutation ledger served) (with_record ledger served.call served.outcome seen)).journal ≤ most + 1) [
-      | true ↦ elim (has_record ledger.journal served.call.client served.call.seq) as (λ b. last_stamp (cond b ledger (with_record ledger served.call served.outcome (seen_of (asked_by ledger served.call.client)))).journal ≤ most + 1) [
-        | true ↦ omega arith
-        | false ↦ stamp_recorded most ledger served.call served.outcome (seen_of (asked_by ledger served.call.client)) last (omega arith)
-      ]
-      | false ↦ stamp_recorded most ledger served.call served.outcome seen last (omega arith)
-    ]
+    served_is (λ now. last_stamp now.journal ≤ most + 1) seen ledger served (omega arith)
+    (stamp_recorded most ledger served.call served.outcome seen last (omega arith))
+    (stamp_recorded most ledger served.call served.outcome (seen_of (asked_by ledger served.call.client)) last (omega arith))
 
 -- served calls raise the last stamp by one each at most
-pub stamp_served : (limit most seen : ℕ) (ledger : Ledger) (served : List Served) → limit ≤ most → seen ≤ limit → All (λ entry. seen_of entry.1 ≤ limit) ledger.clients → last_stamp ledger.journal ≤ most → last_stamp (with_all_served seen ledger served).journal ≤ most + length served
+pub stamp_served : (limit most seen : ℕ) (ledger : Ledger) (served : List Served) → limit ≤ most → seen ≤ limit → HaveSeen limit ledger → last_stamp ledger.journal ≤ most → last_stamp (with_all_served seen ledger served).journal ≤ most + length served
 stamp_served limit most seen ledger [] greater within all last = omega arith
 stamp_served limit most seen ledger (first ∷ rest) greater within all last =
-    let later = stamp_served limit (most + 1) seen (with_served seen ledger first) rest (omega arith) within (subst (λ clients. All (λ entry. seen_of entry.1 ≤ limit) clients) (sym (clients_served ledger seen (first ∷ []))) all) (stamp_served_once limit most seen ledger first greater within all last) in
+    let next = with_served seen ledger first in
+    let later =
+    stamp_served limit (most + 1) seen next rest (omega arith) within
+    (seen_kept limit ledger next (clients_served ledger seen (first ∷ [])) all)
+    (stamp_served_once limit most seen ledger first greater within all last) in
     omega arith
 
-stamp_ended_once : (limit most : ℕ) (ledger : Ledger) (end : Ended) → limit ≤ most → All (λ entry. seen_of entry.1 ≤ limit) ledger.clients → last_stamp ledger.journal ≤ most → last_stamp (with_end ledger end).journal ≤ most + 1
+stamp_ended_once : (limit most : ℕ) (ledger : Ledger) (end : Ended) → limit ≤ most → HaveSeen limit ledger → last_stamp ledger.journal ≤ most → last_stamp (with_end ledger end).journal ≤ most + 1
 stamp_ended_once limit most ledger end greater all last =
-    go (asked_by ledger end.client) (seen_of_asked limit ledger end.client all)
-  where
-    go : (asked : Option LastCall) → seen_of asked ≤ limit → last_stamp (with_end_of ledger end asked).journal ≤ most + 1
-    go None seen = omega arith
-    go (Some asked) seen =
-        elim (asked.call.seq == end.seq && not (has_record ledger.journal end.client end.seq)) as (λ b. last_stamp (cond b (with_record ledger asked.call (outcome_of end.end) asked.seen) ledger).journal ≤ most + 1) [
-          | true ↦ stamp_recorded most ledger asked.call (outcome_of end.end) asked.seen last (omega arith)
-          | false ↦ omega arith
-        ]
-
-clients_ended : (ledger : Ledger) (end : Ended) → (with_end ledger end).clients ≡ ledger.clients
-clients_ended ledger end = go (asked_by ledger end.client)
-  where
-    go : (asked : Option LastCall) → (with_end_of ledger end asked).clients ≡ ledger.clients
-    go None = refl
-    go (Some asked) =
-        elim (asked.call.seq == end.seq && not (has_record ledger.journal end.client end.seq)) as (λ b. (cond b (with_record ledger asked.call (outcome_of end.end) asked.seen) ledger).clients ≡ ledger.clients) [
-          | true ↦ refl
-          | false ↦ refl
-        ]
+    ended_is (λ now. last_stamp now.journal ≤ most + 1) ledger end (omega arith)
+    (λ asked is.
+    let seen = subst (λ o. seen_of o ≤ limit) is (seen_of_asked limit ledger end.client all) in
+    stamp_recorded most ledger asked.call (outcome_of end.end) asked.seen last (still_below limit most asked.seen greater seen))
 
 -- and so do ends
-pub stamp_ended : (limit most : ℕ) (ledger : Ledger) (ends : List Ended) → limit ≤ most → All (λ entry. seen_of entry.1 ≤ limit) ledger.clients → last_stamp ledger.journal ≤ most → last_stamp (with_ends ledger ends).journal ≤ most + length ends
+pub stamp_ended : (limit most : ℕ) (ledger : Ledger) (ends : List Ended) → limit ≤ most → HaveSeen limit ledger → last_stamp ledger.journal ≤ most → last_stamp (with_ends ledger ends).journal ≤ most + length ends
 stamp_ended limit most ledger [] greater all last = omega arith
 stamp_ended limit most ledger (first ∷ rest) greater all last =
-    let later = stamp_ended limit (most + 1) (with_end ledger first) rest (omega arith) (subst (λ clients. All (λ entry. seen_of entry.1 ≤ limit) clients) (sym (clients_ended ledger first)) all) (stamp_ended_once limit most ledger first greater all last) in
+    let next = with_end ledger first in
+    let later =
+    stamp_ended limit (most + 1) next rest (omega arith)
+    (seen_kept limit ledger next (ended_keeps ledger.clients ledger first refl) all)
+    (stamp_ended_once limit most ledger first greater all last) in
     omega arith
 
 -- how many ends a rebuild tells, if there is one
@@ -228,7 +224,7 @@ abbrev pub ends_in : Option Rebuilt → ℕ
 ends_in None = 0
 ends_in (Some rebuilt) = length rebuilt.ends
 
-pub stamp_rebuilt : (limit : ℕ) (ledger : Ledger) (rebuilt : Option Rebuilt) → All (λ entry. seen_of entry.1 ≤ limit) ledger.clients → last_stamp ledger.journal ≤ limit → last_stamp (with_rebuilt ledger rebuilt).journal ≤ limit + ends_in rebuilt
+pub stamp_rebuilt : (limit : ℕ) (ledger : Ledger) (rebuilt : Option Rebuilt) → HaveSeen limit ledger → last_stamp ledger.journal ≤ limit → last_stamp (with_rebuilt ledger rebuilt).journal ≤ limit + ends_in rebuilt
 stamp_rebuilt limit ledger None all last = omega arith
 stamp_rebuilt limit ledger (Some rebuilt) all last =
     stamp_ended limit limit ledger rebuilt.ends (omega arith) all last
@@ -242,7 +238,7 @@ module _ (w : World) (formed : IsWellFormed w) where
       top_within (w.top + length messages) (with_all_sent w messages) (keeps_with_sent w.top w messages (keeps_to_top w formed))
 
   -- where a master has worked, by what its counters rise, by its served calls and by its messages
-  pub top_after_work : (rise number seen : ℕ) (worked : Worked) → seen ≤ w.top + rise → All (λ n. n ≤ w.top + rise) (counters_of worked.master) → (worked_at w number seen worked).world.top ≤ w.top + rise + length worked.served + length worked.sends
+  pub top_after_work : (rise number seen : ℕ) (worked : Worked) → seen ≤ w.top + rise → All (λ n. n ≤ w.top + rise) (counters_of worked.master) → (after_work w number seen worked).top ≤ w.top + rise + length worked.served + length worked.sends
   top_after_work rise number seen worked within counters =
       let count = length-map worked.sends (filled ledger.journal worked.served) in
       let most = top_within (most_served + length sends) (with_all_sent now sends) (keeps_with_sent most_served now sends keeps) in
@@ -270,13 +266,14 @@ module _ (w : World) (formed : IsWellFormed w) where
       keeps =
           keeps_with_ledger most_served (with_master w number worked.master) ledger
           (stamp_served (w.top + rise) (w.top + rise) seen w.ledger worked.served (omega arith) within risen.seen risen.stamp)
-          (subst (λ clients. All (λ entry. seen_of entry.1 ≤ most_served) clients) (sym (clients_served w.ledger seen worked.served)) more.seen)
+          (seen_kept most_served w.ledger ledger (clients_served w.ledger seen worked.served) more.seen)
           (keeps_with_master most_served w number worked.master
-          (All-weaker (λ n. n ≤ w.top + rise) (λ n. n ≤ most_served) (λ n below. still_below (w.top + rise) most_served n (omega arith) below) (counters_of worked.master) counters)
+          (All-weaker (λ n. n ≤ w.top + rise) (λ n. n ≤ most_served)
+          (λ n below. still_below (w.top + rise) most_served n (omega arith) below) (counters_of worked.master) counters)
           more)
 
   -- where the coordinator has worked, by what its terms rise, by the ends that it took and by its messages
-  pub top_after_coordinator : (rise : ℕ) (coordinator : Coordinator) (rebuilt : Option Rebuilt) (sends : List Message) → All (λ row. row.term ≤ w.top + rise) coordinator.rows → (with_sends (with_ledger (with_coordinator w coordinator) (with_rebuilt w.ledger rebuilt)) sends).world.top ≤ w.top + rise + ends_in rebuilt + length sends
+  pub top_after_coordinator : (rise : ℕ) (coordinator : Coordinator) (rebuilt : Option Rebuilt) (sends : List Message) → All (λ row. row.term ≤ w.top + rise) coordinator.rows → (after_coordinated w coordinator rebuilt sends).top ≤ w.top + rise + ends_in rebuilt + length sends
   top_after_coordinator rise coordinator rebuilt sends terms =
       top_within (most_told + length sends) (with_all_sent now sends) (keeps_with_sent most_told now sends keeps)
     where
@@ -299,9 +296,10 @@ module _ (w : World) (formed : IsWellFormed w) where
       keeps =
           keeps_with_ledger most_told (with_coordinator w coordinator) ledger
           (stamp_rebuilt (w.top + rise) w.ledger rebuilt risen.seen risen.stamp)
-          (subst (λ clients. All (λ entry. seen_of entry.1 ≤ most_told) clients) (sym (clients_rebuilt w.ledger rebuilt)) more.seen)
+          (seen_kept most_told w.ledger ledger (clients_rebuilt w.ledger rebuilt) more.seen)
           (keeps_with_coordinator most_told w coordinator
-          (All-weaker (λ row. row.term ≤ w.top + rise) (λ row. row.term ≤ most_told) (λ row below. still_below (w.top + rise) most_told row.term (omega arith) below) coordinator.rows terms)
+          (All-weaker (λ row. row.term ≤ w.top + rise) (λ row. row.term ≤ most_told)
+          (λ row below. still_below (w.top + rise) most_told row.term (omega arith) below) coordinator.rows terms)
           more)
 
   -- and by what terms rise where nothing is sent

@@ -15,18 +15,18 @@ use Rattle.rk_world.specs.declared.event.Event.TheVariants as events
 use Rattle.rk_world.specs.declared.event.Taken.{Taken}
 use Rattle.rk_world.specs.declared.event.Taken.TheVariants as takes
 use Rattle.rk_world.specs.Backup.{Called}
-use Rattle.rk_world.specs.Calls.{Visited, accept, accept_by, accepting, ask, ask_by, asking, asking_by, fits_with, is_asked, is_asked_here, ledger_asked, ledger_requested, ledger_taken, taking, untouched}
+use Rattle.rk_world.specs.Calls.{Visited, accept, accept_by, accepting, ask, ask_by, asking, asking_by, fits_with, is_asked_here, ledger_asked, ledger_requested, ledger_taken, taking, untouched}
 use Rattle.rk_world.specs.Client.{ClientTurn, Session, session_accept, session_turn}
 use Rattle.rk_world.specs.Formed.{IsWellFormed}
 use Rattle.rk_world.specs.Journal.{last_stamp}
-use Rattle.rk_world.specs.Ledger.{LastCall, Ledger, is_added, seen_of, with_asked, with_client}
+use Rattle.rk_world.specs.Ledger.{LastCall, Ledger, is_added, seen_of, with_client}
 use Rattle.rk_world.specs.Refusals.{WORN_NUMBER, accept_refusal, ask_refusal, refusal, too_great, where_true, worn, worn_session}
 use Rattle.rk_world.specs.Room.{HasRoom, MOST_NUMBER}
 use Rattle.rk_world.specs.Step.{happened, sent_again, with_sends}
 use Rattle.rk_world.specs.World.{World, with_all_sent, with_crash, with_ledger, with_top, with_wire}
-use Rattle.rk_laws_formed.proofs.Asks.{after_asking, asked_ledger, clients_requested}
+use Rattle.rk_laws_formed.proofs.Asks.{asked_is, now_asked, after_asking, asked_ledger, clients_requested}
 use Rattle.rk_laws_formed.proofs.Events.{IsFresh, comes_fresh, no_first, no_inner, no_second, not_too_great, not_worn}
-use Rattle.rk_laws_formed.proofs.Rises.{KeepsTo, all_inserted, keeps_to_more, keeps_to_top, keeps_with_ledger, keeps_with_sent, top_after_sends, top_within}
+use Rattle.rk_laws_formed.proofs.Rises.{HaveSeen, KeepsTo, all_inserted, keeps_to_more, keeps_to_top, keeps_with_ledger, keeps_with_sent, top_after_sends, top_within}
 
 -- ---- events
 
@@ -152,31 +152,36 @@ record IsFreshTurn (w : World) (session : Session) : Type 0 where
 
 fresh_turn : (w : World) (session : Session) → ask_refusal w session ≡ None → IsFreshTurn w session
 fresh_turn w session none =
-    let worn_none : option_or (worn w) (worn_session session session.outstanding) ≡ None = no_inner errors.Worn (option_or (worn w) (worn_session session session.outstanding)) (no_first (option_map errors.Worn (option_or (worn w) (worn_session session session.outstanding))) (where_true (not (is_added w.ledger session.client)) (errors.Stranger session.client)) none) in
     record {
-      lane = not_worn w (no_first (worn w) (worn_session session session.outstanding) worn_none);
-      seen = seen_fits session session.outstanding (no_second (worn w) (worn_session session session.outstanding) worn_none);
+      lane = not_worn w (no_first (worn w) (worn_session session session.outstanding) nothing_worn);
+      seen = seen_fits session session.outstanding (no_second (worn w) (worn_session session session.outstanding) nothing_worn);
     }
+  where
+    number_worn : Option ℕ
+    number_worn = option_or (worn w) (worn_session session session.outstanding)
+
+    nothing_worn : number_worn ≡ None
+    nothing_worn =
+        no_inner errors.Worn number_worn
+        (no_first (option_map errors.Worn number_worn)
+        (where_true (not (is_added w.ledger session.client)) (errors.Stranger session.client)) none)
 
 -- the journal stays when a call is asked
 journal_asked : (ledger : Ledger) (session : Session) (call : Call) → (ledger_asked ledger session call).journal ≡ ledger.journal
 journal_asked ledger session call =
-    elim (is_asked ledger session call) as (λ b. (cond b ledger (with_asked ledger session.client (record { call = call; seen = session.seen }))).journal ≡ ledger.journal) [
-      | true ↦ refl
-      | false ↦ refl
-    ]
+    asked_is (λ now. now.journal ≡ ledger.journal) ledger session call (λ asked. refl) (λ new. refl)
 
 journal_requested : (ledger : Ledger) (client : ℕ) (message : Message) (body : Body) → (ledger_requested ledger client message body).journal ≡ ledger.journal
 journal_requested ledger client message (bodies.Request request) = refl
 journal_requested ledger client message body = refl
 
 -- what clients had seen then
-seen_after_asking : (limit : ℕ) (ledger : Ledger) (session : Session) (call : Call) → session.seen ≤ limit → All (λ entry. seen_of entry.1 ≤ limit) ledger.clients → All (λ entry. seen_of entry.1 ≤ limit) (ledger_asked ledger session call).clients
+seen_after_asking : (limit : ℕ) (ledger : Ledger) (session : Session) (call : Call) → session.seen ≤ limit → HaveSeen limit ledger → HaveSeen limit (ledger_asked ledger session call)
 seen_after_asking limit ledger session call within all =
-    elim (is_asked ledger session call) as (λ b. All (λ entry. seen_of entry.1 ≤ limit) (cond b ledger (with_asked ledger session.client (record { call = call; seen = session.seen }))).clients) [
-      | true ↦ all
-      | false ↦ all_inserted (λ (last : Option LastCall). seen_of last ≤ limit) ledger.clients session.client (Some (record { call = call; seen = session.seen })) within all
-    ]
+    asked_is (HaveSeen limit) ledger session call
+    (λ asked. all)
+    (λ new.
+    all_inserted (λ (last : Option LastCall). seen_of last ≤ limit) ledger.clients session.client (Some (now_asked session call)) within all)
 
 -- the greatest number rises by the request, and to what the session has seen
 pub top_after_asking : (w : World) (session : Session) (call : Call) (turned : ClientTurn) → IsWellFormed w → (after_asking w session call turned).top ≤ max w.top session.seen + 1

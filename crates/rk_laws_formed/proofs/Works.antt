@@ -72,6 +72,11 @@ formed_sending_old w messages all formed =
 
 -- ---- a master has worked
 
+-- what a master that is well formed makes is, where it has room within the limits
+abbrev pub WorkIsFormed : Limits → ℕ → Master → Worked → Type 0
+WorkIsFormed limits number master worked =
+    AreLimits limits → IsFormedMaster limits number master → HasRoomFor limits worked.master → IsFormedWork limits number worked
+
 module _ (w : World) (number seen : ℕ) (worked : Worked) where
   -- the world after it
   abbrev pub after_work : World
@@ -135,7 +140,7 @@ module _ (w : World) (number seen : ℕ) (worked : Worked) where
           omega arith
 
   -- so it is where the work of a well formed master is well formed within limits in which it has room
-  pub formed_by_work : IsMaster w.coordinator.masters number → (AreLimits (limits_of after_work) → IsFormedMaster (limits_of after_work) number (master_at w number) → HasRoomFor (limits_of after_work) worked.master → IsFormedWork (limits_of after_work) number worked) → HasRoom after_work → IsWellFormed w → IsWellFormed after_work
+  pub formed_by_work : IsMaster w.coordinator.masters number → WorkIsFormed (limits_of after_work) number (master_at w number) worked → HasRoom after_work → IsWellFormed w → IsWellFormed after_work
   formed_by_work there works room formed =
       formed_worked there
       (works (limits_worked formed room)
@@ -172,8 +177,12 @@ formed_to_master w number message there says works room formed =
 -- what a master makes of its turn, in any lane
 abbrev pub TurnIsFormed : ℕ → Master → Type 0
 TurnIsFormed number master =
+<<<<<<< HEAD
     (limits : Limits) → AreLimits limits → IsMaster limits.masters number → IsFormedMaster limits number master →
     HasRoomFor limits (master_turn master).master → IsFormedWork limits number (master_turn master)
+=======
+    (limits : Limits) → WorkIsFormed limits number master (master_turn master)
+>>>>>>> d80bb39e208b2f2365ddde9b0d6fb0c38673a9eb
 
 -- and when a master takes its turn
 pub formed_master_turn : (w : World) (number : ℕ) → IsMaster w.coordinator.masters number → TurnIsFormed number (master_at w number) → HasRoom (turned w (nodes.Master number)).world → IsWellFormed w → IsWellFormed (turned w (nodes.Master number)).world

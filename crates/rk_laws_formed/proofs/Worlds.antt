@@ -262,6 +262,10 @@ formed_topped w kept = record {
 abbrev pub CoversBase : World → List Row → Type 0
 CoversBase w rows = All (λ item. is_covered rows item.table (hash_of item.key) ≡ true) w.base.items
 
+-- rows still cover what others covered
+abbrev pub StillCovers : List Row → List Row → Type 0
+StillCovers later rows = (table hash : ℕ) → is_covered rows table hash ≡ true → is_covered later table hash ≡ true
+
 -- a coordinator that may stand in a lane: it is well formed within limits and counts the lane's masters, who was noticed has crashed,
 -- and the rows cover what the history starts from
 pub record MayCoordinate (limits : Limits) (w : World) (coordinator : Coordinator) : Type 0 where
@@ -271,19 +275,20 @@ pub record MayCoordinate (limits : Limits) (w : World) (coordinator : Coordinato
   pub base : CoversBase w coordinator.rows
 
 -- rows that cover what was covered cover what the history starts from
-pub base_covered : (w : World) (rows : List Row) → ((table hash : ℕ) → is_covered w.coordinator.rows table hash ≡ true → is_covered rows table hash ≡ true) → IsWellFormed w → CoversBase w rows
+pub base_covered : (w : World) (rows : List Row) → StillCovers rows w.coordinator.rows → IsWellFormed w → CoversBase w rows
 base_covered w rows covers formed =
     All-weaker (λ item. is_covered w.coordinator.rows item.table (hash_of item.key) ≡ true) (λ item. is_covered rows item.table (hash_of item.key) ≡ true)
     (λ item covered. covers item.table (hash_of item.key) covered) w.base.items formed.base
 
--- so it may where it noticed no more masters than before, and covers what was covered
-pub may_coordinate : (limits : Limits) (w : World) (coordinator : Coordinator) → IsFormedCoordinator limits coordinator → w.coordinator.masters ≡ coordinator.masters → coordinator.noticed ≡ w.coordinator.noticed → ((table hash : ℕ) → is_covered w.coordinator.rows table hash ≡ true → is_covered coordinator.rows table hash ≡ true) → IsWellFormed w → MayCoordinate limits w coordinator
-may_coordinate limits w coordinator new masters noticed covers formed = record {
-  formed = new;
-  masters = masters;
-  noticed = subst (All (λ master. has_crashed w master ≡ true)) (sym noticed) formed.noticed;
-  base = base_covered w coordinator.rows covers formed;
-}
+module _ (limits : Limits) (w : World) (coordinator : Coordinator) where
+  -- so it may where it noticed no more masters than before, and covers what was covered
+  pub may_coordinate : IsFormedCoordinator limits coordinator → w.coordinator.masters ≡ coordinator.masters → coordinator.noticed ≡ w.coordinator.noticed → StillCovers coordinator.rows w.coordinator.rows → IsWellFormed w → MayCoordinate limits w coordinator
+  may_coordinate new masters noticed covers formed = record {
+    formed = new;
+    masters = masters;
+    noticed = subst (All (λ master. has_crashed w master ≡ true)) (sym noticed) formed.noticed;
+    base = base_covered w coordinator.rows covers formed;
+  }
 
 -- ---- changes of a world that keeps to limits
 
