@@ -1,14 +1,11 @@
 -- What a backup answers is well formed: the entries that a copy spells are those of a log.
-use Rattle.std.proofs.Common.{◌≡◌, ◌≤◌, ◌<◌, ◌+◌, ◌-◌, ◌==◌, ◌&&◌, ◌^◌, ℕ, zero, suc, Bool, false, true, cond, nat_le, if◌then◌else◌, List, [], ◌∷◌, ◌++◌, map, find, All, length, Option, None, Some, refl, ap, subst, sym, ◌∙◌, append_assoc, append-nil, arith, lit<}
-use Rattle.std.specs.Int.{w8, w32, w64}
+use Rattle.std.proofs.Common.{◌≡◌, ◌-◌, ◌==◌, ℕ, suc, Bool, false, true, cond, List, [], ◌∷◌, ◌++◌, All, length, Option, None, Some, refl, ap, subst, sym, ◌∙◌, append-nil, arith}
 use Rattle.std.specs.List.{flat_map}
 use Rattle.std.specs.Option.{option_map_or}
-use Rattle.std.specs.Prelude.{slice_index_or, slice_set}
 use Rattle.std.proofs.lemmas.Bool.{cond_both, eqb-true}
 use Rattle.std.proofs.lemmas.List.Elements.{All-append, All-cons, All-head, All-map, All-nil, All-push, All-set, All-tail, All-weaker}
 use Rattle.std.proofs.lemmas.List.Concat.{flat_map-append}
 use Rattle.rk_types.specs.declared.held.Held.{Held}
-use Rattle.rk_types.specs.declared.held.TheConstants.{SEGMENT_BYTES}
 use Rattle.rk_types.specs.declared.node.Node.{Node}
 use Rattle.rk_types.specs.declared.node.Node.TheVariants as nodes
 use Rattle.rk_outside.specs.Segments.{bytes_of as read_bytes}
@@ -18,12 +15,11 @@ use Rattle.rk_entry.specs.Spelling.{spelled}
 use Rattle.rk_entry.specs.declared.entry.Entry.{Entry}
 use Rattle.rk_entry.specs.declared.entry.Entry.TheVariants as entries
 use Rattle.rk_log.specs.Cut.{cut, cut_after, has_room, in_last, last_of, with_bytes}
-use Rattle.rk_log.specs.Log.{Log, bytes_of, numbered, segment_of, segments}
+use Rattle.rk_log.specs.Log.{bytes_of, numbered, segment_of, segments}
 use Rattle.rk_segment.specs.Segment.{NumberedBytes}
 use Rattle.rk_message.specs.Frames.{IsLawfulBody}
 use Rattle.rk_message.specs.declared.message.Body.{Body}
 use Rattle.rk_message.specs.declared.message.Body.TheVariants as bodies
-use Rattle.rk_message.specs.declared.message.Message.{Message}
 use Rattle.rk_message.specs.declared.rebuilding.ReadSegment.{ReadSegment}
 use Rattle.rk_message.specs.declared.replication.Append.{Append}
 use Rattle.rk_world.specs.Backup.{Called, Appended, Gave, Failed, append_step, backup_step, common_front, copied, master_message, read_step}
@@ -32,9 +28,8 @@ use Rattle.rk_world.specs.Limits.{IsFormedBody, IsFormedEntry, IsFormedHeld, IsF
 use Rattle.rk_world.specs.Master.{Master}
 use Rattle.rk_world.specs.Material.{as_entries}
 use Rattle.rk_world.specs.Premises.{IsMaster, MayCome}
+use Rattle.rk_laws_formed.proofs.Lists.{all_at, all_find, all_given}
 use Rattle.rk_laws_formed.proofs.Bytes.{entries_nil, read_front}
-use Rattle.rk_laws_formed.proofs.Maps.{All_find}
-use Rattle.rk_laws_formed.proofs.Replays.{flat_all}
 use Rattle.rk_laws_formed.proofs.Work.{AreLimits}
 
 -- ---- the segments of a log
@@ -67,12 +62,6 @@ spells_more P bytes entry it spells = record {
 spells_alone : (P : Entry → Type 0) (entry : Entry) → P entry → Spells P (spelled entry)
 spells_alone P entry it = subst (Spells P) refl (spells_more P [] entry it (spells_none P))
 
--- what all have, and what stands in for none, the one at a place has
-at_place : {X : Type 0} (P : X → Type 0) (list : List X) (place : ℕ) (none : X) → P none → All P list → P (slice_index_or list place none)
-at_place P [] place none it all = it
-at_place P (x ∷ list) zero none it all = All-head P x list all
-at_place P (x ∷ list) (suc place) none it all = at_place P list place none it (All-tail P x list all)
-
 cut_spells : (P : Entry → Type 0) (list : List Entry) (before : List (List ℕ)) → All P list → All (Spells P) before → All (Spells P) (cut_after before list)
 cut_spells P [] before each all = all
 cut_spells P (entry ∷ list) before each all =
@@ -81,7 +70,7 @@ cut_spells P (entry ∷ list) before each all =
     (λ room.
     All-set (Spells P) before (length before - 1) _
     (spells_more P (last_of before) entry (All-head P entry list each)
-    (at_place (Spells P) before (length before - 1) [] (spells_none P) all))
+    (all_at (Spells P) before (length before - 1) [] (spells_none P) all))
     all)
     (λ full. All-push (Spells P) before (spelled entry) all (spells_alone P entry (All-head P entry list each))))
 
@@ -103,7 +92,7 @@ sides_spell limits number master formed =
     (All-map (Spells (IsFormedEntry limits)) (λ items. spelled_all (as_entries items)) master.sides
     (All-weaker (All (IsFormedHeld limits)) (λ items. Spells (IsFormedEntry limits) (spelled_all (as_entries items)))
     (λ items all. items_spell limits items all) master.sides
-    (flat_all (IsFormedHeld limits) (λ items. items) master.sides formed.items)))
+    (all_given (IsFormedHeld limits) (λ items. items) master.sides formed.items)))
 
 -- each segment of its log
 pub segment_spells : (limits : Limits) (number : ℕ) (master : Master) (segment : ℕ) → IsFormedMaster limits number master → Spells (IsFormedEntry limits) (bytes_of master.log segment)
@@ -120,7 +109,7 @@ segment_spells limits number master segment formed =
     go : (there : Option NumberedBytes) → segment_of segment (segments master.log) ≡ there → Spells (IsFormedEntry limits) (option_map_or (λ one. one.bytes) there [])
     go None is = spells_none (IsFormedEntry limits)
     go (Some one) is =
-        All_find (λ one. Spells (IsFormedEntry limits) one.bytes) (λ one. one.number == segment) (segments master.log) one all is
+        all_find (λ one. Spells (IsFormedEntry limits) one.bytes) (λ one. one.number == segment) (segments master.log) one all is
 
 -- a well formed entry is lawful
 lawful_of : (limits : Limits) (entry : Entry) → IsFormedEntry limits entry → IsLawfulEntry entry

@@ -1,8 +1,8 @@
 -- What holds of all numbers of lists and of maps by number holds of each: none is above the greatest, and none above the sum.
-use Rattle.std.proofs.Common.{◌≡◌, ◌≤◌, ℕ, zero, suc, slice_get, max, true, false, cond, List, [], ◌∷◌, ◌++◌, map, fold, sum, All, Some, sym, ap, subst, arith}
-use Rattle.std.specs.List.{flat_map, sum_by}
+use Rattle.std.proofs.Common.{◌≡◌, ◌≤◌, ℕ, max, true, false, cond, List, [], ◌∷◌, map, fold, sum, All, Some, sym, ap, subst, arith}
+use Rattle.std.specs.List.{sum_by}
 use Rattle.std.specs.Ordering.{eq_by_cmp, nat_cmp}
-use Rattle.std.proofs.lemmas.List.Elements.{All-append, All-cons, All-head, All-nil, All-tail}
+use Rattle.std.proofs.lemmas.List.Elements.{All-cons, All-head, All-nil, All-tail}
 use Rattle.std.proofs.lemmas.List.Sums.{sum-map, sum_by-cons}
 use Rattle.rk_types.specs.NumberMap.{NumberMap, get}
 use Rattle.rk_world.specs.World.{greatest}
@@ -35,49 +35,6 @@ greatest_from limit start (first ∷ rest) low all =
 -- and the greatest is not above what none is above
 pub greatest_within : (limit : ℕ) (numbers : List ℕ) → All (λ n. n ≤ limit) numbers → greatest numbers ≤ limit
 greatest_within limit numbers all = greatest_from limit 0 numbers (omega arith) all
-
--- ---- parts of lists
-
--- what holds of all elements of two lists holds of those of the first
-pub all_front : {X : Type 0} (P : X → Type 0) (front back : List X) → All P (front ++ back) → All P front
-all_front P [] back all = All-nil P
-all_front P (first ∷ rest) back all =
-    All-cons P first rest (All-head P first (rest ++ back) all)
-    (all_front P rest back (All-tail P first (rest ++ back) all))
-
--- and of those of the second
-pub all_back : {X : Type 0} (P : X → Type 0) (front back : List X) → All P (front ++ back) → All P back
-all_back P [] back all = all
-all_back P (first ∷ rest) back all = all_back P rest back (All-tail P first (rest ++ back) all)
-
--- what holds of all elements of what each gives holds of all that is given
-pub all_flat : {X Y : Type 0} (P : Y → Type 0) (give : X → List Y) (list : List X) → All (λ x. All P (give x)) list → All P (flat_map give list)
-all_flat P give [] all = All-nil P
-all_flat P give (first ∷ rest) all =
-    All-append P (give first) (flat_map give rest) (All-head (λ x. All P (give x)) first rest all)
-    (all_flat P give rest (All-tail (λ x. All P (give x)) first rest all))
-
--- and the other way round
-pub all_given : {X Y : Type 0} (P : Y → Type 0) (give : X → List Y) (list : List X) → All P (flat_map give list) → All (λ x. All P (give x)) list
-all_given P give [] all = All-nil _
-all_given P give (first ∷ rest) all =
-    All-cons (λ x. All P (give x)) first rest (all_front P (give first) (flat_map give rest) all)
-    (all_given P give rest (all_back P (give first) (flat_map give rest) all))
-
--- what holds of all that a list was changed into
-pub all_before : {X Y : Type 0} (P : Y → Type 0) (change : X → Y) (list : List X) → All P (map change list) → All (λ x. P (change x)) list
-all_before P change [] all = All-nil _
-all_before P change (first ∷ rest) all =
-    All-cons (λ x. P (change x)) first rest (All-head P (change first) (map change rest) all)
-    (all_before P change rest (All-tail P (change first) (map change rest) all))
-
--- what holds of all elements holds of the one at a place
-pub all_got : {X : Type 0} (P : X → Type 0) (list : List X) (place : ℕ) (x : X) → slice_get list place ≡ Some x → All P list → P x
-all_got P [] place x found all = absurd (cc found)
-all_got P (first ∷ rest) zero x found all =
-    let is : first ≡ x = cc found in
-    subst P is (All-head P first rest all)
-all_got P (first ∷ rest) (suc place) x found all = all_got P rest place x found (All-tail P first rest all)
 
 -- ---- maps by number
 

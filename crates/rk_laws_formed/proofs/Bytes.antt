@@ -1,7 +1,7 @@
 -- What is spelled of lawful entries are bytes, and the entries that are read of a first part of a spelling are among those spelled.
-use Rattle.std.proofs.Common.{◌≡◌, ◌≤◌, ◌<◌, ◌+◌, ◌-◌, ◌*◌, ◌%◌, ◌/◌, ◌||◌, ◌^◌, ℕ, zero, suc, Bool, false, true, cond, ltb, if◌then◌else◌, List, [], ◌∷◌, ◌++◌, All, length, get_or, take, drop, Option, None, Some, IfSome, Result, Ok, Err, refl, ap, subst, sym, ◌∙◌, ⊎_elim, append_assoc, length-append, arith, lit<, mod-lt}
-use Rattle.std.specs.Int.{Width, w8, w16, w32, w64, byte_len, to_be_bytes, byte_at, bytes_high_first}
-use Rattle.std.specs.List.{AllByRecursion, flat_map, position, position_or_len}
+use Rattle.std.proofs.Common.{◌≡◌, ◌≤◌, ◌<◌, ◌+◌, ◌/◌, ◌||◌, ◌^◌, ℕ, zero, suc, Bool, false, true, cond, List, [], ◌∷◌, ◌++◌, All, length, Option, None, Some, IfSome, Result, Ok, Err, refl, ap, subst, sym, ◌∙◌, ⊎_elim, append_assoc, arith, lit<, mod-lt}
+use Rattle.std.specs.Int.{Width, w8, w16, w32, w64, byte_len, byte_at, bytes_high_first}
+use Rattle.std.specs.List.{position, position_or_len}
 use Rattle.std.specs.Option.{option_map}
 use Rattle.std.specs.Prelude.{nat_lt, not}
 use Rattle.std.proofs.lemmas.Bool.{cases_lt, cond-true, cond_both}
@@ -13,7 +13,6 @@ use Rattle.rk_types.specs.declared.call.End.{End}
 use Rattle.rk_types.specs.declared.call.End.TheVariants as ends
 use Rattle.rk_types.specs.declared.call.Ended.{Ended}
 use Rattle.rk_types.specs.declared.range.Range.{Range}
-use Rattle.rk_types.specs.declared.text.TextError.{TextError}
 use Rattle.rk_types.specs.declared.text.TextError.TheVariants.{Byte, Length}
 use Rattle.rk_types.specs.declared.text.TheConstants.{FIRST_TEXT_BYTE, LAST_TEXT_BYTE, LONGEST_KEY, LONGEST_VALUE}
 use Rattle.rk_entry.proofs.EntryLaws.{entry_takes, one_spelled}
@@ -32,7 +31,7 @@ use Rattle.rk_entry.specs.Texts.{key_bytes, value_bytes}
 use Rattle.rk_entry.specs.declared.entry.Entry.{Entry}
 use Rattle.rk_entry.specs.declared.entry.Entry.TheVariants as entries
 use Rattle.rk_entry.specs.declared.error.DecodeError.{DecodeError}
-use Rattle.rk_laws_formed.proofs.Maps.{All_back, All_flat, All_front}
+use Rattle.rk_laws_formed.proofs.Lists.{all_flat, all_front}
 
 -- each of these is a byte
 abbrev AreBytes : List ℕ → Type 0
@@ -120,11 +119,11 @@ each_number (n ∷ list) = All-cons (λ n. AreBytes (number_bytes w32 n)) n list
 
 ends_are : (list : List Ended) → AreBytes (ends_bytes list)
 unfolding ends_bytes
-ends_are list = All_flat (λ byte. byte < 256) end_bytes list (each_end list)
+ends_are list = all_flat (λ byte. byte < 256) end_bytes list (each_end list)
 
 segments_are : (list : List ℕ) → AreBytes (segments_bytes list)
 unfolding segments_bytes
-segments_are list = All_flat (λ byte. byte < 256) (number_bytes w32) list (each_number list)
+segments_are list = all_flat (λ byte. byte < 256) (number_bytes w32) list (each_number list)
 
 range_are : (range : Range) → AreBytes (range_bytes range)
 unfolding range_bytes
@@ -175,7 +174,7 @@ spelled_are entry lawful =
 all_spelled_are : (list : List Entry) → All IsLawfulEntry list → AreBytes (spelled_all list)
 unfolding spelled_all
 all_spelled_are list lawful =
-    All_flat (λ byte. byte < 256) spelled list
+    all_flat (λ byte. byte < 256) spelled list
     (All-weaker IsLawfulEntry (λ entry. AreBytes (spelled entry)) (λ entry it. spelled_are entry it) list lawful)
 
 -- ---- what is read of a first part
@@ -224,7 +223,7 @@ read_front P (first ∷ list) front rest lawful all is =
   where
     bytes : AreBytes front
     bytes =
-        All_front (λ byte. byte < 256) front rest
+        all_front (λ byte. byte < 256) front rest
         (subst AreBytes is (all_spelled_are (first ∷ list) lawful))
 
     go : (read : Result (Entry × List ℕ) DecodeError) → read_entry front ≡ read → ((after : List ℕ) → spelled_all list ≡ after ++ rest → All P (entries_of after)) → All P (entries_of front)
@@ -232,7 +231,7 @@ read_front P (first ∷ list) front rest lawful all is =
     go (Ok (entry, after)) read later =
         let stands = what_is_read front entry after bytes read in
         let whole : spelled first ++ spelled_all list ≡ spelled entry ++ (after ++ rest) =
-            sym (spelled_cons first list) ∙ is ∙ ap (λ (l : List ℕ). l ++ rest) stands.stands ∙ append_assoc (spelled entry) after rest in
+        sym (spelled_cons first list) ∙ is ∙ ap (λ (l : List ℕ). l ++ rest) stands.stands ∙ append_assoc (spelled entry) after rest in
         let same = one_spelled first entry (spelled_all list) (after ++ rest) (All-head IsLawfulEntry first list lawful) stands.lawful whole in
         subst (All P) (sym (entries_of-cons front entry after read))
         (All-cons P entry (entries_of after) (subst P same.0 (All-head P first list all)) (later after same.1))

@@ -5,7 +5,7 @@ use Rattle.std.proofs.lemmas.Grind.{flat_map-append}
 use Rattle.std.proofs.lemmas.List.{get_or_past, map-append}
 use Rattle.std.proofs.lemmas.List.Elements.{All-append, All-cons, All-filter, All-get_or, All-head, All-nil, All-push, All-set, All-tail}
 use Rattle.rk_types.proofs.NumberMaps.{each_insert, each_weaker, in_order_insert}
-use Rattle.rk_types.specs.NumberMap.{IsInOrder}
+use Rattle.rk_types.specs.NumberMap.{EachIn, IsInOrder, NumberMap, insert}
 use Rattle.rk_types.specs.declared.call.Call.{Call}
 use Rattle.rk_types.specs.declared.held.Held.{Held}
 use Rattle.rk_types.specs.declared.range.Range.{Range}
@@ -26,10 +26,10 @@ use Rattle.rk_world.specs.Tablet.{Tablet}
 
 -- ---- tablets
 
--- one of its tablets is so
-pub formed_with_tablet : (limits : Limits) (number : ℕ) (master : Master) (id : ℕ) (tablet : Tablet) → IsFormedMaster limits number master
-    → IsFormedTablet limits id tablet → IsFormedMaster limits number (with_tablet master id tablet)
-formed_with_tablet limits number master id tablet formed new = record {
+-- its tablets are so
+pub formed_with_tablets : (limits : Limits) (number : ℕ) (master : Master) (tablets : NumberMap Tablet) → IsFormedMaster limits number master
+    → IsInOrder tablets → EachIn (IsFormedTablet limits) tablets → IsFormedMaster limits number (record master { tablets = tablets })
+formed_with_tablets limits number master tablets formed order each = record {
   number_is = formed.number_is;
   known = formed.known;
   lengths = formed.lengths;
@@ -42,8 +42,38 @@ formed_with_tablet limits number master id tablet formed new = record {
   applied = formed.applied;
   calls_order = formed.calls_order;
   calls = formed.calls;
-  tablets_order = in_order_insert master.tablets id tablet formed.tablets_order;
-  tablets = each_insert (IsFormedTablet limits) master.tablets id tablet formed.tablets new;
+  tablets_order = order;
+  tablets = each;
+}
+
+-- one of its tablets is so
+pub formed_with_tablet : (limits : Limits) (number : ℕ) (master : Master) (id : ℕ) (tablet : Tablet) → IsFormedMaster limits number master
+    → IsFormedTablet limits id tablet → IsFormedMaster limits number (with_tablet master id tablet)
+formed_with_tablet limits number master id tablet formed new =
+    formed_with_tablets limits number master (insert master.tablets id tablet) formed
+    (in_order_insert master.tablets id tablet formed.tablets_order)
+    (each_insert (IsFormedTablet limits) master.tablets id tablet formed.tablets new)
+
+-- ---- calls
+
+-- the calls that wait are so
+pub formed_with_calls : (limits : Limits) (number : ℕ) (master : Master) (calls : NumberMap Call) → IsFormedMaster limits number master
+    → IsInOrder calls → EachIn (IsFormedCall limits (length master.log.entries)) calls → IsFormedMaster limits number (record master { calls = calls })
+formed_with_calls limits number master calls formed order each = record {
+  number_is = formed.number_is;
+  known = formed.known;
+  lengths = formed.lengths;
+  written = formed.written;
+  spelled = formed.spelled;
+  sides = formed.sides;
+  items = formed.items;
+  records = formed.records;
+  scanned = formed.scanned;
+  applied = formed.applied;
+  calls_order = order;
+  calls = each;
+  tablets_order = formed.tablets_order;
+  tablets = formed.tablets;
 }
 
 -- ---- the log
@@ -97,27 +127,11 @@ formed_with_all limits number (entry ∷ entries) master formed each =
 pub formed_with_staged : (limits : Limits) (number : ℕ) (master : Master) (call : Call) (entry : Entry) → IsFormedMaster limits number master
     → IsFormedCall limits (length (master.log.entries ++ entry ∷ [])) (length master.log.entries) call → IsFormedEntry limits entry
     → IsFormedMaster limits number (with_staged master call entry)
-formed_with_staged limits number master call entry formed waits new = record {
-  number_is = formed.number_is;
-  known = formed.known;
-  lengths = formed.lengths;
-  written = All-push (IsFormedEntry limits) master.log.entries entry formed.written new;
-  spelled = formed.spelled;
-  sides = formed.sides;
-  items = formed.items;
-  records = formed.records;
-  scanned = formed.scanned;
-  applied = omega (arith, formed.applied, longer_by master.log.entries entry);
-  calls_order = in_order_insert master.calls (length master.log.entries) call formed.calls_order;
-  calls =
-      each_insert (IsFormedCall limits (length (master.log.entries ++ entry ∷ []))) master.calls (length master.log.entries) call
-      (each_weaker (IsFormedCall limits (length master.log.entries)) (IsFormedCall limits (length (master.log.entries ++ entry ∷ []))) master.calls
-      (λ place call. call_later limits (length master.log.entries) (length (master.log.entries ++ entry ∷ [])) place call (omega (arith, longer_by master.log.entries entry)))
-      formed.calls)
-      waits;
-  tablets_order = formed.tablets_order;
-  tablets = formed.tablets;
-}
+formed_with_staged limits number master call entry formed waits new =
+    let longer = formed_with_appended limits number master entry formed new in
+    formed_with_calls limits number (with_appended master entry) (insert master.calls (length master.log.entries) call) longer
+    (in_order_insert master.calls (length master.log.entries) call formed.calls_order)
+    (each_insert (IsFormedCall limits (length (master.log.entries ++ entry ∷ []))) master.calls (length master.log.entries) call longer.calls waits)
 
 -- what a backup is known to hold stays in order
 known_order : (limits : Limits) (number : ℕ) (master : Master) (backup segment size : ℕ) → IsFormedMaster limits number master

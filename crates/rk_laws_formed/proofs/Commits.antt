@@ -1,10 +1,10 @@
 -- What a master makes of what a backup tells is well formed: what every backup holds by then is applied, and what waited goes on.
-use Rattle.std.proofs.Common.{◌≡◌, ◌≤◌, ◌<◌, ◌+◌, ℕ, Bool, true, false, cond, not, ◌&&◌, All, List, [], ◌∷◌, length, map, take, Option, None, Some, refl, sym, ap, subst, ◌∙◌, arith, length-drop, length-take}
+use Rattle.std.proofs.Common.{◌≡◌, ◌≤◌, ◌<◌, ◌+◌, ℕ, Bool, true, false, cond, not, ◌&&◌, All, List, [], ◌∷◌, length, take, Option, None, Some, refl, sym, ap, subst, ◌∙◌, arith, length-drop, length-take}
 use Rattle.std.specs.Prelude.{IfSome}
 use Rattle.std.proofs.lemmas.Bool.{cond_both}
-use Rattle.std.proofs.lemmas.List.Elements.{All-cons, All-drop, All-head, All-map, All-nil, All-tail, All-take, All-weaker}
+use Rattle.std.proofs.lemmas.List.Elements.{All-cons, All-drop, All-head, All-nil, All-tail, All-take}
 use Rattle.rk_types.proofs.NumberMaps.{each_less, in_order_changed, in_order_remove, remove_less}
-use Rattle.rk_types.specs.NumberMap.{EachIn, NumberMap, get, remove}
+use Rattle.rk_types.specs.NumberMap.{EachIn, NumberMap, changed_each, get, remove}
 use Rattle.rk_types.specs.declared.call.Answer.TheVariants as answers
 use Rattle.rk_types.specs.declared.call.Call.{Call}
 use Rattle.rk_types.specs.declared.call.End.TheVariants as ends
@@ -29,8 +29,8 @@ use Rattle.rk_world.specs.RoleTests.{is_absent}
 use Rattle.rk_world.specs.Tablet.{Tablet}
 use Rattle.rk_world.specs.Waiting.{all_going_on}
 use Rattle.rk_world.specs.Worked.{changed}
-use Rattle.rk_laws_formed.proofs.Changes.{formed_with_item, formed_with_known}
-use Rattle.rk_laws_formed.proofs.Maps.{All_pairs, each_from_pairs}
+use Rattle.rk_laws_formed.proofs.Changes.{formed_with_calls, formed_with_item, formed_with_known, formed_with_tablets}
+use Rattle.rk_laws_formed.proofs.Maps.{All_pairs, each_changed}
 use Rattle.rk_laws_formed.proofs.Messages.{formed_answering}
 use Rattle.rk_laws_formed.proofs.Requests.{outcome_told}
 use Rattle.rk_laws_formed.proofs.Tablets.{formed_noting}
@@ -126,23 +126,10 @@ formed_with_applied limits number master formed more = record {
 -- a call at a place waits no more
 formed_without_call : (limits : Limits) (number : ℕ) (master : Master) (place : ℕ) → IsFormedMaster limits number master
     → IsFormedMaster limits number (without_call master place)
-formed_without_call limits number master place formed = record {
-  number_is = formed.number_is;
-  known = formed.known;
-  lengths = formed.lengths;
-  written = formed.written;
-  spelled = formed.spelled;
-  sides = formed.sides;
-  items = formed.items;
-  records = formed.records;
-  scanned = formed.scanned;
-  applied = formed.applied;
-  calls_order = in_order_remove master.calls place formed.calls_order;
-  calls =
-      each_less (IsFormedCall limits (length master.log.entries)) (remove master.calls place) master.calls (remove_less master.calls place) formed.calls;
-  tablets_order = formed.tablets_order;
-  tablets = formed.tablets;
-}
+formed_without_call limits number master place formed =
+    formed_with_calls limits number master (remove master.calls place) formed (in_order_remove master.calls place formed.calls_order)
+    (each_less (IsFormedCall limits (length master.log.entries)) (remove master.calls place) master.calls (remove_less master.calls place)
+    formed.calls)
 
 -- a tablet that may note the end of a call
 formed_may_note : (limits : Limits) (number : ℕ) (tablet : Tablet) (call : Call) (end : Ended) → IsFormedEnd limits end
@@ -155,27 +142,11 @@ formed_may_note limits number tablet call end new formed =
 -- each tablet that has the key of a call notes its end
 formed_with_noted : (limits : Limits) (number : ℕ) (master : Master) (call : Call) (end : Ended) → IsFormedMaster limits number master
     → IsFormedEnd limits end → IsFormedMaster limits number (with_noted master call end)
-formed_with_noted limits number master call end formed new = record {
-  number_is = formed.number_is;
-  known = formed.known;
-  lengths = formed.lengths;
-  written = formed.written;
-  spelled = formed.spelled;
-  sides = formed.sides;
-  items = formed.items;
-  records = formed.records;
-  scanned = formed.scanned;
-  applied = formed.applied;
-  calls_order = formed.calls_order;
-  calls = formed.calls;
-  tablets_order = in_order_changed (λ number tablet. noting call end tablet) master.tablets formed.tablets_order;
-  tablets =
-      each_from_pairs (IsFormedTablet limits) (map (λ entry. (entry.0, noting call end entry.1)) master.tablets)
-      (All-map (λ entry. IsFormedTablet limits entry.0 entry.1) (λ entry. (entry.0, noting call end entry.1)) master.tablets
-      (All-weaker (λ entry. IsFormedTablet limits entry.0 entry.1) (λ entry. IsFormedTablet limits entry.0 (noting call end entry.1))
-      (λ entry there. formed_may_note limits entry.0 entry.1 call end new there) master.tablets
-      (All_pairs (IsFormedTablet limits) master.tablets formed.tablets_order formed.tablets)));
-}
+formed_with_noted limits number master call end formed new =
+    formed_with_tablets limits number master (changed_each (λ number tablet. noting call end tablet) master.tablets) formed
+    (in_order_changed (λ number tablet. noting call end tablet) master.tablets formed.tablets_order)
+    (each_changed (IsFormedTablet limits) (IsFormedTablet limits) (λ number tablet. noting call end tablet)
+    (λ id tablet there. formed_may_note limits id tablet call end new there) master.tablets formed.tablets)
 
 -- ---- entries that are applied
 

@@ -32,7 +32,8 @@ use Rattle.rk_world.specs.Tablet.{Tablet, no_tablet, with_handover}
 use Rattle.rk_world.specs.Waiting.{all_going_on, closing_entry, freezing, going_on_in, is_sealed_stored, tablet_frozen}
 use Rattle.rk_world.specs.World.{counters_of}
 use Rattle.rk_world.specs.Worked.{Worked, changed}
-use Rattle.rk_laws_formed.proofs.Maps.{All_insert, All_unmap, each_from_pairs}
+use Rattle.rk_laws_formed.proofs.Lists.{all_before}
+use Rattle.rk_laws_formed.proofs.Maps.{All_insert, each_from_pairs}
 use Rattle.rk_laws_formed.proofs.Waiting.{EachMoved}
 
 -- no counter of a tablet is greater
@@ -46,7 +47,7 @@ CountersWithin most master = All (λ counter. counter ≤ most) (counters_of mas
 -- it is said of the tablets, and of their counters
 pub counts_from_counters : (most : ℕ) (master : Master) → CountersWithin most master → CountsWithin most master.tablets
 counts_from_counters most master each =
-    All_unmap (λ counter. counter ≤ most) (λ entry. entry.1.handover.counter) master.tablets each
+    all_before (λ counter. counter ≤ most) (λ entry. entry.1.handover.counter) master.tablets each
 
 -- and the other way round
 pub counters_from_counts : (most : ℕ) (master : Master) → CountsWithin most master.tablets → CountersWithin most master

@@ -27,7 +27,7 @@ use Rattle.rk_world.specs.Ledger.{LastCall, Ledger, asked_by, is_added, seen_of,
 use Rattle.rk_world.specs.Limits.{IsFormedMessage, Limits}
 use Rattle.rk_world.specs.Marks.{Mark}
 use Rattle.rk_world.specs.Refusals.{MOST_CLIENTS}
-use Rattle.rk_laws_formed.proofs.Bounds.{all_got}
+use Rattle.rk_laws_formed.proofs.Lists.{all_got}
 
 -- what each step keeps, a fold keeps
 pub kept_by_fold : {X S : Type 0} (Keeps : S → Type 0) (step : S → X → S) → ((state : S) (x : X) → Keeps state → Keeps (step state x)) → (list : List X) (state : S) → Keeps state → Keeps (fold step state list)

@@ -1,3 +1,4 @@
+pub mod Lists
 pub mod Work
 pub mod Rising
 pub mod Sizes

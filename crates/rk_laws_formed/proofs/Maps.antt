@@ -1,75 +1,16 @@
--- Lists and maps by number: what holds of each element of a list stays so where the list is joined, found in, or folded over; and what
--- each thing of a map has, each of its pairs has, and the other way round.
-use Rattle.std.proofs.Common.{map, fold, ◌++◌, ◌≡◌, ◌<◌, ℕ, Bool, true, false, ◌&&◌, cond, T, All, List, [], ◌∷◌, Some, flat_map, refl, sym, subst, ◌∙◌, arith}
+-- Maps by number: what each thing of a map has, each of its pairs has, and the other way round; and a map where each thing changed.
+use Rattle.std.specs.Option.{option_map}
+use Rattle.std.proofs.Common.{Option, None, ap, ◌≡◌, ◌<◌, ℕ, Bool, true, false, ◌&&◌, cond, T, All, [], ◌∷◌, Some, refl, sym, subst, ◌∙◌, arith}
 use Rattle.std.proofs.lemmas.Bool.{cond-false, cond-true, eq-eqb, ne_eqb}
-use Rattle.std.proofs.lemmas.List.Elements.{All-append, All-cons, All-head, All-nil, All-tail}
+use Rattle.std.proofs.lemmas.List.Elements.{All-cons, All-head, All-nil, All-tail}
 use Rattle.std.specs.Cmp.{ranked, unsigned_tied}
 use Rattle.std.specs.FinMap.Entries.{below_all, by_order}
 use Rattle.std.specs.List.{find}
 use Rattle.std.specs.Ordering.{eq_by_cmp, is_lt, nat_cmp}
 use Rattle.std.specs.declared.cmp.Ordering.TheVariants.{Less, Equal, Greater}
 use Rattle.rk_types.proofs.NumberMaps.{same_number}
-use Rattle.rk_types.specs.NumberMap.{EachIn, IsInOrder, NumberMap, get, insert}
-
--- ---- lists
-
--- what a test finds has what each element has
-pub All_find : {X : Type 0} (P : X → Type 0) (p : X → Bool) (xs : List X) (x : X) → All P xs → find p xs ≡ Some x → P x
-All_find P p [] x each found = absurd (cc found)
-All_find P p (y ∷ ys) x each found =
-    elim (p y) as (λ b. cond b (Some y) (find p ys) ≡ Some x → P x) [
-      | true ↦ λ e. let same : y ≡ x = cc e in subst P same (All-head P y ys each)
-      | false ↦ λ e. All_find P p ys x (All-tail P y ys each) e
-    ] found
-
--- it passes the test
-pub find_passes : {X : Type 0} (p : X → Bool) (xs : List X) (x : X) → find p xs ≡ Some x → p x ≡ true
-find_passes p [] x found = absurd (cc found)
-find_passes {X} p (y ∷ ys) x found =
-    elim (p y) as (λ b. p y ≡ b → cond b (Some y) (find p ys) ≡ Some x → p x ≡ true) [
-      | true ↦ λ is e. let same : y ≡ x = cc e in subst (λ (z : X). p z ≡ true) same is
-      | false ↦ λ is e. find_passes p ys x e
-    ] refl found
-
--- what all pieces have, all of them together have
-pub All_flat : {X Y : Type 0} (P : Y → Type 0) (f : X → List Y) (xs : List X) → All (λ x. All P (f x)) xs → All P (flat_map f xs)
-All_flat P f [] each = All-nil P
-All_flat P f (x ∷ xs) each =
-    All-append P (f x) (flat_map f xs) (All-head (λ y. All P (f y)) x xs each)
-    (All_flat P f xs (All-tail (λ y. All P (f y)) x xs each))
-
--- what each image has, each element's image has
-pub All_unmap : {X Y : Type 0} (P : Y → Type 0) (f : X → Y) (xs : List X) → All P (map f xs) → All (λ x. P (f x)) xs
-All_unmap P f [] each = All-nil (λ x. P (f x))
-All_unmap P f (x ∷ xs) each =
-    All-cons (λ x. P (f x)) x xs (All-head P (f x) (map f xs) each) (All_unmap P f xs (All-tail P (f x) (map f xs) each))
-
--- what each step of a fold keeps, the fold keeps
-pub fold_keeps : {A B : Type 0} (P : B → Type 0) (f : B → A → B) (xs : List A) (b : B) → P b → ((b : B) (a : A) → P b → P (f b a)) → P (fold f b xs)
-fold_keeps P f [] b now step = now
-fold_keeps P f (x ∷ xs) b now step = fold_keeps P f xs (f b x) (step b x now) step
-
--- and so does one whose elements have something
-pub fold_keeps_all : {A B : Type 0} (P : B → Type 0) (Q : A → Type 0) (f : B → A → B) (xs : List A) (b : B) → P b → All Q xs
-    → ((b : B) (a : A) → P b → Q a → P (f b a)) → P (fold f b xs)
-fold_keeps_all P Q f [] b now each step = now
-fold_keeps_all P Q f (x ∷ xs) b now each step =
-    fold_keeps_all P Q f xs (f b x) (step b x now (All-head Q x xs each)) (All-tail Q x xs each) step
-
--- the parts of a joined list have what all of it has
-pub All_front : {X : Type 0} (P : X → Type 0) (xs ys : List X) → All P (xs ++ ys) → All P xs
-All_front P [] ys each = All-nil P
-All_front P (x ∷ xs) ys each =
-    All-cons P x xs (All-head P x (xs ++ ys) each) (All_front P xs ys (All-tail P x (xs ++ ys) each))
-
--- the second part
-pub All_back : {X : Type 0} (P : X → Type 0) (xs ys : List X) → All P (xs ++ ys) → All P ys
-All_back P [] ys each = each
-All_back P (x ∷ xs) ys each = All_back P xs ys (All-tail P x (xs ++ ys) each)
-
--- the last element
-pub All_last : {X : Type 0} (P : X → Type 0) (xs : List X) (x : X) → All P (xs ++ x ∷ []) → P x
-All_last P xs x each = All-head P x [] (All_back P xs (x ∷ []) each)
+use Rattle.rk_types.specs.NumberMap.{EachIn, IsInOrder, NumberMap, changed_each, get, insert}
+use Rattle.rk_laws_formed.proofs.Lists.{all_find}
 
 -- ---- maps
 
@@ -165,5 +106,27 @@ module _ {X : Type 0} where
   pub find_is_got : (p : ℕ × X → Bool) (things : NumberMap X) (pair : ℕ × X) → IsInOrder things → find p things ≡ Some pair
       → get things pair.0 ≡ Some pair.1
   find_is_got p things pair order found =
-      All_find (λ (pair : ℕ × X). get things pair.0 ≡ Some pair.1) p things pair
+      all_find (λ (pair : ℕ × X). get things pair.0 ≡ Some pair.1) p things pair
       (All_pairs (λ q x. get things q ≡ Some x) things order (λ q x there. there)) found
+
+-- ---- each thing changed
+
+-- what is found in a map where each thing was changed
+found_changed : {X Y : Type 0} (change : ℕ → X → Y) (things : NumberMap X) (q : ℕ) → get (changed_each change things) q ≡ option_map (change q) (get things q)
+found_changed change [] q = refl
+found_changed {X = X} {Y = Y} change (first ∷ rest) q =
+    elim (eq_by_cmp nat_cmp q first.0) as (λ b. eq_by_cmp nat_cmp q first.0 ≡ b → cond b (Some (change first.0 first.1)) (get (changed_each change rest) q) ≡ option_map (change q) (cond b (Some first.1) (get rest q))) [
+      | true ↦ λ is. ap (λ (n : ℕ). Some (change n first.1)) (sym (same_number q first.0 is))
+      | false ↦ λ apart. found_changed change rest q
+    ] refl
+
+-- each thing has its property after a change that gives it
+pub each_changed : {X Y : Type 0} (Fits : ℕ → X → Type 0) (Gives : ℕ → Y → Type 0) (change : ℕ → X → Y) → ((number : ℕ) (thing : X) → Fits number thing → Gives number (change number thing)) → (things : NumberMap X) → EachIn Fits things → EachIn Gives (changed_each change things)
+each_changed {X = X} {Y = Y} Fits Gives change gives things each q y found =
+    go (get things q) refl (sym (found_changed change things q) ∙ found)
+  where
+    go : (there : Option X) → get things q ≡ there → option_map (change q) there ≡ Some y → Gives q y
+    go None there is = absurd (cc is)
+    go (Some x) there is =
+        let same : change q x ≡ y = cc is in
+        subst (Gives q) same (gives q x (each q x there))

@@ -1,5 +1,5 @@
 -- What a master makes of any message is well formed.
-use Rattle.std.proofs.Common.{◌≡◌, ℕ, All}
+use Rattle.std.proofs.Common.{ℕ}
 use Rattle.rk_types.specs.declared.node.Node.{Node}
 use Rattle.rk_types.specs.declared.node.Node.TheVariants as nodes
 use Rattle.rk_log.specs.Log.{overreach}

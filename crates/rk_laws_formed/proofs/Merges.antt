@@ -1,10 +1,10 @@
 -- What a rebuild merges of well formed entries is well formed: its copies, its ends and its floor.
-use Rattle.std.proofs.Common.{◌≡◌, ◌≤◌, ◌<◌, ◌+◌, ◌-◌, ◌==◌, ◌&&◌, ℕ, Bool, false, true, cond, max, if◌then◌else◌, List, [], ◌∷◌, ◌++◌, filter, fold, map, All, length, Option, None, Some, IfSome, refl, ap, subst, sym, ◌∙◌, arith}
+use Rattle.std.proofs.Common.{◌≡◌, ◌≤◌, ◌-◌, ◌==◌, ℕ, List, [], ◌∷◌, ◌++◌, filter, fold, map, All, Option, None, Some, refl, arith}
 use Rattle.std.specs.Prelude.{Contains, nat_lt, not, slice_index_or, unwrap_or}
 use Rattle.std.specs.List.{flat_map}
 use Rattle.std.proofs.lemmas.Bool.{cond_both}
 use Rattle.std.proofs.lemmas.List.Elements.{All-append, All-cons, All-contains, All-contains_itself, All-drop, All-filter, All-head, All-map, All-nil, All-tail, All-weaker}
-use Rattle.rk_types.specs.NumberMap.{EachIn, get, get_or, insert}
+use Rattle.rk_types.specs.NumberMap.{get}
 use Rattle.rk_types.specs.declared.call.Ended.{Ended}
 use Rattle.rk_types.specs.declared.held.Held.{Held}
 use Rattle.rk_types.specs.declared.lineage.Member.{Member}
@@ -17,21 +17,19 @@ use Rattle.rk_overlay.proofs.Overlays.{newest_items_are}
 use Rattle.rk_overlay.specs.Overlay.{newest_items}
 use Rattle.rk_done.specs.Completions.{completions_from, ended_of}
 use Rattle.rk_done.specs.declared.completion.Completion.{Completion}
-use Rattle.rk_world.specs.Ends.{items_of, told, told_by}
+use Rattle.rk_world.specs.Ends.{told, told_by}
 use Rattle.rk_world.specs.Formed.{IsFormedGathered, IsFormedMaster}
 use Rattle.rk_world.specs.Gather.{Gather, Gathered, by_member, counted_of, is_of_lineage, main_entries, material_by, side_read}
 use Rattle.rk_world.specs.Limits.{IsFormedEnd, IsFormedEntry, IsFormedHeld, Limits}
 use Rattle.rk_world.specs.Master.{Master}
-use Rattle.rk_world.specs.Material.{as_entries, counting, material_of, named, side_entries}
-use Rattle.rk_world.specs.Merge.{copies_of, ends_by_place, first_told, floor_by, floor_of, has_version, is_placed, merge, merged_ends, placed_ends}
+use Rattle.rk_world.specs.Material.{as_entries, material_of, named, side_entries}
+use Rattle.rk_world.specs.Merge.{copies_of, ends_by_place, first_told, floor_by, floor_of, has_version, is_placed, merged_ends, placed_ends}
 use Rattle.rk_world.specs.Rebuilds.{own_material, own_place}
 use Rattle.rk_world.specs.Tablet.{Tablet}
+use Rattle.rk_laws_formed.proofs.Lists.{all_at, all_each, all_flat, all_given}
 use Rattle.rk_laws_formed.proofs.Commits.{told_formed}
 use Rattle.rk_laws_formed.proofs.Completed.{completions_each, pairs_from_ends}
 use Rattle.rk_laws_formed.proofs.Maps.{each_from_pairs}
-use Rattle.rk_laws_formed.proofs.Pulls.{all_each, all_flat}
-use Rattle.rk_laws_formed.proofs.Replays.{all_at, flat_all}
-use Rattle.rk_laws_formed.proofs.Requests.{items_formed}
 
 -- ---- what counts
 
@@ -54,7 +52,7 @@ side_formed limits sides segment all =
     (All (IsFormedEntry limits)) (λ main. All-nil _)
     (λ side.
     entries_formed limits (slice_index_or sides (segment - FIRST_SIDE_SEGMENT) [])
-    (all_at (IsFormedHeld limits) sides (segment - FIRST_SIDE_SEGMENT) (flat_all (IsFormedHeld limits) (λ items. items) sides all)))
+    (all_at (All (IsFormedHeld limits)) sides (segment - FIRST_SIDE_SEGMENT) [] (All-nil _) (all_given (IsFormedHeld limits) (λ items. items) sides all)))
 
 -- the own entries that count
 pub own_formed : (limits : Limits) (number : ℕ) (master : Master) (tablet : Tablet) → IsFormedMaster limits number master → All (IsFormedEntry limits) (own_material master tablet)

@@ -18,7 +18,7 @@ use Rattle.rk_world.specs.Master.{Master}
 use Rattle.rk_world.specs.Premises.{IsLawfulCall, IsMaster}
 use Rattle.rk_world.specs.Requests.{answering}
 use Rattle.rk_world.specs.Worked.{from_master}
-use Rattle.rk_laws_formed.proofs.Maps.{fold_keeps}
+use Rattle.rk_laws_formed.proofs.Lists.{fold_keeps}
 use Rattle.rk_laws_formed.proofs.Work.{AreLimits}
 
 -- ---- numbers

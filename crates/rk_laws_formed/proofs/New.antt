@@ -19,7 +19,7 @@ use Rattle.rk_world.specs.Master.{Master, log_bytes, new_master}
 use Rattle.rk_world.specs.Premises.{IsCached, IsLawfulCall, MOST_MASTERS, MayAct}
 use Rattle.rk_world.specs.Room.{HasRoom, HasRoomIn}
 use Rattle.rk_world.specs.World.{counters_of, new_masters, new_world}
-use Rattle.rk_laws_formed.proofs.Bounds.{all_flat}
+use Rattle.rk_laws_formed.proofs.Lists.{all_flat}
 use Rattle.rk_laws_formed.proofs.Numbered.{found_numbered, numbers_are, with_numbers}
 
 -- ---- a lane

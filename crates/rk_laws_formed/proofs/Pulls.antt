@@ -1,22 +1,21 @@
 -- A source that answers pulls and a target that replays what it pulled stay well formed, and what the source sends is.
-use Rattle.std.proofs.Common.{◌≡◌, ◌≤◌, ◌<◌, ◌+◌, ◌-◌, ◌==◌, ◌&&◌, ◌^◌, ℕ, Bool, false, true, cond, nat_le, if◌then◌else◌, List, [], ◌∷◌, ◌++◌, filter, fold, take, drop, map, All, length, Option, None, Some, refl, ap, subst, sym, ◌∙◌, arith, lit<}
+use Rattle.std.proofs.Common.{◌≡◌, ◌≤◌, ◌<◌, ◌-◌, ◌==◌, ◌^◌, ℕ, Bool, false, true, cond, nat_le, List, [], ◌∷◌, ◌++◌, filter, All, length, Option, None, Some, refl, ap, subst, sym, arith, lit<}
 use Rattle.std.proofs.Common.{length-append}
 use Rattle.rk_types.specs.Held.{spelled_of}
-use Rattle.std.specs.Int.{w16, w32, w64}
+use Rattle.std.specs.Int.{w64}
 use Rattle.std.specs.List.{AllByRecursion, flat_map, last_or}
-use Rattle.std.proofs.lemmas.List.Elements.{All-append, All-cons, All-drop, All-filter, All-head, All-nil, All-tail, All-take, All-weaker}
+use Rattle.std.proofs.lemmas.List.Elements.{All-append, All-cons, All-drop, All-filter, All-head, All-nil, All-tail}
 use Rattle.rk_types.specs.declared.held.Held.{Held}
 use Rattle.rk_types.specs.declared.held.Token.{Token}
 use Rattle.rk_types.specs.declared.node.Node.{Node}
 use Rattle.rk_entry.specs.Lawful.{IsLawfulEntry}
 use Rattle.rk_entry.specs.Numbers.{IsNumber}
-use Rattle.rk_entry.specs.declared.entry.Entry.{Entry}
 use Rattle.rk_table.proofs.Changes.{order_live}
 use Rattle.rk_table.proofs.InOrder.{bucket_below_end, rises_in_order}
 use Rattle.rk_table.proofs.Tokens.{passed_and_left}
-use Rattle.rk_table.specs.Items.{at_hash, is_live_in, live_in}
+use Rattle.rk_table.specs.Items.{at_hash, is_live_in}
 use Rattle.rk_table.specs.Order.{IsInScanOrder, item_bucket}
-use Rattle.rk_table.specs.Scans.{batch_at, batch_of, left, next_token, of_bucket, passed, rest_at, token_before, token_behind, token_of}
+use Rattle.rk_table.specs.Scans.{batch_at, batch_of, left, next_token, passed, rest_at, token_before, token_of}
 use Rattle.rk_message.specs.Fields.{IsLawfulToken}
 use Rattle.rk_message.specs.declared.message.Body.TheVariants as bodies
 use Rattle.rk_message.specs.declared.message.Message.{Message}
@@ -24,7 +23,7 @@ use Rattle.rk_message.specs.declared.pulling.Pull.{Pull}
 use Rattle.rk_message.specs.declared.pulling.Want.{Want}
 use Rattle.rk_pull.specs.declared.batches.TheConstants.{BATCH_BYTES}
 use Rattle.rk_world.specs.Ends.{items_of}
-use Rattle.rk_world.specs.Formed.{IsFormedMaster, IsFormedTablet}
+use Rattle.rk_world.specs.Formed.{IsFormedMaster}
 use Rattle.rk_world.specs.Limits.{IsFormedHeld, IsFormedMessage, IsFormedTenure, IsThere, Limits}
 use Rattle.rk_world.specs.Master.{Master, tablet_at}
 use Rattle.rk_world.specs.Material.{as_entries}
@@ -33,7 +32,7 @@ use Rattle.rk_world.specs.Pulls as pulling
 use Rattle.rk_world.specs.RoleTests.{is_frozen_at}
 use Rattle.rk_world.specs.Tablet.{Tablet}
 use Rattle.rk_world.specs.Worked.{changed, from_master, sending}
-use Rattle.rk_laws_formed.proofs.Handovers.{all_by_recursion}
+use Rattle.rk_laws_formed.proofs.Lists.{all_each, all_flat}
 use Rattle.rk_laws_formed.proofs.Messages.{formed_from, tenure_fits}
 use Rattle.rk_laws_formed.proofs.Work.{AreLimits, HasRoomFor, IsFormedWork, formed_changed, formed_sending}
 
@@ -43,18 +42,6 @@ use Rattle.rk_laws_formed.proofs.Work.{AreLimits, HasRoomFor, IsFormedWork, form
 pub items_again : (items : List Held) → items_of (as_entries items) ≡ items
 items_again [] = refl
 items_again (item ∷ items) = ap (λ (rest : List Held). item ∷ rest) (items_again items)
-
--- what each list has, their elements one after the other have
-pub all_flat : {X Y : Type 0} (P : Y → Type 0) (f : X → List Y) (xs : List X) → All (λ x. All P (f x)) xs → All P (flat_map f xs)
-all_flat P f [] all = All-nil P
-all_flat {X = X} P f (x ∷ xs) all =
-    All-append P (f x) (flat_map f xs) (All-head (λ (x : X). All P (f x)) x xs all)
-    (all_flat P f xs (All-tail (λ (x : X). All P (f x)) x xs all))
-
--- what holds of each thing holds of all of a list
-pub all_each : {X : Type 0} (P : X → Type 0) (xs : List X) → ((x : X) → P x) → All P xs
-all_each P [] holds = All-nil P
-all_each P (x ∷ xs) holds = All-cons P x xs (holds x) (all_each P xs holds)
 
 -- lawful items are lawful entries
 lawful_entries : (limits : Limits) (items : List Held) → All (IsFormedHeld limits) items → AllByRecursion IsLawfulEntry (as_entries items)
@@ -113,11 +100,13 @@ token_fits (item ∷ rest) done few = token_behind_fits (last_or None done) done
 next_fits : (token : Token) (limit : ℕ) (items : List Held) → IsInScanOrder items → length items < 2 ^ 30 → IsLawfulToken (next_token token limit items)
 next_fits token limit items order few =
     token_fits (rest_at token limit items) (passed token items ++ batch_at token limit items)
-    (omega (arith,
+    (omega (
+      arith,
       batch_few limit (left token items),
       length-append (passed token items) (batch_at token limit items),
       length-append (passed token items) (left token items),
-      ap (λ (l : List Held). length l) (passed_and_left token items (rises_in_order items order))))
+      ap (λ (l : List Held). length l) (passed_and_left token items (rises_in_order items order)),
+    ))
 
 -- ---- what a source answers
 

@@ -1,24 +1,22 @@
 -- A master that rebuilds a tablet stays well formed: when it begins, when it gathers a segment, and when it merges.
-use Rattle.std.proofs.Common.{◌≡◌, ◌≤◌, ◌<◌, ◌+◌, ◌==◌, ◌&&◌, ℕ, Bool, false, true, cond, nat_lt, if◌then◌else◌, List, [], ◌∷◌, ◌++◌, filter, find, map, All, length, length-append, Option, None, Some, IfSome, refl, ap, subst, sym, ◌∙◌, arith}
-use Rattle.std.specs.Int.{w32, w64}
+use Rattle.std.proofs.Common.{◌≡◌, ◌≤◌, ◌<◌, ◌+◌, ◌==◌, ◌&&◌, ℕ, Bool, false, true, cond, if◌then◌else◌, List, [], ◌∷◌, ◌++◌, filter, map, All, length, Option, None, Some, IfSome, refl, ap, subst, sym, ◌∙◌, arith}
+use Rattle.std.specs.Int.{w64}
 use Rattle.std.specs.Prelude.{not}
 use Rattle.std.specs.List.{flat_map}
 use Rattle.std.proofs.lemmas.Bool.{cond_both, eq-eqb}
 use Rattle.std.proofs.lemmas.List.{length_push}
-use Rattle.std.proofs.lemmas.List.Elements.{All-append, All-cons, All-filter, All-head, All-map, All-nil, All-push, All-tail, All-weaker, recursion_from_All}
+use Rattle.std.proofs.lemmas.List.Elements.{All-filter, All-head, All-map, All-nil, All-push, All-tail, All-weaker}
 use Rattle.rk_types.proofs.NumberMaps.{each_insert}
 use Rattle.rk_types.specs.NumberMap.{insert}
-use Rattle.rk_types.specs.declared.held.Held.{Held}
 use Rattle.rk_types.specs.declared.lineage.Member.{Member}
 use Rattle.rk_types.specs.declared.range.Range.{Range}
 use Rattle.rk_outside.specs.Segments.{bytes_of}
-use Rattle.rk_entry.specs.Ends.{IsLawfulEnd}
 use Rattle.rk_entry.specs.Entries.{entries_of}
 use Rattle.rk_entry.specs.Numbers.{IsNumber}
 use Rattle.rk_entry.specs.declared.entry.Entry.{Entry}
 use Rattle.rk_entry.specs.declared.entry.Entry.TheVariants as entries
 use Rattle.rk_done.specs.Completions.{completions_from, ends_of}
-use Rattle.rk_transfer.specs.Handover.{begun, carried, in_role, rebuilt, role_carried}
+use Rattle.rk_transfer.specs.Handover.{carried, in_role, rebuilt, role_carried}
 use Rattle.rk_transfer.specs.declared.handover.Handover.{Handover}
 use Rattle.rk_transfer.specs.declared.role.Role.{Role}
 use Rattle.rk_transfer.specs.declared.role.Role.TheVariants as roles
@@ -28,29 +26,31 @@ use Rattle.rk_world.specs.declared.work.Merged.{Merged}
 use Rattle.rk_world.specs.declared.work.Reading.{Reading}
 use Rattle.rk_world.specs.Ends.{items_of}
 use Rattle.rk_world.specs.Formed.{IsFormedGathered, IsFormedMaster, IsFormedTablet, place_in}
-use Rattle.rk_world.specs.Gather.{Gather, Gathered, LAST_MAIN_SEGMENT, by_member, gathering, is_awaited, next_reading, unread, with_main, with_read, with_segment}
+use Rattle.rk_world.specs.Gather.{Gathered, LAST_MAIN_SEGMENT, by_member, is_awaited, next_reading, unread, with_main, with_read, with_segment}
 use Rattle.rk_world.specs.Handovers.{is_greater, with_others_given_up}
 use Rattle.rk_world.specs.Lineage.{own_member}
-use Rattle.rk_world.specs.Limits.{IsClient, IsFormedCopy, IsFormedEnd, IsFormedEntry, IsFormedHeld, IsFormedMember, IsFormedNumber, IsFormedRebuild, Limits}
-use Rattle.rk_world.specs.Master.{Master, tablet_at, with_all, with_appended, with_tablet}
+use Rattle.rk_world.specs.Limits.{IsClient, IsFormedCopy, IsFormedEnd, IsFormedEntry, IsFormedHeld, IsFormedMember, IsFormedRebuild, Limits}
+use Rattle.rk_world.specs.Master.{Master, tablet_at, with_all, with_appended}
 use Rattle.rk_world.specs.Material.{as_entries}
-use Rattle.rk_world.specs.Merge.{copies_of, merge}
+use Rattle.rk_world.specs.Merge.{merge}
 use Rattle.rk_world.specs.Rebuilds as rebuilds
 use Rattle.rk_world.specs.RoleTests.{is_absent, is_gathering, is_receiving}
 use Rattle.rk_world.specs.Tablet.{Tablet}
 use Rattle.rk_world.specs.Worked.{changed}
+use Rattle.rk_laws_formed.proofs.Lists.{all_flat}
 use Rattle.rk_laws_formed.proofs.Changes.{formed_with_all, formed_with_appended, formed_with_tablet, formed_without_items}
 use Rattle.rk_laws_formed.proofs.Completed.{completions_each, completions_order}
-use Rattle.rk_laws_formed.proofs.Given.{IsFormedBeside, IsFormedHandover, beside_at, formed_others_given_up, formed_pulling_from, tablet_there}
-use Rattle.rk_laws_formed.proofs.Handovers.{begun_leaves, begun_role, ends_are_formed, fits_below, there_in}
+use Rattle.rk_laws_formed.proofs.Given.{formed_others_given_up, tablet_there}
+use Rattle.rk_laws_formed.proofs.Handovers.{ends_are_formed, ends_are_lawful, formed_begun, one_stood, there_in}
 use Rattle.rk_laws_formed.proofs.Merges.{copies_formed, ends_formed, floor_first, members_formed, own_formed}
 use Rattle.rk_laws_formed.proofs.Messages.{counted_fits}
-use Rattle.rk_laws_formed.proofs.Pulls.{all_flat}
 use Rattle.rk_laws_formed.proofs.Requests.{counter_with_tablet, items_formed}
 use Rattle.rk_laws_formed.proofs.Rising.{rising_within}
 use Rattle.rk_log.specs.Log.{Log}
 use Rattle.rk_laws_formed.proofs.Sealing.{first_holds}
 use Rattle.rk_laws_formed.proofs.Sizes.{place_fits}
+use Rattle.rk_laws_formed.proofs.Tablets.{IsFormedHandover, counter_at, formed_pulling_from, formed_tablet, rest_at}
+use Rattle.rk_laws_formed.proofs.Waiting.{EachMoved}
 use Rattle.rk_laws_formed.proofs.Work.{AreLimits, HasRoomFor, IsFormedWork, formed_changed}
 
 -- ---- merging
@@ -65,8 +65,8 @@ merge_formed : (limits : Limits) (number : ℕ) (master : Master) (id : ℕ) →
 merge_formed limits number master id some formed =
     let it = tablet_at master id in
     let own = rebuilds.own_material master it in
-    let members = members_formed limits it.gather own (beside_at limits number master id some formed).gathered
-        (own_formed limits number master it formed) in
+    let members = members_formed limits it.gather own (rest_at limits number master id formed).gathered
+    (own_formed limits number master it formed) in
     let all = flat_map (λ list. list) (by_member it.gather own) in
     record {
       copies =
@@ -104,7 +104,7 @@ module _ (limits : Limits) (number : ℕ) (master : Master) (id : ℕ) (merged :
       let each = completions_each (IsFormedEnd limits) [] merged.ends (All-nil _) formed.told in
       let ends = ends_are_formed limits (completions_from [] merged.ends) order each in
       let few = rising_within (ends_of (completions_from [] merged.ends)) limits.clients ends.rising
-          (All-weaker (IsFormedEnd limits) (λ end. IsClient limits end.client) (λ end fits. fits.client) _ each) in
+      (All-weaker (IsFormedEnd limits) (λ end. IsClient limits end.client) (λ end fits. fits.client) _ each) in
       let clients = are.clients in
       let first = formed.floor in
       record {
@@ -113,7 +113,7 @@ module _ (limits : Limits) (number : ℕ) (master : Master) (id : ℕ) (merged :
           term = counted_fits limits it.handover.term are there.term;
           floor = counted_fits limits merged.floor are (record { first = first; last = floor });
           few = omega arith;
-          each = recursion_from_All IsLawfulEnd _ (All-weaker (IsFormedEnd limits) IsLawfulEnd (λ end fits. fits.lawful) _ each);
+          each = ends_are_lawful limits (ends_of (completions_from [] merged.ends)) each;
           rising = ends.rising;
         };
         term = there.term.last;
@@ -133,7 +133,7 @@ module _ (limits : Limits) (number : ℕ) (master : Master) (id : ℕ) (merged :
           let there = there_in limits number master id role is after.2 master_formed in
           let handover : Handover = record it.handover { counter = merged.floor; role = r } in
           let floor : merged.floor ≤ limits.top =
-              counter_with_tablet limits (with_appended copied (rebuilds.rebuilt_entry it merged)) id (rebuilds.with_merged it merged handover) fits.counters in
+          counter_with_tablet limits (with_appended copied (rebuilds.rebuilt_entry it merged)) id (rebuilds.with_merged it merged handover) fits.counters in
           let first = formed.floor in
           record {
             master =
@@ -237,37 +237,29 @@ module _ (limits : Limits) (number : ℕ) (master : Master) (rebuild : Rebuild) 
       (foreign_formed limits number master rebuild.range own formed)
 
   -- a master that begins
-  begins : 1 ≤ limits.top → IsFormedRebuild limits rebuild → IsNumber w64 0 (length master.log.entries) → IsFormedMaster limits number master → IsFormedMaster limits number (rebuilds.rebuild_begun master rebuild)
-  begins some told place formed =
+  begins : IsFormedRebuild limits rebuild → IsNumber w64 0 (length master.log.entries) → IsFormedMaster limits number master
+      → IsFormedMaster limits number (rebuilds.rebuild_begun master rebuild)
+  begins told place formed =
       go (rebuilt (tablet_at now id).handover rebuild.tenure.term rebuild.range (rebuilds.begun_from master own))
-      (begun_leaves limits (tablet_at now id).handover rebuild.tenure.term rebuild.range
+      (formed_begun limits (tablet_at now id).pulling.source (tablet_at now id).handover rebuild.tenure.term rebuild.range
       (roles.Rebuilding (rebuilds.begun_from master own) None)
-      beside.counter told.tenure.term told.range
-      (begun_fits limits master own (own_formed_member limits rebuild.lineage master.number told.members) place))
-      (λ after is. begun_role (tablet_at now id).handover rebuild.tenure.term rebuild.range (roles.Rebuilding (rebuilds.begun_from master own) None) after is)
+      (counter_at limits number now id (now_formed formed) (one_stood limits rebuild.tenure.term told.tenure.term))
+      told.tenure.term told.range
+      (begun_fits limits master own (own_formed_member limits rebuild.lineage master.number told.members) place) refl)
     where
-      beside : IsFormedBeside limits (tablet_at now id)
-      beside = beside_at limits number now id some (now_formed formed)
-
-      go : (moved : Option Handover) → ((h : Handover) → moved ≡ Some h → IsFormedHandover limits h) → ((h : Handover) → moved ≡ Some h → h.role ≡ roles.Rebuilding (rebuilds.begun_from master own) None) → IsFormedMaster limits number (rebuilds.with_begun now rebuild moved)
-      go None leaves role = now_formed formed
-      go (Some handover) leaves role =
-          let new = leaves handover refl in
-          let rests : is_receiving handover.role ≡ false = ap is_receiving (role handover refl) in
+      go : (moved : Option Handover) → EachMoved (IsFormedHandover limits (tablet_at now id).pulling.source) moved → IsFormedMaster limits number (rebuilds.with_begun now rebuild moved)
+      go None moves = now_formed formed
+      go (Some handover) moves =
+          let rest = rest_at limits number now id (now_formed formed) in
           formed_with_tablet limits number now id _ (now_formed formed)
+          (formed_tablet limits id _ told.tenure.tablet (moves handover refl)
           (record {
-            number_is = told.tenure.tablet;
-            term = new.term;
-            place = new.place;
-            range = new.range;
-            counter = new.counter;
-            order = beside.order;
-            ended = beside.ended;
-            source = λ receives. absurd (cc (receives, rests));
+            order = rest.order;
+            ended = rest.ended;
             pulled = formed_pulling_from limits (tablet_at now id).pulling.source;
             gathered = begun_formed limits rebuild.lineage now.number told.members;
             merged = All-nil _;
-          })
+          }))
 
 -- ---- Rebuild and Copy
 
@@ -284,9 +276,11 @@ all_grows (entry ∷ list) master =
 merging_grows : (master : Master) (id : ℕ) (tablet : Tablet) (merged : Merged) (moved : Option Handover) → length master.log.entries ≤ length (rebuilds.merging master id tablet merged moved).master.log.entries
 merging_grows master id tablet merged None = omega arith
 merging_grows master id tablet merged (Some handover) =
-    omega (arith,
+    omega (
+      arith,
       all_grows (as_entries merged.copies) master,
-      length_push (with_all master (as_entries merged.copies)).log.entries (rebuilds.rebuilt_entry tablet merged))
+      length_push (with_all master (as_entries merged.copies)).log.entries (rebuilds.rebuilt_entry tablet merged),
+    )
 
 goes_on_grows : (master : Master) (number : ℕ) → length master.log.entries ≤ length (rebuilds.rebuild_goes_on master number).master.log.entries
 goes_on_grows master number =
@@ -306,21 +300,15 @@ pub formed_rebuild : (limits : Limits) (number : ℕ) (master : Master) (rebuild
 formed_rebuild limits number master rebuild are told formed room =
     go (is_greater master rebuild.tenure.tablet rebuild.tenure.term rebuild.range) room
   where
-    some : 1 ≤ limits.top
-    some =
-        let first = told.tenure.term.first in
-        let last = told.tenure.term.last in
-        omega arith
-
     place : HasRoomFor limits (rebuilds.beginning master rebuild).master → IsNumber w64 0 (length master.log.entries)
     place fits =
         let own = own_member rebuild.lineage master.number in
         let now = with_others_given_up (rebuilds.without_foreign master rebuild.range own) rebuild.tenure.tablet rebuild.range in
         let same : (rebuilds.rebuild_begun master rebuild).log ≡ master.log =
-            begun_log now rebuild _ ∙ foreign_log master rebuild.range own in
+        begun_log now rebuild _ ∙ foreign_log master rebuild.range own in
         let grown : length master.log.entries ≤ length (rebuilds.beginning master rebuild).master.log.entries =
-            subst (λ (log : Log). length log.entries ≤ length (rebuilds.beginning master rebuild).master.log.entries) same
-            (goes_on_grows (rebuilds.rebuild_begun master rebuild) rebuild.tenure.tablet) in
+        subst (λ (log : Log). length log.entries ≤ length (rebuilds.beginning master rebuild).master.log.entries) same
+        (goes_on_grows (rebuilds.rebuild_begun master rebuild) rebuild.tenure.tablet) in
         record {
           least_is = omega arith;
           fits = omega (arith, grown, (place_fits limits (rebuilds.beginning master rebuild).master fits).fits);
@@ -329,8 +317,8 @@ formed_rebuild limits number master rebuild are told formed room =
     go : (greater : Bool) → HasRoomFor limits (cond greater (rebuilds.beginning master rebuild) (changed master)).master → IsFormedWork limits number (cond greater (rebuilds.beginning master rebuild) (changed master))
     go true fits =
         formed_goes_on limits number (rebuilds.rebuild_begun master rebuild) rebuild.tenure.tablet are
-        (let first = told.tenure.term.first in let last = told.tenure.term.last in omega arith)
-        (begins limits number master rebuild (let first = told.tenure.term.first in let last = told.tenure.term.last in omega arith) told (place fits) formed)
+        (one_stood limits rebuild.tenure.term told.tenure.term)
+        (begins limits number master rebuild told (place fits) formed)
         fits
     go false fits = formed_changed limits number master formed
 
@@ -420,6 +408,6 @@ formed_copy limits number master copy are told formed room =
     go : (test : Bool) → (is_gathering (tablet_at master copy.tenure.tablet).handover.role && ((tablet_at master copy.tenure.tablet).handover.term == copy.tenure.term) && is_awaited (next_reading (tablet_at master copy.tenure.tablet).gather) copy.master copy.segment) ≡ test → HasRoomFor limits (cond test (rebuilds.rebuild_goes_on (rebuilds.segment_gathered master copy) copy.tenure.tablet) (changed master)).master → IsFormedWork limits number (cond test (rebuilds.rebuild_goes_on (rebuilds.segment_gathered master copy) copy.tenure.tablet) (changed master))
     go true is fits =
         formed_goes_on limits number (rebuilds.segment_gathered master copy) copy.tenure.tablet are
-        (let first = told.tenure.term.first in let last = told.tenure.term.last in omega arith)
+        (one_stood limits copy.tenure.term told.tenure.term)
         (gathered (first_holds _ _ is)) fits
     go false is fits = formed_changed limits number master formed

@@ -1,9 +1,7 @@
 -- A target that replays what it pulled, and seals it, stays well formed.
-use Rattle.std.proofs.Common.{◌≡◌, ◌≤◌, ◌<◌, ◌+◌, ◌-◌, ◌%◌, ◌==◌, ◌&&◌, ◌^◌, ℕ, zero, suc, Bool, false, true, cond, nat_le, if◌then◌else◌, List, [], ◌∷◌, ◌++◌, fold, map, sum, All, length, length-append, length-set, Option, None, Some, refl, ap, subst, sym, ◌∙◌, arith, lit<}
-use Rattle.std.specs.Int.{w16, w32, w64}
-use Rattle.std.specs.List.{flat_map}
-use Rattle.std.specs.Prelude.{slice_set, slice_index_or}
-use Rattle.std.proofs.lemmas.List.Elements.{All-append, All-cons, All-filter, All-get_or, All-head, All-nil, All-push, All-set, All-tail, All-weaker}
+use Rattle.std.proofs.Common.{◌+◌, ℕ, false, true, cond, List, [], ◌∷◌, All, length-set, subst, sym, ◌∙◌}
+use Rattle.std.specs.Prelude.{slice_index_or}
+use Rattle.std.proofs.lemmas.List.Elements.{All-head, All-nil, All-push, All-set, All-tail}
 use Rattle.rk_types.specs.declared.held.Held.{Held}
 use Rattle.rk_types.specs.declared.held.Token.{Token}
 use Rattle.rk_message.specs.Fields.{IsLawfulToken}
@@ -13,32 +11,9 @@ use Rattle.rk_world.specs.Limits.{IsFormedHeld, Limits}
 use Rattle.rk_world.specs.Master.{Master, tablet_at, with_item, with_tablet}
 use Rattle.rk_world.specs.Pulls.{item_replayed, replay, replay_one, token_passed, with_pulled, with_pulling}
 use Rattle.rk_world.specs.Tablet.{Pulling, Tablet}
+use Rattle.rk_laws_formed.proofs.Lists.{all_at, all_flat, all_given}
 use Rattle.rk_laws_formed.proofs.Changes.{formed_with_item, formed_with_tablet}
-use Rattle.rk_laws_formed.proofs.Pulls.{all_flat}
 use Rattle.rk_laws_formed.proofs.Tablets.{formed_with_pulling, tablet_with_same}
-
--- what all elements of two lists have, all of the first have, and all of the second
-pub all_of_front : {X : Type 0} (P : X → Type 0) (xs ys : List X) → All P (xs ++ ys) → All P xs
-all_of_front P [] ys all = All-nil P
-all_of_front P (x ∷ xs) ys all =
-    All-cons P x xs (All-head P x (xs ++ ys) all) (all_of_front P xs ys (All-tail P x (xs ++ ys) all))
-
-pub all_of_back : {X : Type 0} (P : X → Type 0) (xs ys : List X) → All P (xs ++ ys) → All P ys
-all_of_back P [] ys all = all
-all_of_back P (x ∷ xs) ys all = all_of_back P xs ys (All-tail P x (xs ++ ys) all)
-
--- what the elements of lists have one after the other, each list's elements have
-pub flat_all : {X Y : Type 0} (P : Y → Type 0) (f : X → List Y) (xs : List X) → All P (flat_map f xs) → All (λ x. All P (f x)) xs
-flat_all P f [] all = All-nil _
-flat_all {X = X} P f (x ∷ xs) all =
-    All-cons (λ (x : X). All P (f x)) x xs (all_of_front P (f x) (flat_map f xs) all)
-    (flat_all P f xs (all_of_back P (f x) (flat_map f xs) all))
-
--- what each list of lists has, the list at a place has, where none counts as the empty one
-pub all_at : (P : Held → Type 0) (sides : List (List Held)) (place : ℕ) → All (All P) sides → All P (slice_index_or sides place [])
-all_at P [] place all = All-nil P
-all_at P (side ∷ sides) zero all = All-head (All P) side sides all
-all_at P (side ∷ sides) (suc place) all = all_at P sides place (All-tail (All P) side sides all)
 
 -- a worker's items with one more
 formed_with_pulled : (limits : Limits) (pulling : Pulling) (worker : ℕ) (item : Held) → IsFormedPulling limits pulling → IsFormedHeld limits item → IsFormedPulling limits (with_pulled pulling worker item)
@@ -51,13 +26,13 @@ formed_with_pulled limits pulling worker item formed new = record {
       all_flat (IsFormedHeld limits) (λ items. items) _
       (All-set (All (IsFormedHeld limits)) pulling.sides worker _
       (All-push (IsFormedHeld limits) (slice_index_or pulling.sides worker []) item
-      (all_at (IsFormedHeld limits) pulling.sides worker sides) new)
+      (all_at (All (IsFormedHeld limits)) pulling.sides worker [] (All-nil _) sides) new)
       sides);
   sealed = formed.sealed;
 }
   where
     sides : All (All (IsFormedHeld limits)) pulling.sides
-    sides = flat_all (IsFormedHeld limits) (λ items. items) pulling.sides formed.items
+    sides = all_given (IsFormedHeld limits) (λ items. items) pulling.sides formed.items
 
 -- a master, and one of its tablets, that are well formed
 pub record IsFormedAt (limits : Limits) (number id : ℕ) (master : Master) : Type 0 where

@@ -41,9 +41,10 @@ use Rattle.rk_world.specs.Premises.{IsLawfulCall, IsMaster}
 use Rattle.rk_world.specs.Requests.{call_of, choice_at, choice_of, chosen, counted_up, fresh_choice, hash_wanted, is_known, item_of, mutation_choice, needs_state, operation, read_of, refusal_of, refusal_staged, request_taken, state_of, version_of, with_staged, with_wanted, write_staged}
 use Rattle.rk_world.specs.Tablet.{Tablet}
 use Rattle.rk_world.specs.World.{counters_of}
+use Rattle.rk_laws_formed.proofs.Lists.{all_before, all_find}
 use Rattle.rk_laws_formed.proofs.Changes.{formed_with_staged, formed_with_tablet}
 use Rattle.rk_laws_formed.proofs.Completed.{pairs_from_ends}
-use Rattle.rk_laws_formed.proofs.Maps.{All_find, All_unmap, each_from_pairs, find_is_got}
+use Rattle.rk_laws_formed.proofs.Maps.{each_from_pairs, find_is_got}
 use Rattle.rk_laws_formed.proofs.Messages.{formed_answering, from_zero64, hash_fits, number_fits}
 use Rattle.rk_laws_formed.proofs.Tablets.{formed_counted_up, formed_found, formed_with_wanted}
 use Rattle.rk_laws_formed.proofs.Work.{AreLimits, HasRoomFor, IsFormedWork, formed_changed, formed_sending}
@@ -78,7 +79,7 @@ found_formed limits items table key each = go (found table key items) refl
   where
     go : (state : Option Held) → found table key items ≡ state → IsFormedState limits state
     go None is = tt
-    go (Some item) is = All_find (IsFormedHeld limits) (is_at table key) items item each is
+    go (Some item) is = all_find (IsFormedHeld limits) (is_at table key) items item each is
 
 either_formed : (limits : Limits) (first second : Option Held) → IsFormedState limits first → IsFormedState limits second
     → IsFormedState limits (option_or first second)
@@ -253,7 +254,7 @@ pub counter_with_tablet : (limits : Limits) (master : Master) (id : ℕ) (tablet
     → All (λ counter. counter ≤ limits.top) (counters_of (with_tablet master id tablet)) → tablet.handover.counter ≤ limits.top
 counter_with_tablet limits master id tablet counters =
     each_from_pairs (λ number tablet. tablet.handover.counter ≤ limits.top) (insert master.tablets id tablet)
-    (All_unmap (λ counter. counter ≤ limits.top) (λ entry. entry.1.handover.counter) (insert master.tablets id tablet) counters)
+    (all_before (λ counter. counter ≤ limits.top) (λ entry. entry.1.handover.counter) (insert master.tablets id tablet) counters)
     id tablet (get_same master.tablets id tablet id refl)
 
 write_formed : (limits : Limits) (number : ℕ) (master : Master) (id : ℕ) (call : Call) (value : Option (List ℕ)) → AreLimits limits

@@ -24,7 +24,8 @@ use Rattle.rk_world.specs.Master.{Master}
 use Rattle.rk_world.specs.Step.{ledger_after, quietly, with_sends}
 use Rattle.rk_world.specs.Worked.{Worked}
 use Rattle.rk_world.specs.World.{World, counters_of, standing, with_all_sent, with_coordinator, with_ledger, with_master, with_top}
-use Rattle.rk_laws_formed.proofs.Bounds.{all_flat, all_given, all_in_map, all_back, greatest_within}
+use Rattle.rk_laws_formed.proofs.Lists.{all_back, all_flat, all_given}
+use Rattle.rk_laws_formed.proofs.Bounds.{all_in_map, greatest_within}
 use Rattle.rk_laws_formed.proofs.Works.{after_coordinated, after_work}
 use Rattle.rk_laws_formed.proofs.Ledgers.{ended_is, ended_keeps, served_is, clients_rebuilt, clients_served, last_pushed}
 use Rattle.rk_laws_formed.proofs.Worlds.{counters_in, seen_within, sent_within, stamp_within, stamps_seen, terms_in, terms_within}

@@ -1,7 +1,6 @@
 -- Ends of rising clients that are all among some clients are no more than these.
-use Rattle.std.proofs.Common.{◌≡◌, ◌≤◌, ◌<◌, ◌+◌, ◌==◌, ◌||◌, ℕ, Bool, false, true, cond, nat_lt, List, [], ◌∷◌, filter, All, length, refl, ap, subst, sym, ◌∙◌, ⊎_elim, arith}
-use Rattle.std.specs.List.{list_any}
-use Rattle.std.proofs.lemmas.Bool.{cases_Bool, eqb-true}
+use Rattle.std.proofs.Common.{◌≡◌, ◌≤◌, ◌<◌, ◌+◌, ◌==◌, ◌||◌, ℕ, Bool, false, true, cond, nat_lt, List, [], ◌∷◌, All, length, refl, subst, sym, arith}
+use Rattle.std.proofs.lemmas.Bool.{eqb-true}
 use Rattle.std.proofs.lemmas.Bool.Decides.{nat_tests}
 use Rattle.std.proofs.lemmas.List.Elements.{All-head, All-tail}
 use Rattle.rk_types.specs.declared.call.Ended.{Ended}
@@ -49,9 +48,11 @@ above_among least next (n ∷ numbers) up among =
 within_above : (least : ℕ) (ends : List Ended) (numbers : List ℕ) → RiseAbove least ends → All (λ end. is_among end.client numbers ≡ true) ends → length ends ≤ above least numbers
 within_above least [] numbers rise all = omega arith
 within_above least (end ∷ ends) numbers (up, rise) all =
-    omega (arith,
+    omega (
+      arith,
       within_above end.client ends numbers rise (All-tail (λ (e : Ended). is_among e.client numbers ≡ true) end ends all),
-      above_among least end.client numbers up (All-head (λ (e : Ended). is_among e.client numbers ≡ true) end ends all))
+      above_among least end.client numbers up (All-head (λ (e : Ended). is_among e.client numbers ≡ true) end ends all),
+    )
 
 -- there are no more ends than clients
 pub rising_within : (ends : List Ended) (clients : List ℕ) → RiseAbove 0 ends → All (λ end. is_among end.client clients ≡ true) ends → length ends ≤ length clients

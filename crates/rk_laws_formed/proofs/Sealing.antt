@@ -1,7 +1,7 @@
 -- A target that has pulled all seals its side logs: the side segments that it makes are well formed, and so is the master then.
-use Rattle.std.proofs.Common.{◌≡◌, ◌≤◌, ◌<◌, ◌+◌, ◌*◌, ◌%◌, ◌==◌, ◌&&◌, ◌^◌, ℕ, zero, suc, Bool, false, true, cond, ltb, nat_le, if◌then◌else◌, List, [], ◌∷◌, ◌++◌, fold, map, sum, All, length, length-append, Option, None, Some, IfSome, refl, ap, subst, sym, ◌∙◌, append_assoc, arith, lit<}
+use Rattle.std.proofs.Common.{◌≡◌, ◌≤◌, ◌<◌, ◌+◌, ◌%◌, ◌&&◌, ◌^◌, ℕ, zero, suc, Bool, false, true, cond, ltb, nat_le, List, [], ◌∷◌, ◌++◌, fold, map, sum, All, length, length-append, Option, None, Some, IfSome, refl, ap, subst, arith}
 use Rattle.std.specs.Int.{w32, w64}
-use Rattle.std.specs.List.{AllByRecursion, IsDistinct, flat_map, range_with_len, sum_by}
+use Rattle.std.specs.List.{AllByRecursion, IsDistinct, range_with_len, sum_by}
 use Rattle.std.specs.Prelude.{nat_eq}
 use Rattle.std.proofs.lemmas.Bool.{cond_both, ne_eqb}
 use Rattle.std.proofs.lemmas.Bool.Decides.{nat_tests}
@@ -42,9 +42,10 @@ use Rattle.rk_world.specs.SideLogs.{cut_items, sealed_sides, with_side_item}
 use Rattle.rk_world.specs.Tablet.{Pulling, Tablet, with_handover}
 use Rattle.rk_world.specs.Waiting.{closing_entry}
 use Rattle.rk_world.specs.Worked.{changed}
+use Rattle.rk_laws_formed.proofs.Lists.{all_given}
 use Rattle.rk_laws_formed.proofs.Changes.{formed_with_side_segment, formed_with_tablet}
-use Rattle.rk_laws_formed.proofs.Given.{no_side_segments, tablet_there}
-use Rattle.rk_laws_formed.proofs.Replays.{IsFormedAt, flat_all, formed_passed, formed_put, formed_replay}
+use Rattle.rk_laws_formed.proofs.Given.{tablet_there}
+use Rattle.rk_laws_formed.proofs.Replays.{IsFormedAt, formed_passed, formed_put, formed_replay}
 use Rattle.rk_laws_formed.proofs.Sizes.{side_bytes}
 use Rattle.rk_laws_formed.proofs.Tablets.{formed_with_handover, formed_with_pulling, handover_of}
 use Rattle.rk_laws_formed.proofs.Waiting.{formed_closing_entry, formed_joined}
@@ -64,22 +65,30 @@ none_spelled = refl
 pub items_spelled : (items : List Held) → length (spelled_all (as_entries items)) ≡ sum (map spelled_of items)
 items_spelled [] = ap (λ (l : List ℕ). length l) none_spelled
 items_spelled (item ∷ items) =
-    omega (arith,
+    omega (
+      arith,
       ap (λ (l : List ℕ). length l) (first_spelled item items),
       length-append (spelled (entries.Held item)) (spelled_all (as_entries items)),
       held_spelled item,
       items_spelled items,
       sum-map spelled_of (item ∷ items),
       sum_by-cons spelled_of item items,
-      sum-map spelled_of items)
+      sum-map spelled_of items,
+    )
 
 sum_pushed : (items : List Held) (item : Held) → sum (map spelled_of (items ++ item ∷ [])) ≡ sum (map spelled_of items) + spelled_of item
 sum_pushed [] item = omega (arith, sum-map spelled_of (item ∷ []), sum_by-cons spelled_of item [], sum-map spelled_of [])
 sum_pushed (first ∷ items) item =
-    omega (arith,
+    omega (
+      arith,
       sum_pushed items item,
-      sum-map spelled_of (first ∷ (items ++ item ∷ [])), sum_by-cons spelled_of first (items ++ item ∷ []), sum-map spelled_of (items ++ item ∷ []),
-      sum-map spelled_of (first ∷ items), sum_by-cons spelled_of first items, sum-map spelled_of items)
+      sum-map spelled_of (first ∷ (items ++ item ∷ [])),
+      sum_by-cons spelled_of first (items ++ item ∷ []),
+      sum-map spelled_of (items ++ item ∷ []),
+      sum-map spelled_of (first ∷ items),
+      sum_by-cons spelled_of first items,
+      sum-map spelled_of items,
+    )
 
 -- the value of an item takes no more than the longest one
 value_few : (value : Option (List ℕ)) → IfSome value (λ v. value_fault v ≡ None) → spelled_value_of value ≤ 65005
@@ -87,7 +96,7 @@ value_few None lawful = omega arith
 value_few (Some value) lawful =
     let within : length value ≤ LONGEST_VALUE = (text_within 0 LONGEST_VALUE value lawful).1 in
     let mark : cond (ltb LONGEST_SHORT_VALUE (length value)) 1 0 ≤ 1 =
-        cond_both (ltb LONGEST_SHORT_VALUE (length value)) 1 0 (λ (n : ℕ). n ≤ 1) (λ long. omega arith) (λ short. omega arith) in
+    cond_both (ltb LONGEST_SHORT_VALUE (length value)) 1 0 (λ (n : ℕ). n ≤ 1) (λ long. omega arith) (λ short. omega arith) in
     omega arith
 
 -- an item fits a segment
@@ -184,8 +193,12 @@ numbers_apart number first zero below = tt
 numbers_apart number first (suc count) below =
     (ne_eqb number first (λ same. let below = below in omega (arith, same)), numbers_apart number (first + 1) count (omega arith))
 
+none_distinct : IsDistinct nat_eq []
+unfolding IsDistinct
+none_distinct = tt
+
 numbers_distinct : (first count : ℕ) → IsDistinct nat_eq (range_with_len first count)
-numbers_distinct first zero = no_side_segments.distinct
+numbers_distinct first zero = none_distinct
 numbers_distinct first (suc count) =
     IsDistinct-cons nat_eq first (range_with_len (first + 1) count) (numbers_apart first (first + 1) count (omega arith))
     (numbers_distinct (first + 1) count)
@@ -266,7 +279,7 @@ module _ (limits : Limits) (number id : ℕ) (master : Master) where
   now_formed formed =
       formed_with_sides limits number pieces master
       (pieces_sealed limits it.pulling.sides
-      (flat_all (IsFormedHeld limits) (λ items. items) it.pulling.sides formed.tablet_is.pulled.items))
+      (all_given (IsFormedHeld limits) (λ items. items) it.pulling.sides formed.tablet_is.pulled.items))
       formed.master_is
 
   numbers_formed : IsFormedAt limits number id master → HasRoomFor limits (pulled_all master id) → AreSideSegments numbers
@@ -274,10 +287,10 @@ module _ (limits : Limits) (number id : ℕ) (master : Master) where
       let same : (pulled_all master id).log.sides ≡ now.log.sides = joined_sides sealed id (tablet_at sealed id) (tablet_at sealed id).pulling.sealed in
       let few : length now.log.sides ≤ sum_by (λ (b : List ℕ). length b) now.log.sides = sides_few now.log.sides (now_formed formed).sides in
       let bytes : sum_by (λ (b : List ℕ). length b) now.log.sides ≤ log_bytes (pulled_all master id) =
-          subst (λ (sides : List (List ℕ)). sum_by (λ (b : List ℕ). length b) sides ≤ log_bytes (pulled_all master id)) same
-          (side_bytes (pulled_all master id)) in
+      subst (λ (sides : List (List ℕ)). sum_by (λ (b : List ℕ). length b) sides ≤ log_bytes (pulled_all master id)) same
+      (side_bytes (pulled_all master id)) in
       let fits : FIRST_SIDE_SEGMENT + length master.log.sides + length pieces ≤ 2 ^ 32 =
-          omega (arith, few, bytes, room.bytes, sides_counted pieces master) in
+      omega (arith, few, bytes, room.bytes, sides_counted pieces master) in
       record {
         each = numbers_fit (FIRST_SIDE_SEGMENT + length master.log.sides) (length pieces) (omega arith) fits;
         distinct = numbers_distinct (FIRST_SIDE_SEGMENT + length master.log.sides) (length pieces);
@@ -287,9 +300,9 @@ module _ (limits : Limits) (number id : ℕ) (master : Master) where
   pub formed_pulled_all : AreLimits limits → IsFormedAt limits number id master → HasRoomFor limits (pulled_all master id) → IsFormedMaster limits number (pulled_all master id)
   formed_pulled_all are formed room =
       let put = formed_put limits number id now (with_pulling it (sealed_pulling it.pulling numbers)) (now_formed formed)
-          (formed_with_pulling limits id it (sealed_pulling it.pulling numbers) formed.tablet_is
-          (formed_sealed_pulling limits it.pulling numbers (numbers_formed formed room) formed.tablet_is.pulled)
-          formed.tablet_is.source) in
+      (formed_with_pulling limits id it (sealed_pulling it.pulling numbers) formed.tablet_is
+      (formed_sealed_pulling limits it.pulling numbers (numbers_formed formed room) formed.tablet_is.pulled)
+      formed.tablet_is.source) in
       formed_joining limits number id sealed (tablet_at sealed id) (tablet_at sealed id).pulling.sealed are put.master_is put.tablet_is room
 
 -- ---- a target that takes a batch, or what it asked for first
@@ -332,11 +345,11 @@ formed_pulled limits number master pulled are token items formed room =
     takes is fits =
         let worker = (tablet_at master pulled.tenure.tablet).pulling.batches % 4 in
         let replayed =
-            formed_replay limits number pulled.tenure.tablet worker (items_of pulled.entries) master
-            (formed_pulling limits number pulled.tenure.tablet master pulled.tenure.term is formed) items in
+        formed_replay limits number pulled.tenure.tablet worker (items_of pulled.entries) master
+        (formed_pulling limits number pulled.tenure.tablet master pulled.tenure.term is formed) items in
         let passed =
-            formed_passed limits number pulled.tenure.tablet (replay master pulled.tenure.tablet worker (items_of pulled.entries))
-            pulled.next token replayed in
+        formed_passed limits number pulled.tenure.tablet (replay master pulled.tenure.tablet worker (items_of pulled.entries))
+        pulled.next token replayed in
         let now = token_passed (replay master pulled.tenure.tablet worker (items_of pulled.entries)) pulled.tenure.tablet pulled.next in
         elim (is_token pulled.next end) as (λ b. HasRoomFor limits (cond b (pulled_all now pulled.tenure.tablet) now) → IsFormedMaster limits number (cond b (pulled_all now pulled.tenure.tablet) now)) [
           | true ↦ λ fits. formed_pulled_all limits number pulled.tenure.tablet now are passed fits

@@ -20,7 +20,7 @@ use Rattle.rk_log.specs.Log.{Log, known_of, missing, numbered, pending, segment_
 use Rattle.rk_log.specs.Piece.{PlacedBytes}
 use Rattle.rk_world.specs.Formed.{IsFormedSide}
 use Rattle.rk_world.specs.Room.{MOST_BYTES}
-use Rattle.rk_laws_formed.proofs.Maps.{All_find, find_passes}
+use Rattle.rk_laws_formed.proofs.Lists.{all_find, find_passes}
 use Rattle.rk_laws_formed.proofs.Waiting.{FitsSegment}
 
 -- bytes that a segment may have
@@ -116,5 +116,5 @@ pending_told log backup each = go (find (λ segment. not (is_whole (known_of log
     go None is = tt
     go (Some segment) is =
         missing_told (known_of log backup) segment
-        (All_find IsTold (λ segment. not (is_whole (known_of log backup) segment)) (segments log) segment each is)
+        (all_find IsTold (λ segment. not (is_whole (known_of log backup) segment)) (segments log) segment each is)
         (find_passes (λ segment. not (is_whole (known_of log backup) segment)) (segments log) segment is)

@@ -1,5 +1,5 @@
 -- How great a log is: it has no more entries than bytes.
-use Rattle.std.proofs.Common.{◌≡◌, ◌≤◌, ◌<◌, ◌+◌, ◌^◌, ℕ, List, [], ◌∷◌, ◌++◌, length, refl, ap, sym, ◌∙◌, arith, lit<}
+use Rattle.std.proofs.Common.{◌≡◌, ◌≤◌, ◌<◌, ◌^◌, ℕ, List, [], ◌∷◌, ◌++◌, length, refl, ap, sym, ◌∙◌, arith}
 use Rattle.std.specs.Int.{w64}
 use Rattle.std.specs.List.{concat, flat_map, sum_by}
 use Rattle.std.proofs.lemmas.List.Concat.{length-flat_map}
@@ -11,7 +11,6 @@ use Rattle.rk_entry.specs.declared.entry.Entry.{Entry}
 use Rattle.rk_log.proofs.CutLaws.{cut_whole}
 use Rattle.rk_log.proofs.Cuts.{spelled_some}
 use Rattle.rk_log.specs.Cut.{cut}
-use Rattle.rk_log.specs.Log.{segment_bytes}
 use Rattle.rk_world.specs.Limits.{Limits}
 use Rattle.rk_world.specs.Master.{Master, log_bytes}
 use Rattle.rk_laws_formed.proofs.Work.{HasRoomFor}

@@ -2,11 +2,10 @@
 use Rattle.std.proofs.Common.{◌≡◌, ◌≤◌, ◌<◌, ◌+◌, ℕ, w32, Bool, true, false, cond, List, [], IfSome, Option, None, Some, is_some, nat_le, nat_lt, refl, sym, ap, subst, arith}
 use Rattle.std.specs.Prelude.{unwrap_or}
 use Rattle.std.specs.List.{IsDistinct}
-use Rattle.std.specs.Option.{option_map, option_or}
+use Rattle.std.specs.Option.{option_map}
 use Rattle.std.proofs.lemmas.Bool.{and_parts, leb-true, ltb-true}
 use Rattle.std.proofs.lemmas.Bool.Decides.{nat_tests}
 use Rattle.std.proofs.lemmas.List.Elements.{All-nil}
-use Rattle.rk_types.proofs.NumberMaps.{each_insert, in_order_insert}
 use Rattle.rk_types.specs.NumberMap.{EachIn, NumberMap, get}
 use Rattle.rk_types.specs.declared.range.Range.{Range}
 use Rattle.rk_entry.specs.Ends.{IsLawfulRange}
@@ -19,27 +18,23 @@ use Rattle.rk_tablet_map.specs.declared.row.Row.{Row}
 use Rattle.rk_transfer.specs.declared.role.Role.TheVariants as roles
 use Rattle.rk_world.specs.declared.error.MoveError.TheVariants as moves
 use Rattle.rk_world.specs.declared.error.StepError.TheVariants as errors
-use Rattle.rk_world.specs.declared.event.Event.{Event}
 use Rattle.rk_world.specs.declared.event.Event.TheVariants as events
 use Rattle.rk_world.specs.Coordinator.{Coordinator, new_row, with_row}
 use Rattle.rk_world.specs.Formed.{AreSideSegments, IsFormedCoordinator, IsFormedMaster, IsFormedPulling, IsFormedRow, IsFormedTablet}
 use Rattle.rk_world.specs.Limits.{IsFormedNumber, Limits}
 use Rattle.rk_world.specs.Master.{Master, tablet_at, with_tablet}
 use Rattle.rk_world.specs.Ranges.{range_below, range_from}
-use Rattle.rk_world.specs.Refusals.{comes_anyway, fault_of, refusal, where_true, worn}
+use Rattle.rk_world.specs.Refusals.{refusal, where_true}
 use Rattle.rk_world.specs.Splits.{has_parts, rows_split, rows_split_of, tablet_split_fault, tablet_split_fault_by, tablet_split_fault_of, with_half, with_halves, with_rows_split, with_split}
 use Rattle.rk_world.specs.Step.{with_added}
 use Rattle.rk_world.specs.Tablet.{Tablet, no_tablet, pulling_from}
 use Rattle.rk_world.specs.World.{World, has_crashed}
+use Rattle.rk_laws_formed.proofs.Changes.{formed_with_tablet}
+use Rattle.rk_laws_formed.proofs.Events.{has_no_fault, no_inner, no_second}
 use Rattle.rk_laws_formed.proofs.Coordinators.{HasRowRoom, IsFormedChange, formed_with_rows, rows_of_formed}
 use Rattle.rk_laws_formed.proofs.Rows.{AreTermsUpTo, IsFormedPhase, IsKnown, all_found, covered_changed, covered_split_rows, formed_changed_rows, formed_split_rows, known_changed, known_split, lawful_below, lawful_from, phase_of_formed, placed_has, term_changed, terms_below, terms_changed, terms_split_rows}
 
 -- ---- the rows
-
--- where a cause has no image, there is none
-no_inner : {X Y : Type 0} (change : X → Y) (inner : Option X) → option_map change inner ≡ None → inner ≡ None
-no_inner change None none = refl
-no_inner change (Some x) none = absurd (cc none)
 
 -- a split that is not refused is one that the rows allow
 rows_allow : (coordinator : Coordinator) (row : Row) (phase : Phase) (at new : ℕ) → tablet_split_fault_by coordinator row phase at new ≡ None → split_fault coordinator.rows row.tablet at new ≡ None
@@ -130,25 +125,6 @@ known_has {X} Fits things number each =
     go None is = tt
     go (Some thing) is = each number thing is
 
--- a master with another tablet that is well formed
-formed_with_tablet : (limits : Limits) (number : ℕ) (master : Master) (tablet : ℕ) (it : Tablet) → IsFormedTablet limits tablet it → IsFormedMaster limits number master → IsFormedMaster limits number (with_tablet master tablet it)
-formed_with_tablet limits number master tablet it new formed = record {
-  number_is = formed.number_is;
-  known = formed.known;
-  lengths = formed.lengths;
-  written = formed.written;
-  spelled = formed.spelled;
-  sides = formed.sides;
-  items = formed.items;
-  records = formed.records;
-  scanned = formed.scanned;
-  applied = formed.applied;
-  calls_order = formed.calls_order;
-  calls = formed.calls;
-  tablets_order = in_order_insert master.tablets tablet it formed.tablets_order;
-  tablets = each_insert (IsFormedTablet limits) master.tablets tablet it formed.tablets new;
-}
-
 -- a half of a tablet, under its own number or a new one
 half_is_formed : (limits : Limits) (number half : ℕ) (tablet : Tablet) (range : Range) (term : ℕ) → IsNumber w32 1 half → IsLawfulRange range → IsFormedNumber limits term → IsFormedTablet limits number tablet → IsFormedTablet limits half (with_half tablet range term)
 half_is_formed limits number half tablet range term is lawful stood old = record {
@@ -185,10 +161,9 @@ module _ (limits : Limits) (number : ℕ) (master : Master) (formed : IsFormedMa
       let within = parts_within range at parted in
       let below = with_half it (range_below range at) term in
       formed_with_tablet limits number (with_tablet master tablet below) new (with_half it (range_from range at) term)
+      (formed_with_tablet limits number master tablet below formed
+      (half_is_formed limits tablet tablet it (range_below range at) term old.number_is (lawful_below range at above within old.range) stood old))
       (half_is_formed limits tablet new it (range_from range at) term is (lawful_from range at above within old.range) stood old)
-      (formed_with_tablet limits number master tablet below
-      (half_is_formed limits tablet tablet it (range_below range at) term old.number_is (lawful_below range at above within old.range) stood old)
-      formed)
 
   -- the master serves both halves of a tablet, at a term that has stood, where both have a hash
   pub formed_with_split : (tablet at new term : ℕ) → IsNumber w32 1 new → IsFormedNumber limits term → IsFormedMaster limits number (with_split master tablet at new term)
@@ -262,31 +237,16 @@ served_is_formed limits tablet range (Some it) some is lawful old = record {
 -- a master serves a tablet that is added, where 1 has stood, as its term and its counter are
 pub formed_with_added : (limits : Limits) (number : ℕ) (master : Master) (tablet : ℕ) (range : Range) → 1 ≤ limits.top → IsNumber w32 1 tablet → IsLawfulRange range → IsFormedMaster limits number master → IsFormedMaster limits number (with_added master tablet range)
 formed_with_added limits number master tablet range some is lawful formed =
-    formed_with_tablet limits number master tablet (served (tablet_at master tablet) range)
+    formed_with_tablet limits number master tablet (served (tablet_at master tablet) range) formed
     (served_is_formed limits tablet range (get master.tablets tablet) some is lawful
     (known_has (IsFormedTablet limits) master.tablets tablet formed.tablets))
-    formed
 
 -- ---- in a lane
-
--- where of two causes there is none, there is no second one
-no_second : {X : Type 0} (first second : Option X) → option_or first second ≡ None → second ≡ None
-no_second None second none = none
-no_second (Some x) second none = absurd (cc none)
-
--- where an event is not refused in a lane, the rules of its kind do not refuse it
-no_fault : (w : World) (event : Event) → refusal w event ≡ None → fault_of w event ≡ None
-no_fault w event none =
-    go (comes_anyway event) none
-  where
-    go : (anyway : Bool) → cond anyway (fault_of w event) (option_or (option_map errors.Worn (worn w)) (fault_of w event)) ≡ None → fault_of w event ≡ None
-    go true fault = fault
-    go false fault = no_second (option_map errors.Worn (worn w)) (fault_of w event) fault
 
 -- a split that is not refused in a lane
 pub split_allowed : (w : World) (tablet at new : ℕ) → refusal w (events.Split tablet at new) ≡ None → tablet_split_fault w.coordinator tablet at new ≡ None
 split_allowed w tablet at new none =
-    no_inner errors.Move (tablet_split_fault w.coordinator tablet at new) (no_fault w (events.Split tablet at new) none)
+    no_inner errors.Move (tablet_split_fault w.coordinator tablet at new) (has_no_fault w (events.Split tablet at new) none)
 
 -- a tablet whose addition is not refused
 pub added_allowed : (w : World) (tablet : ℕ) (range : Range) (master : ℕ) → refusal w (events.AddTablet tablet range master) ≡ None → add_fault w.coordinator.rows (new_row tablet range master) ≡ None
@@ -294,4 +254,4 @@ added_allowed w tablet range master none =
     let fault = add_fault w.coordinator.rows (new_row tablet range master) in
     no_inner errors.Map fault
     (no_second (where_true (has_crashed w master) (errors.Dead master)) (option_map errors.Map fault)
-    (no_fault w (events.AddTablet tablet range master) none))
+    (has_no_fault w (events.AddTablet tablet range master) none))

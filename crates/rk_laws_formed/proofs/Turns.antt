@@ -33,8 +33,9 @@ use Rattle.rk_world.specs.Room.{MOST_BYTES}
 use Rattle.rk_world.specs.RoleTests.{is_receiving}
 use Rattle.rk_world.specs.Tablet.{Tablet}
 use Rattle.rk_world.specs.Worked.{Worked, changed, from_master, sending}
+use Rattle.rk_laws_formed.proofs.Lists.{all_find, all_flat, fold_keeps_all}
 use Rattle.rk_laws_formed.proofs.Changes.{formed_with_tablet}
-use Rattle.rk_laws_formed.proofs.Maps.{All_find, All_flat, All_pairs, fold_keeps_all}
+use Rattle.rk_laws_formed.proofs.Maps.{All_pairs}
 use Rattle.rk_laws_formed.proofs.Messages.{formed_from, tenure_fits}
 use Rattle.rk_laws_formed.proofs.Segments.{IsTold, IsToldPiece, pending_told, segments_told}
 use Rattle.rk_laws_formed.proofs.Tablets.{formed_with_outstanding}
@@ -65,7 +66,7 @@ append_formed limits number master backup (Some piece) there formed is told =
 pub appends_formed : (limits : Limits) (number : ℕ) (master : Master) → IsMaster limits.masters number → IsFormedMaster limits number master
     → All IsTold (segments master.log) → All (IsFormedMessage limits) (appends master)
 appends_formed limits number master there formed told =
-    All_flat (IsFormedMessage limits) (λ backup. append_of master backup (pending master.log backup)) (range_with_len 1 (length master.log.known))
+    all_flat (IsFormedMessage limits) (λ backup. append_of master backup (pending master.log backup)) (range_with_len 1 (length master.log.known))
     (All-weaker (λ n. (1 ≤ n) × (n < 1 + length master.log.known))
     (λ backup. All (IsFormedMessage limits) (append_of master backup (pending master.log backup)))
     (λ backup within.
@@ -97,7 +98,7 @@ pub named_formed : (limits : Limits) (range : Range) (entries : List Entry) → 
 named_formed limits range entries each =
     fold_keeps_all (All (IsNumber w32 FIRST_SIDE_SEGMENT)) (IsNumber w32 FIRST_SIDE_SEGMENT) with_number (flat_map (named_by range) entries) []
     (All-nil (IsNumber w32 FIRST_SIDE_SEGMENT))
-    (All_flat (IsNumber w32 FIRST_SIDE_SEGMENT) (named_by range) entries
+    (all_flat (IsNumber w32 FIRST_SIDE_SEGMENT) (named_by range) entries
     (All-weaker (IsFormedEntry limits) (λ entry. All (IsNumber w32 FIRST_SIDE_SEGMENT) (named_by range entry)) (named_by_formed limits range) entries each))
     (λ numbers number all new.
     cond_both (is_among number numbers) numbers (numbers ++ number ∷ []) (All (IsNumber w32 FIRST_SIDE_SEGMENT)) (λ there. all)
@@ -108,7 +109,7 @@ pub main_entries_formed : (limits : Limits) (gathered : Gathered) → IsFormedGa
     → All (IsFormedEntry limits) (main_entries gathered)
 main_entries_formed limits gathered formed =
     All-drop (IsFormedEntry limits) gathered.member.from (flat_map (λ entries. entries) gathered.main)
-    (All_flat (IsFormedEntry limits) (λ entries. entries) gathered.main formed.main)
+    (all_flat (IsFormedEntry limits) (λ entries. entries) gathered.main formed.main)
 
 side_fits : (limits : Limits) (range : Range) (gathered : Gathered) → IsFormedGathered limits gathered
     → IfSome (next_side range gathered) (IsNumber w32 0)
@@ -118,7 +119,7 @@ side_fits limits range gathered formed = go (next_side range gathered) refl
     go None is = tt
     go (Some segment) is =
         let named_is : IsNumber w32 FIRST_SIDE_SEGMENT segment =
-        All_find (IsNumber w32 FIRST_SIDE_SEGMENT) (λ segment. not (is_some (get gathered.sides segment)))
+        all_find (IsNumber w32 FIRST_SIDE_SEGMENT) (λ segment. not (is_some (get gathered.sides segment)))
         (named range (main_entries gathered)) segment
         (named_formed limits range (main_entries gathered) (main_entries_formed limits gathered formed)) is in
         record { least_is = omega arith; fits = named_is.fits }

@@ -21,8 +21,8 @@ use Rattle.rk_world.specs.Master.{Master, is_settled, with_tablet}
 use Rattle.rk_world.specs.RoleTests.{is_receiving}
 use Rattle.rk_world.specs.Tablet.{Tablet, with_handover}
 use Rattle.rk_world.specs.Waiting.{all_going_on, closing_entry, freezing, going_on_in, is_sealed_stored, joined_entry, tablet_frozen}
+use Rattle.rk_laws_formed.proofs.Lists.{all_front, all_last}
 use Rattle.rk_laws_formed.proofs.Changes.{formed_with_appended, formed_with_tablet}
-use Rattle.rk_laws_formed.proofs.Maps.{All_front, All_last}
 use Rattle.rk_laws_formed.proofs.Messages.{counted_fits}
 use Rattle.rk_laws_formed.proofs.Tablets.{IsFormedHandover, formed_with_handover, handover_of}
 use Rattle.rk_laws_formed.proofs.Work.{AreLimits}
@@ -34,12 +34,12 @@ FitsSegment entry = length (spelled entry) ≤ SEGMENT_BYTES
 -- ---- handovers
 
 -- a role that names no place, and in which nothing is pulled
-record IsPlain (role : Role) : Type 0 where
-  place : place_in role ≡ 0
-  still : is_receiving role ≡ false
+pub record IsPlain (role : Role) : Type 0 where
+  pub place : place_in role ≡ 0
+  pub still : is_receiving role ≡ false
 
 -- a handover in such a role
-formed_in_plain : (limits : Limits) (source : ℕ) (handover : Handover) (role : Role) → IsFormedHandover limits source handover → IsPlain role
+pub formed_in_plain : (limits : Limits) (source : ℕ) (handover : Handover) (role : Role) → IsFormedHandover limits source handover → IsPlain role
     → IsFormedHandover limits source (record handover { role = role })
 formed_in_plain limits source handover role formed plain = record {
   term = formed.term;
@@ -53,7 +53,7 @@ formed_in_plain limits source handover role formed plain = record {
 abbrev pub EachMoved : (Handover → Type 0) → Option Handover → Type 0
 EachMoved P moved = (handover : Handover) → moved ≡ Some handover → P handover
 
-formed_in_role : (limits : Limits) (source : ℕ) (handover : Handover) (role : Option Role) → IsFormedHandover limits source handover
+pub formed_in_role : (limits : Limits) (source : ℕ) (handover : Handover) (role : Option Role) → IsFormedHandover limits source handover
     → ((r : Role) → role ≡ Some r → IsPlain r) → EachMoved (IsFormedHandover limits source) (in_role handover role)
 formed_in_role limits source handover None formed plain now is = absurd (cc is)
 formed_in_role limits source handover (Some role) formed plain now is =
@@ -136,7 +136,7 @@ formed_closing_entry limits number master id tablet (Some handover) are formed t
     formed_with_appended limits number (with_tablet master id (with_handover tablet handover)) (joined_entry tablet)
     (formed_with_tablet limits number master id (with_handover tablet handover) formed
     (formed_with_handover limits id tablet handover there (moves handover refl)))
-    (formed_joined_entry limits id tablet are there (All_last FitsSegment master.log.entries (joined_entry tablet) fits))
+    (formed_joined_entry limits id tablet are there (all_last FitsSegment master.log.entries (joined_entry tablet) fits))
 
 -- a tablet that closes freezes
 pub formed_freezing : (limits : Limits) (number : ℕ) (master : Master) (id : ℕ) (tablet : Tablet) (moved : Option Handover)
@@ -156,7 +156,7 @@ formed_freezing limits number master id tablet (Some handover) formed there move
 kept_closing : (P : Entry → Type 0) (master : Master) (id : ℕ) (tablet : Tablet) (moved : Option Handover)
     → All P (closing_entry master id tablet moved).log.entries → All P master.log.entries
 kept_closing P master id tablet None each = each
-kept_closing P master id tablet (Some handover) each = All_front P master.log.entries (joined_entry tablet ∷ []) each
+kept_closing P master id tablet (Some handover) each = all_front P master.log.entries (joined_entry tablet ∷ []) each
 
 kept_freezing : (P : Entry → Type 0) (master : Master) (id : ℕ) (tablet : Tablet) (moved : Option Handover)
     → All P (freezing master id tablet moved).log.entries → All P master.log.entries

@@ -1,8 +1,7 @@
 -- Well formed lanes stay well formed: every event, every turn and answer of a client, and so every run, as long as the numbers fit.
-use Rattle.std.proofs.Common.{◌≡◌, ◌≤◌, ◌<◌, ◌+◌, ℕ, w32, Bool, true, false, cond, List, [], ◌∷◌, All, Option, None, Some, refl, ap, subst, sym, ◌∙◌, arith}
-use Rattle.std.specs.Prelude.{IfSome, not, ⊤}
+use Rattle.std.proofs.Common.{◌≡◌, ◌+◌, ℕ, w32, Bool, true, false, cond, List, [], ◌∷◌, All, Option, None, Some, refl, subst, sym}
+use Rattle.std.specs.Prelude.{not}
 use Rattle.std.proofs.lemmas.List.Elements.{All-head}
-use Rattle.rk_types.specs.NumberMap.{get}
 use Rattle.rk_types.specs.declared.node.Node.{Node}
 use Rattle.rk_types.specs.declared.node.Node.TheVariants as nodes
 use Rattle.rk_types.specs.declared.range.Range.{Range}
@@ -18,7 +17,7 @@ use Rattle.rk_world.specs.declared.event.Event.TheVariants as events
 use Rattle.rk_world.specs.Backup.{Called}
 use Rattle.rk_world.specs.Coordinator.{Coordinator, new_row, with_row}
 use Rattle.rk_world.specs.CoordinatorStep.{coordinator_step}
-use Rattle.rk_world.specs.Formed.{IsFormedCoordinator, IsFormedRow, IsWellFormed, named_in}
+use Rattle.rk_world.specs.Formed.{IsFormedRow, IsWellFormed, named_in}
 use Rattle.rk_world.specs.Limits.{IsFormedMember, IsFormedMessage, IsThere, limits_of}
 use Rattle.rk_world.specs.Migrations.{tablet_migrated}
 use Rattle.rk_world.specs.Notices.{coordinator_notice}
@@ -27,19 +26,19 @@ use Rattle.rk_world.specs.Refusals.{refusal, where_true}
 use Rattle.rk_world.specs.Room.{HasRoom}
 use Rattle.rk_world.specs.Runs.{Accepts, Asks, Happening, Happens, IsCalm, IsCalmEvent, IsCalmHappening, MayAllOccur, MayOccur, after, run}
 use Rattle.rk_world.specs.Splits.{owner_split, row_split, rows_split, tablet_split, with_split}
-use Rattle.rk_world.specs.Step.{happened, quietly, tablet_added, turned, with_added}
-use Rattle.rk_world.specs.World.{World, crashed_masters, has_crashed, master_at, with_coordinator, with_master, with_top}
+use Rattle.rk_world.specs.Step.{happened, quietly, tablet_added, with_added}
+use Rattle.rk_world.specs.World.{World, crashed_masters, has_crashed, master_at, with_coordinator, with_master}
 use Rattle.rk_laws_formed.proofs.Backups.{formed_backup_step, segment_spells}
 use Rattle.rk_laws_formed.proofs.Coordinators.{HasRowRoom, IsFormedChange, formed_coordinator_step, formed_coordinator_turn, formed_tablet_migrated, formed_with_row, standing_terms}
 use Rattle.rk_laws_formed.proofs.Events.{formed_again, formed_come, formed_crashed, formed_forgotten, has_no_fault}
-use Rattle.rk_laws_formed.proofs.Happenings.{IsFormedWithRoom, ReceiptIsFormed, formed_accepts, formed_after_event, formed_asks, formed_delivered, formed_turned}
+use Rattle.rk_laws_formed.proofs.Happenings.{ReceiptIsFormed, formed_accepts, formed_after_event, formed_asks, formed_delivered, formed_turned}
 use Rattle.rk_laws_formed.proofs.MasterSteps.{formed_step}
 use Rattle.rk_laws_formed.proofs.More.{IsMore, more_coordinator, more_master}
 use Rattle.rk_laws_formed.proofs.NoticeLaws.{formed_noticed}
 use Rattle.rk_laws_formed.proofs.Rows.{all_found, formed_new_row}
 use Rattle.rk_laws_formed.proofs.SplitLaws.{added_allowed, formed_rows_split, formed_with_added, formed_with_split, one_has_stood, split_allowed, split_term_stood}
 use Rattle.rk_laws_formed.proofs.Turns.{formed_turn}
-use Rattle.rk_laws_formed.proofs.Works.{formed_with_both, formed_with_coordinator, limits_with_both, limits_with_coordinator, more_with_both, more_with_coordinator, terms_with_both, terms_with_coordinator}
+use Rattle.rk_laws_formed.proofs.Works.{formed_with_both, formed_with_coordinator, more_with_both, more_with_coordinator, terms_with_both}
 use Rattle.rk_laws_formed.proofs.Worlds.{MayCoordinate, formed_limits, base_covered, master_of, may_coordinate}
 
 -- ---- messages and turns
@@ -80,8 +79,8 @@ formed_migrated w tablet to there formed =
     let more = more_with_coordinator w moved (sym old.keeps.masters) in
     let after_it = (quietly (with_coordinator w moved)).world in
     let new = formed_tablet_migrated (limits_of after_it) w.coordinator
-        (more_coordinator (limits_of w) (limits_of after_it) more w.coordinator formed.coordinator) tablet to
-        (subst (λ (count : ℕ). IsMaster count to) more.masters there) in
+    (more_coordinator (limits_of w) (limits_of after_it) more w.coordinator formed.coordinator) tablet to
+    (subst (λ (count : ℕ). IsMaster count to) more.masters there) in
     formed_with_coordinator w moved (changed_may w moved after_it more formed new) formed
 
 -- a crash is noticed
@@ -92,7 +91,7 @@ formed_notice w dead crashed formed =
     let more = more_with_coordinator w told (sym old.masters) in
     let after_it = (quietly (with_coordinator w told)).world in
     let new = formed_noticed (limits_of after_it) w dead crashed more.masters
-        (more_coordinator (limits_of w) (limits_of after_it) more w.coordinator formed.coordinator) formed in
+    (more_coordinator (limits_of w) (limits_of after_it) more w.coordinator formed.coordinator) formed in
     formed_with_coordinator w told
     (record { formed = new.formed; masters = sym new.masters; noticed = new.noticed; base = base_covered w told.rows new.covers formed })
     formed
@@ -109,7 +108,7 @@ formed_added w tablet range master (number, lawful, there) none formed =
     let allowed = added_allowed w tablet range master none in
     let old = more_coordinator (limits_of w) limits more w.coordinator formed.coordinator in
     let change = formed_with_row limits w.coordinator old row allowed
-        (formed_new_row limits tablet range master number lawful there) refl in
+    (formed_new_row limits tablet range master number lawful there) refl in
     let some = one_has_stood limits w.coordinator row refl (record { terms = terms_with_both w master served coordinator }) in
     formed_with_both w master served coordinator there
     (formed_with_added limits master (master_at w master) tablet range some number lawful
@@ -127,7 +126,7 @@ formed_rows_alone w tablet at new number none formed =
     let more = more_with_coordinator w coordinator (sym old.keeps.masters) in
     let after_it = (quietly (with_coordinator w coordinator)).world in
     let new_is = formed_rows_split (limits_of after_it) w.coordinator
-        (more_coordinator (limits_of w) (limits_of after_it) more w.coordinator formed.coordinator) tablet at new allowed number in
+    (more_coordinator (limits_of w) (limits_of after_it) more w.coordinator formed.coordinator) tablet at new allowed number in
     formed_with_coordinator w coordinator (changed_may w coordinator after_it more formed new_is) formed
 
 -- its rows and its owner change

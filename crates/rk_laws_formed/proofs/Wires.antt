@@ -25,7 +25,7 @@ use Rattle.rk_world.specs.Journal.{last_stamp}
 use Rattle.rk_world.specs.Limits.{IsFormedBody, IsFormedMessage, Limits}
 use Rattle.rk_world.specs.Replies.{filled, filled_body, filled_reply, place_of, reply_at, reply_with}
 use Rattle.rk_world.specs.Room.{MOST_NUMBER}
-use Rattle.rk_laws_formed.proofs.Bounds.{all_got}
+use Rattle.rk_laws_formed.proofs.Lists.{all_got}
 use Rattle.rk_laws_formed.proofs.Ledgers.{AreStamps}
 
 -- ---- the wire

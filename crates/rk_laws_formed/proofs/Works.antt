@@ -75,7 +75,8 @@ formed_sending_old w messages all formed =
 -- what a master that is well formed makes is, where it has room within the limits
 abbrev pub WorkIsFormed : Limits → ℕ → Master → Worked → Type 0
 WorkIsFormed limits number master worked =
-    AreLimits limits → IsFormedMaster limits number master → HasRoomFor limits worked.master → IsFormedWork limits number worked
+    AreLimits limits → IsMaster limits.masters number → IsFormedMaster limits number master → HasRoomFor limits worked.master
+    → IsFormedWork limits number worked
 
 module _ (w : World) (number seen : ℕ) (worked : Worked) where
   -- the world after it
@@ -143,7 +144,7 @@ module _ (w : World) (number seen : ℕ) (worked : Worked) where
   pub formed_by_work : IsMaster w.coordinator.masters number → WorkIsFormed (limits_of after_work) number (master_at w number) worked → HasRoom after_work → IsWellFormed w → IsWellFormed after_work
   formed_by_work there works room formed =
       formed_worked there
-      (works (limits_worked formed room)
+      (works (limits_worked formed room) there
       (more_master (limits_of w) (limits_of after_work) more_worked number (master_at w number) (master_of w number there formed))
       (room_worked room))
       room formed
@@ -161,7 +162,7 @@ formed_to_master w number message there says works room formed =
       | true ↦ λ room_left. formed_losing w formed
       | false ↦ λ room_left.
           formed_by_work w number (seen_in message.body) worked there
-          (λ limits master fits.
+          (λ limits there master fits.
           works (limits_of taken.world) limits there master
           (more_message (limits_of w) (limits_of taken.world) (more_worked w number (seen_in message.body) worked) message says)
           fits)
@@ -177,18 +178,13 @@ formed_to_master w number message there says works room formed =
 -- what a master makes of its turn, in any lane
 abbrev pub TurnIsFormed : ℕ → Master → Type 0
 TurnIsFormed number master =
-<<<<<<< HEAD
-    (limits : Limits) → AreLimits limits → IsMaster limits.masters number → IsFormedMaster limits number master →
-    HasRoomFor limits (master_turn master).master → IsFormedWork limits number (master_turn master)
-=======
     (limits : Limits) → WorkIsFormed limits number master (master_turn master)
->>>>>>> d80bb39e208b2f2365ddde9b0d6fb0c38673a9eb
 
 -- and when a master takes its turn
 pub formed_master_turn : (w : World) (number : ℕ) → IsMaster w.coordinator.masters number → TurnIsFormed number (master_at w number) → HasRoom (turned w (nodes.Master number)).world → IsWellFormed w → IsWellFormed (turned w (nodes.Master number)).world
 formed_master_turn w number there works room formed =
     formed_by_work w number 0 (master_turn (master_at w number)) there
-    (λ limits master fits. works (limits_of (turned w (nodes.Master number)).world) limits there master fits)
+    (works (limits_of (turned w (nodes.Master number)).world))
     room formed
 
 -- ---- the coordinator has worked

@@ -28,7 +28,8 @@ use Rattle.rk_world.specs.Premises.{IsMaster, MOST_MASTERS}
 use Rattle.rk_world.specs.Refusals.{MOST_CLIENTS}
 use Rattle.rk_world.specs.Room.{HasRoom, MOST_NUMBER}
 use Rattle.rk_world.specs.World.{World, counters_of, greatest, has_crashed, master_at, standing, with_all_sent, with_coordinator, with_crash, with_ledger, with_master, with_top, with_wire}
-use Rattle.rk_laws_formed.proofs.Bounds.{all_back, all_before, all_front, all_given, all_in_map, below_greatest, within_sum_of}
+use Rattle.rk_laws_formed.proofs.Lists.{all_back, all_before, all_front, all_given}
+use Rattle.rk_laws_formed.proofs.Bounds.{all_in_map, below_greatest, within_sum_of}
 use Rattle.rk_laws_formed.proofs.More.{IsMore, more_coordinator, more_ledger, more_master, more_master_number, more_wire}
 use Rattle.rk_laws_formed.proofs.Numbered.{found_in_range, numbers_kept}
 use Rattle.rk_laws_formed.proofs.Wires.{wire_of_all}
