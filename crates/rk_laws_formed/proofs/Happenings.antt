@@ -17,7 +17,7 @@ use Rattle.rk_world.specs.Limits.{IsFormedMessage, IsThere, limits_of}
 use Rattle.rk_world.specs.Premises.{MayTurn}
 use Rattle.rk_world.specs.Refusals.{refusal}
 use Rattle.rk_world.specs.Room.{HasRoom}
-use Rattle.rk_world.specs.Runs.{Accepts, Asks, Happens, MayOccur, after, world_stepped, world_visited}
+use Rattle.rk_world.specs.Runs.{Accepts, Asks, Happens, IsFormedWithRoom, MayOccur, after, world_stepped, world_visited}
 use Rattle.rk_world.specs.Step.{delivered, delivered_to, happened, log_bytes_of, stepped_by, turned}
 use Rattle.rk_world.specs.World.{World, master_at}
 use Rattle.rk_laws_formed.proofs.Asks.{formed_accept, formed_ask}
@@ -90,11 +90,6 @@ formed_after_event w event called makes room formed = go (refusal w event) refl 
     go : (refused : Option StepError) → refusal w event ≡ refused → HasRoom (world_stepped w (stepped_by w event called refused)) → IsWellFormed (world_stepped w (stepped_by w event called refused))
     go None none room_left = makes none room_left
     go (Some error) none room_left = formed
-
--- a lane that is well formed and has room
-pub record IsFormedWithRoom (w : World) : Type 0 where
-  pub formed : IsWellFormed w
-  pub room : HasRoom w
 
 -- it stays so when a client asks there
 pub formed_asks : (w : World) (session : Session) → MayOccur w (Asks session) → IsFormedWithRoom w → IsFormedWithRoom (after w (Asks session))

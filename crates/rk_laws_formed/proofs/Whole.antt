@@ -24,7 +24,7 @@ use Rattle.rk_world.specs.Notices.{coordinator_notice}
 use Rattle.rk_world.specs.Premises.{IsMaster, MayCome, MayHappen}
 use Rattle.rk_world.specs.Refusals.{refusal, where_true}
 use Rattle.rk_world.specs.Room.{HasRoom}
-use Rattle.rk_world.specs.Runs.{Accepts, Asks, Happening, Happens, IsCalm, IsCalmEvent, IsCalmHappening, MayAllOccur, MayOccur, after, run}
+use Rattle.rk_world.specs.Runs.{Accepts, AllHaveRoom, Asks, Happening, Happens, IsCalm, IsCalmEvent, IsCalmHappening, MayAllOccur, MayOccur, after, run}
 use Rattle.rk_world.specs.Splits.{owner_split, row_split, rows_split, tablet_split, with_split}
 use Rattle.rk_world.specs.Step.{happened, quietly, tablet_added, with_added}
 use Rattle.rk_world.specs.World.{World, crashed_masters, has_crashed, master_at, with_coordinator, with_master}
@@ -215,11 +215,7 @@ formed_after w (Asks session) may calm room after_room formed =
 formed_after w (Accepts number session) may calm room after_room formed =
     (formed_accepts w number session may (record { formed = formed; room = room })).formed
 
--- each world of a run has room
-abbrev pub AllHaveRoom : World → List Happening → Type 0
-AllHaveRoom w [] = HasRoom w
-AllHaveRoom w (happening ∷ later) = HasRoom w × AllHaveRoom (after w happening) later
-
+-- the first world of a run has room where each has
 first_has_room : (w : World) (list : List Happening) → AllHaveRoom w list → HasRoom w
 first_has_room w [] room = room
 first_has_room w (happening ∷ later) room = room.0

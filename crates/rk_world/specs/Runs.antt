@@ -6,6 +6,8 @@ use Rattle.rk_world.specs.declared.event.Event.{Event}
 use Rattle.rk_world.specs.declared.event.Event.TheVariants as events
 use Rattle.rk_world.specs.Backup.{Called}
 use Rattle.rk_world.specs.Client.{Session}
+use Rattle.rk_world.specs.Formed.{IsWellFormed}
+use Rattle.rk_world.specs.Room.{HasRoom}
 use Rattle.rk_world.specs.World.{World, lives}
 use Rattle.rk_world.specs.Step.{Stepped, step}
 use Rattle.rk_world.specs.Calls.{Visited, ask, accept}
@@ -72,3 +74,13 @@ MayOccur w (Accepts number session) = MayAct w.coordinator.masters session
 abbrev pub MayAllOccur : World → List Happening → Type 0
 MayAllOccur w [] = ⊤
 MayAllOccur w (happening ∷ later) = MayOccur w happening × MayAllOccur (after w happening) later
+
+-- a lane that is well formed and has room
+pub record IsFormedWithRoom (w : World) : Type 0 where
+  pub formed : IsWellFormed w
+  pub room : HasRoom w
+
+-- each world of a run has room
+abbrev pub AllHaveRoom : World → List Happening → Type 0
+AllHaveRoom w [] = HasRoom w
+AllHaveRoom w (happening ∷ later) = HasRoom w × AllHaveRoom (after w happening) later

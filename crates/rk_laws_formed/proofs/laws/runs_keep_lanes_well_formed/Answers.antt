@@ -1,0 +1,5 @@
+use Rattle.rk_laws_formed.proofs.Whole.{formed_run}
+use Rattle.rk_laws_formed.proofs.laws.runs_keep_lanes_well_formed.Goals as goal
+
+pub returns : goal.returns
+returns c = record { run = formed_run }

@@ -1,0 +1,44 @@
+// The headline laws of well formed lanes. Each function does nothing: its contract is the law.
+ghost use Rattle.std.specs.Prelude.{◌≡◌, ◌<◌, ◌≤◌, ℕ, None, List};
+ghost use Rattle.rk_log.specs.declared.copied.TheConstants.{MOST_BACKUPS};
+ghost use Rattle.rk_world.specs.declared.event.Event.{Event};
+ghost use Rattle.rk_world.specs.Backup.{Called};
+ghost use Rattle.rk_world.specs.Client.{Session};
+ghost use Rattle.rk_world.specs.Formed.{IsWellFormed};
+ghost use Rattle.rk_world.specs.Premises.{MOST_MASTERS, MayCome, MayHappen};
+ghost use Rattle.rk_world.specs.Refusals.{refusal};
+ghost use Rattle.rk_world.specs.Room.{HasRoom};
+ghost use Rattle.rk_world.specs.Runs.{AllHaveRoom, Happening, IsCalm, IsCalmEvent, IsFormedWithRoom, MayAllOccur, run};
+ghost use Rattle.rk_world.specs.Runs as runs;
+ghost use Rattle.rk_world.specs.Step.{happened};
+ghost use Rattle.rk_world.specs.World.{World, new_world};
+
+/// A lane where nothing has happened is well formed, with at most eight masters and one to four backups.
+pub fn new_lanes_are_well_formed()
+    ensures new { (lane masters backups : ℕ)
+        → masters ≤ MOST_MASTERS → 1 ≤ backups → backups ≤ MOST_BACKUPS → IsWellFormed (new_world lane masters backups) }
+{}
+
+/// A well formed lane stays so at each event that may happen there, is not refused and leaves another master alive, where the
+/// numbers of the lane fit before and after it.
+pub fn events_keep_lanes_well_formed()
+    ensures event { (w : World) (event : Event) (called : Called)
+        → MayHappen w event → MayCome called → IsCalmEvent w event → refusal w event ≡ None
+        → HasRoom w → HasRoom (happened w event called).world
+        → IsWellFormed w → IsWellFormed (happened w event called).world }
+{}
+
+/// A well formed lane with room stays both when a client takes its turn there, and when it takes an answer.
+pub fn clients_keep_lanes_well_formed()
+    ensures asks { (w : World) (session : Session)
+        → runs.MayOccur w (runs.Asks session) → IsFormedWithRoom w → IsFormedWithRoom (runs.after w (runs.Asks session)) }
+    ensures accepts { (w : World) (number : ℕ) (session : Session)
+        → runs.MayOccur w (runs.Accepts number session) → IsFormedWithRoom w
+        → IsFormedWithRoom (runs.after w (runs.Accepts number session)) }
+{}
+
+/// A well formed lane stays so in every calm run whose numbers fit.
+pub fn runs_keep_lanes_well_formed()
+    ensures run { (w : World) (list : List Happening)
+        → MayAllOccur w list → IsCalm w list → AllHaveRoom w list → IsWellFormed w → IsWellFormed (run w list) }
+{}
