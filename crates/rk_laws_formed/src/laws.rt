@@ -1,11 +1,15 @@
 // The headline laws of well formed lanes. Each function does nothing: its contract is the law.
-ghost use Rattle.std.specs.Prelude.{◌≡◌, ◌<◌, ◌≤◌, ℕ, None, List};
+ghost use Rattle.std.specs.Prelude.{◌≡◌, ◌≤◌, ℕ, IfSome, List, None, Ok};
+ghost use Rattle.std.specs.Int.{w32};
+ghost use Rattle.rk_entry.specs.Numbers.{IsNumber};
 ghost use Rattle.rk_log.specs.declared.copied.TheConstants.{MOST_BACKUPS};
 ghost use Rattle.rk_world.specs.declared.event.Event.{Event};
 ghost use Rattle.rk_world.specs.Backup.{Called};
-ghost use Rattle.rk_world.specs.Client.{Session};
+ghost use Rattle.rk_types.specs.declared.call.Op.{Op};
+ghost use Rattle.rk_world.specs.Calls.{Visited, accept, ask};
+ghost use Rattle.rk_world.specs.Client.{Session, busy, new_session, next_call, session_calling};
 ghost use Rattle.rk_world.specs.Formed.{IsWellFormed};
-ghost use Rattle.rk_world.specs.Premises.{MOST_MASTERS, MayCome, MayHappen};
+ghost use Rattle.rk_world.specs.Premises.{IsAfterStart, IsLawfulCall, MOST_MASTERS, MayAct, MayCome, MayHappen};
 ghost use Rattle.rk_world.specs.Refusals.{refusal};
 ghost use Rattle.rk_world.specs.Room.{HasRoom};
 ghost use Rattle.rk_world.specs.Runs.{AllHaveRoom, Happening, IsCalm, IsCalmEvent, IsFormedWithRoom, MayAllOccur, run};
@@ -35,6 +39,21 @@ pub fn clients_keep_lanes_well_formed()
     ensures accepts { (w : World) (number : ℕ) (session : Session)
         → runs.MayOccur w (runs.Accepts number session) → IsFormedWithRoom w
         → IsFormedWithRoom (runs.after w (runs.Accepts number session)) }
+{}
+
+/// A session that may act still may after its turn and after an answer in a well formed lane, and after it asked a lawful
+/// call; a new session may act.
+pub fn sessions_may_go_on()
+    ensures new { (count client : ℕ) → IsNumber w32 1 client → MayAct count (new_session client) }
+    ensures calls { (count : ℕ) (session : Session) (table : ℕ) (key : List ℕ) (op : Op)
+        → IsLawfulCall (next_call session table key op) → MayAct count session
+        → MayAct count (session_calling session table key op (busy session)) }
+    ensures asks { (w : World) (session : Session) (visited : Visited)
+        → ask w session ≡ Ok visited → MayAct w.coordinator.masters session → IfSome session.outstanding (IsAfterStart w.base)
+        → HasRoom visited.world → IsWellFormed w → MayAct w.coordinator.masters visited.session }
+    ensures accepts { (w : World) (number : ℕ) (session : Session) (visited : Visited)
+        → accept w number session ≡ Ok visited → MayAct w.coordinator.masters session
+        → IsWellFormed w → MayAct w.coordinator.masters visited.session }
 {}
 
 /// A well formed lane stays so in every calm run whose numbers fit.
