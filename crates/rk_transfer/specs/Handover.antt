@@ -6,7 +6,16 @@ use Rattle.rk_transfer.specs.declared.handover.Handover.{Handover}
 use Rattle.rk_transfer.specs.declared.role.Role.{Role}
 use Rattle.rk_transfer.specs.declared.role.Role.TheVariants.{Absent, Serving, Closing, Frozen, Wanting, Receiving, Joining, Rebuilding}
 
--- a move, with what it is handed
+-- A move, with what it is handed. Here each says which role it turns into which; when a master makes it, and what it does beside,
+-- stands in the files of rk_world/specs that are named.
+--
+--   Prepare, Close, Grant, Own, Release: on the order of the coordinator that is called so (Handovers)
+--   Freeze: once none of the tablet's writes waits for its entry to be committed, which is at the Close itself or when the backups
+--     have stored the last one (Handovers, Waiting)
+--   Join: when the last batch of a pull is taken; with its closing entry at once if no side segment is left to store, and else
+--     without, to be made again with the entry once all of them are stored (Pulls, Waiting)
+--   Rebuild: on the coordinator's order to collect what a crashed owner left (Rebuilds)
+--   Carry: when every log is read, and what was collected is merged (Rebuilds)
 pub data Move : Type 0 where
   Prepare : (term : ℕ) (range : Range) (from : ℕ) → Move
   Close : (term : ℕ) → Move
