@@ -1,5 +1,5 @@
 -- A range with an owner is cached, and one without is not.
-use Rattle.std.proofs.Common.{◌≡◌, ℕ, Bool, true, false, List, [], ◌∷◌, Option, Some, None, is_some, refl}
+use Rattle.std.proofs.Common.{◌≡◌, ℕ, true, false, [], ◌∷◌, Option, Some, None, is_some, refl}
 use Rattle.rk_message.specs.declared.calls.Located.{Located}
 use Rattle.rk_world.specs.Client.{owned_range}
 

@@ -2,7 +2,7 @@
 use Rattle.std.proofs.Common.{◌≡◌, ℕ, Bool, true, false, cond, eqb, Option, Some, None, refl, sym, ap, ◌∙◌}
 use Rattle.rk_types.specs.declared.call.Call.{Call}
 use Rattle.rk_message.specs.declared.calls.Located.{Located}
-use Rattle.rk_world.specs.Client.{Session, ClientTurn, MOST_REQUESTS, looking_up, range_of, requesting, session_turn, turn_by, turn_of, turn_to}
+use Rattle.rk_world.specs.Client.{Session, MOST_REQUESTS, looking_up, range_of, requesting, session_turn, turn_by, turn_of, turn_to}
 use Rattle.rk_session.specs.Turns.{address_of, tablet_and_owner}
 
 -- without an address the key is looked up

@@ -43,7 +43,7 @@ impl CachedRanges {
         lane.find(call)
     }
 
-    /// Makes room for one more range in the lane of this call. After `NoMemory` nothing has changed.
+    /// Makes room for one more range in the lane of this call, and leaves the ranges as they are.
     pub(crate) fn reserve_one(&mut self, call: &Call) -> Result<(), NoMemory>
         ensures ranges { ranges_of self.new.lanes ≡ ranges_of self.old.lanes }
         ensures ok { OnOk result (HasRoom call.now self.new.lanes) }

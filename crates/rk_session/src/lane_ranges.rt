@@ -40,7 +40,7 @@ impl LaneRanges {
         find_in(self.ranges.as_slice(), call)
     }
 
-    /// Makes room for one more range. After `NoMemory` nothing has changed.
+    /// Makes room for one more range, and leaves the ranges as they are.
     pub(crate) fn reserve_one(&mut self) -> Result<(), NoMemory>
         ensures ranges { self.new.ranges ≡ self.old.ranges }
         ensures ok { OnOk result (length self.new.ranges < self.new.capacity) }

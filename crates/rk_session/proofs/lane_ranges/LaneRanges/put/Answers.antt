@@ -1,4 +1,4 @@
-use Rattle.std.proofs.Common.{◌≡◌, ◌<◌, true, false, is_ok, is_some, rules, sym, ap, ◌∙◌, arith, length, vec_len, vec_capacity, ◌++◌, ◌∷◌, []}
+use Rattle.std.proofs.Common.{◌≡◌, true, false, is_ok, is_some, rules, sym, ap, ◌∙◌, arith, length, vec_len, vec_capacity, ◌++◌, ◌∷◌, []}
 use Rattle.std.proofs.lemmas.Fn.{filter_same}
 use Rattle.std.proofs.lemmas.List.{append-nil}
 use Rattle.rk_session.specs.Cached.{Cached, apart_from}
@@ -21,8 +21,10 @@ returns-then-is_some-clause-ranges c =
 
 pub returns-else-is_some-clause-ranges : goal.returns-else-is_some-clause-ranges
 returns-else-is_some-clause-ranges c =
-    let unowned : is_some c.args.located.owner ≡ false = sym c.is_some.ensures ∙ c.if-is_some.false in
+    let stays : c.retain.new.self.items ≡ apart_from c.args.located c.args.self.now.ranges =
     filter_same _ _ _ (λ x b f' k. search rules) _ _ c.retain.ensures.filtered
-    ∙ ap (λ (cached : Cached). apart_from c.args.located cached.ranges) c.self.view_is
+    ∙ ap (λ (cached : Cached). apart_from c.args.located cached.ranges) c.self.view_is in
+    let unowned : is_some c.args.located.owner ≡ false = sym c.is_some.ensures ∙ c.if-is_some.false in
+    stays
     ∙ sym (append-nil (apart_from c.args.located c.args.self.now.ranges))
     ∙ ap (λ ranges. apart_from c.args.located c.args.self.now.ranges ++ ranges) (sym (unowned_is_none c.args.located c.args.located.owner unowned))
