@@ -1,0 +1,28 @@
+use Rattle.std.proofs.Common.{◌+◌, Some, refl, sym, ap, ◌∙◌}
+use Rattle.rk_message.specs.declared.message.Message.{Message}
+use Rattle.rk_session.specs.Fields.{session_of}
+use Rattle.rk_session.specs.Turns.{message_of, session_after}
+use Rattle.rk_session.proofs.Turning.{turn_looks, turn_requests}
+use Rattle.rk_session.proofs.session.Session.turn.Goals as goal
+
+pub returns-in_default-address_of-clause-message : goal.returns-in_default-address_of-clause-message
+returns-in_default-address_of-clause-message c =
+    let before = session_of c.self.inside in
+    let looks = turn_looks before c.args.self.now c.in-Some.call c.find.result c.address_of.result c.self.view_is c.in-Some.is c.find.ensures c.address_of.ensures c.in_default-address_of.is in
+    ap Some (c.lookup_of.ensures before refl) ∙ ap message_of (sym looks)
+
+pub returns-clause-message : goal.returns-clause-message
+returns-clause-message c =
+    let before = session_of c.self.inside in
+    let there = c.in-Some-address_of in
+    let sends = turn_requests before c.args.self.now c.in-Some.call c.find.result c.address_of.result there.tablet there.master c.self.view_is c.in-Some.is c.find.ensures c.address_of.ensures there.is in
+    ap Some (c.in_ok-request.ensures before refl refl) ∙ ap message_of (sym sends)
+
+pub returns-clause-ok : goal.returns-clause-ok
+returns-clause-ok c =
+    let before = session_of c.self.inside in
+    let there = c.in-Some-address_of in
+    let sends = turn_requests before c.args.self.now c.in-Some.call c.find.result c.address_of.result there.tablet there.master c.self.view_is c.in-Some.is c.find.ensures c.address_of.ensures there.is in
+    let kept = c.in_ok-duplicate.ensures ∙ c.in_ok-request.ensures before refl refl in
+    ap (λ (m : Message). record before { requests = before.requests + 1; request = Some m }) kept
+    ∙ ap (session_after c.args.self.now) (sym sends)

@@ -1,0 +1,3 @@
+pub mod Cached
+pub mod Fields
+pub mod Turns
