@@ -14,3 +14,5 @@ mod laws;
 mod replay;
 mod side_log;
 mod side_logs;
+#[cfg(test)]
+mod tests;
