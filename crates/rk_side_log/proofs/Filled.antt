@@ -26,7 +26,7 @@ use Rattle.rk_world.specs.Ends.{items_of}
 use Rattle.rk_world.specs.Material.{as_entries}
 use Rattle.rk_world.specs.SideLogs.{cut_items}
 use Rattle.rk_side_log.specs.Side.{IsFilled, fits_last, place_for, segments_of}
-use Rattle.rk_side_log.specs.Spelled.{items_in, item_in, spelled_items}
+use Rattle.rk_side_log.specs.Spelled.{items_read, item_read, spelled_items}
 use Rattle.rk_side_log.proofs.Cutting.{spelled_cut}
 
 -- ---- the items that are read back
@@ -51,9 +51,9 @@ read_empty zero = refl
 read_empty (suc count) = (λ i. read_none i ++ read_empty count i)
 
 -- filled segments spell their items
-pub items_filled : (segments : List (List ℕ)) (used : ℕ) (items : List Held) → IsFilled segments used items → items_in segments ≡ items
+pub items_filled : (segments : List (List ℕ)) (used : ℕ) (items : List Held) → IsFilled segments used items → items_read segments ≡ items
 items_filled segments used items filled =
-    ap items_in filled.bytes_are
+    ap items_read filled.bytes_are
     ∙ ap items_of
     (flat_map-append entries_of (cut (as_entries items)) (replicate filled.empty [])
     ∙ (λ i. cut_again (as_entries items) (lawful_entries items filled.lawful) i ++ read_empty filled.empty i)
@@ -61,7 +61,7 @@ items_filled segments used items filled =
     ∙ items-as_entries items
 
 -- they are filled with what they spell
-pub filled_again : (segments : List (List ℕ)) (used : ℕ) (items : List Held) → IsFilled segments used items → IsFilled segments used (items_in segments)
+pub filled_again : (segments : List (List ℕ)) (used : ℕ) (items : List Held) → IsFilled segments used items → IsFilled segments used (items_read segments)
 filled_again segments used items filled = subst (IsFilled segments used) (sym (items_filled segments used items filled)) filled
 
 -- ---- how many they are
@@ -220,13 +220,13 @@ full_last used fits is some =
     (and_cases (ltb 0 used) fits is)
 
 -- the entry of an item goes into the segment at a place
-pub record Goes (segments : List (List ℕ)) (items : List Held) (item : Held) (bytes : List ℕ) (place : ℕ) : Type 0 where
+pub record GoesInto (segments : List (List ℕ)) (items : List Held) (item : Held) (bytes : List ℕ) (place : ℕ) : Type 0 where
   pub within : place < length segments
   pub fits : length (get_or segments place []) + length bytes ≤ SEGMENT_BYTES
   pub filled : IsFilled (set segments place (get_or segments place [] ++ bytes)) (place + 1) (items ++ item ∷ [])
 
 goes_by : (segments : List (List ℕ)) (used : ℕ) (items : List Held) (item : Held) (bytes : List ℕ) (b : Bool) → IsFilled segments used items → IsLawfulHeld item → bytes ≡ spelled (entries.Held item)
-    → segments_of (items ++ item ∷ []) ≤ length segments → fits_last segments used bytes ≡ b → Goes segments items item bytes (cond b (used - 1) used)
+    → segments_of (items ++ item ∷ []) ≤ length segments → fits_last segments used bytes ≡ b → GoesInto segments items item bytes (cond b (used - 1) used)
 goes_by segments used items item bytes true filled lawful is made e =
     let test = and_parts (ltb 0 used) (leb (length (get_or segments (used - 1) []) + length bytes) SEGMENT_BYTES) e in
     let some : 0 < used = ltb-true 0 used test.0 in
@@ -247,14 +247,14 @@ goes_by segments used items item bytes false filled lawful is made e =
     }
 
 pub goes : (segments : List (List ℕ)) (used : ℕ) (items : List Held) (item : Held) (bytes : List ℕ) (place : ℕ) → IsFilled segments used items → IsLawfulHeld item → bytes ≡ spelled (entries.Held item)
-    → segments_of (items ++ item ∷ []) ≤ length segments → place ≡ place_for segments used bytes → Goes segments items item bytes place
+    → segments_of (items ++ item ∷ []) ≤ length segments → place ≡ place_for segments used bytes → GoesInto segments items item bytes place
 goes segments used items item bytes place filled lawful is made at =
-    subst (Goes segments items item bytes) (sym at) (goes_by segments used items item bytes (fits_last segments used bytes) filled lawful is made refl)
+    subst (GoesInto segments items item bytes) (sym at) (goes_by segments used items item bytes (fits_last segments used bytes) filled lawful is made refl)
 
 -- ---- the item of an entry
 
 -- it is read back from its bytes
-pub item_is : (item : Held) (bytes : List ℕ) → IsLawfulHeld item → bytes ≡ spelled (entries.Held item) → item_in bytes ≡ item
-unfolding item_in
+pub item_is : (item : Held) (bytes : List ℕ) → IsLawfulHeld item → bytes ≡ spelled (entries.Held item) → item_read bytes ≡ item
+unfolding item_read
 item_is item bytes lawful is =
-    ap item_in is ∙ ap (λ (l : List Entry). get_or (items_of l) 0 (record { table = 0; version = 0; client = 0; seq = 0; key = []; value = None })) (cut_again (entries.Held item ∷ []) (lawful, tt))
+    ap item_read is ∙ ap (λ (l : List Entry). get_or (items_of l) 0 (record { table = 0; version = 0; client = 0; seq = 0; key = []; value = None })) (cut_again (entries.Held item ∷ []) (lawful, tt))

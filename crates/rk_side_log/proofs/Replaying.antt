@@ -20,7 +20,7 @@ use Rattle.rk_side_log.proofs.Cutting.{spelled_push}
 use Rattle.rk_side_log.proofs.Filled.{spelled_most}
 
 -- from these records and this side log on, what is left makes what all makes, and there is room for it
-pub record Goes (end : Replayed) (begin : Side) (records : List Held) (side : Side) (tally : Tally) (rest : List Held) : Type 0 where
+pub record GoesOn (end : Replayed) (begin : Side) (records : List Held) (side : Side) (tally : Tally) (rest : List Held) : Type 0 where
   pub whole : side_replayed records side.items rest ≡ end
   pub made : side.made ≡ begin.made
   pub room : segments_of (side.items ++ rest) ≤ side.made
@@ -32,7 +32,7 @@ pub record Goes (end : Replayed) (begin : Side) (records : List Held) (side : Si
 
 -- before the first item
 pub goes_first : (records : List Held) (side : Side) (items : List Held) → segments_of (side.items ++ items) ≤ side.made → All IsLawfulHeld items → length items < 2 ^ 32
-    → Goes (side_replayed records side.items items) side records side (record { items = 0; bytes = 0 }) items
+    → GoesOn (side_replayed records side.items items) side records side (record { items = 0; bytes = 0 }) items
 goes_first records side items room lawful few = record {
   whole = refl;
   made = refl;
@@ -46,9 +46,9 @@ goes_first records side items room lawful few = record {
 
 -- an item is newer
 pub goes_newer : (end : Replayed) (begin : Side) (records records' : List Held) (side side' : Side) (tally : Tally) (item : Held) (rest : List Held) (bytes : ℕ)
-    → Goes end begin records side tally (item ∷ rest) → is_newer item (found item.table item.key records) ≡ true
+    → GoesOn end begin records side tally (item ∷ rest) → is_newer item (found item.table item.key records) ≡ true
     → records' ≡ with_newer item records → side' ≡ with_last side item → bytes ≡ spelled_of item
-    → Goes end begin records' side' (record { items = tally.items + 1; bytes = tally.bytes + bytes }) rest
+    → GoesOn end begin records' side' (record { items = tally.items + 1; bytes = tally.bytes + bytes }) rest
 goes_newer end begin records records' side side' tally item rest bytes goes newer records_are side_is size =
     let item_lawful : IsLawfulHeld item = All-head IsLawfulHeld item rest goes.lawful in
     let items_are : side'.items ≡ side.items ++ item ∷ [] = ap (λ (s : Side). s.items) side_is in
@@ -74,8 +74,8 @@ goes_newer end begin records records' side side' tally item rest bytes goes newe
 
 -- an item is not
 pub goes_older : (end : Replayed) (begin : Side) (records records' : List Held) (side side' : Side) (tally : Tally) (item : Held) (rest : List Held)
-    → Goes end begin records side tally (item ∷ rest) → is_newer item (found item.table item.key records) ≡ false
-    → records' ≡ with_newer item records → side' ≡ side → Goes end begin records' side' tally rest
+    → GoesOn end begin records side tally (item ∷ rest) → is_newer item (found item.table item.key records) ≡ false
+    → records' ≡ with_newer item records → side' ≡ side → GoesOn end begin records' side' tally rest
 goes_older end begin records records' side side' tally item rest goes older records_are side_is =
     let same : records' ≡ records = records_are ∙ cond-false (is_newer item (found item.table item.key records)) _ records older in
     record {
@@ -96,7 +96,7 @@ goes_older end begin records records' side side' tally item rest goes older reco
 
 -- there is room for the next item
 pub next_room : (end : Replayed) (begin : Side) (records : List Held) (side : Side) (tally : Tally) (item : Held) (list rest : List Held)
-    → Goes end begin records side tally list → list ≡ item ∷ rest → segments_of (side.items ++ item ∷ []) ≤ side.made
+    → GoesOn end begin records side tally list → list ≡ item ∷ rest → segments_of (side.items ++ item ∷ []) ≤ side.made
 next_room end begin records side tally item list rest goes is =
     let all : segments_of (side.items ++ list) ≡ segments_of (side.items ++ item ∷ rest) = ap (λ (l : List Held). segments_of (side.items ++ l)) is in
     omega (arith, all, segments_first side.items rest item, goes.room)
@@ -111,22 +111,22 @@ answered_none false size o told none = refl
 
 -- it answers how many bytes it added
 pub goes_some : (end : Replayed) (begin : Side) (records records' : List Held) (side side' : Side) (tally : Tally) (item : Held) (list rest : List Held) (answer : Option ℕ) (bytes : ℕ)
-    → Goes end begin records side tally list → list ≡ item ∷ rest → records' ≡ with_newer item records
+    → GoesOn end begin records side tally list → list ≡ item ∷ rest → records' ≡ with_newer item records
     → side' ≡ cond (is_newer item (found item.table item.key records)) (with_last side item) side
     → answer ≡ cond (is_newer item (found item.table item.key records)) (Some (spelled_of item)) None → answer ≡ Some bytes
-    → Goes end begin records' side' (record { items = tally.items + 1; bytes = tally.bytes + bytes }) rest
+    → GoesOn end begin records' side' (record { items = tally.items + 1; bytes = tally.bytes + bytes }) rest
 goes_some end begin records records' side side' tally item list rest answer bytes goes is records_are side_is answer_is some =
     let told = answered_some (is_newer item (found item.table item.key records)) (spelled_of item) bytes answer answer_is some in
-    goes_newer end begin records records' side side' tally item rest bytes (subst (Goes end begin records side tally) is goes) told.0 records_are
+    goes_newer end begin records records' side side' tally item rest bytes (subst (GoesOn end begin records side tally) is goes) told.0 records_are
     (side_is ∙ cond-true (is_newer item (found item.table item.key records)) (with_last side item) side told.0) told.1
 
 -- it answers that it added none
 pub goes_none : (end : Replayed) (begin : Side) (records records' : List Held) (side side' : Side) (tally : Tally) (item : Held) (list rest : List Held) (answer : Option ℕ)
-    → Goes end begin records side tally list → list ≡ item ∷ rest → records' ≡ with_newer item records
+    → GoesOn end begin records side tally list → list ≡ item ∷ rest → records' ≡ with_newer item records
     → side' ≡ cond (is_newer item (found item.table item.key records)) (with_last side item) side
     → answer ≡ cond (is_newer item (found item.table item.key records)) (Some (spelled_of item)) None → ((bytes : ℕ) → answer ≡ Some bytes → ⊥)
-    → Goes end begin records' side' tally rest
+    → GoesOn end begin records' side' tally rest
 goes_none end begin records records' side side' tally item list rest answer goes is records_are side_is answer_is none =
     let older = answered_none (is_newer item (found item.table item.key records)) (spelled_of item) answer answer_is none in
-    goes_older end begin records records' side side' tally item rest (subst (Goes end begin records side tally) is goes) older records_are
+    goes_older end begin records records' side side' tally item rest (subst (GoesOn end begin records side tally) is goes) older records_are
     (side_is ∙ cond-false (is_newer item (found item.table item.key records)) (with_last side item) side older)

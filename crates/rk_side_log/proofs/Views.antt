@@ -11,9 +11,9 @@ use Rattle.rk_entry.specs.Spelling.{spelled}
 use Rattle.rk_segment.specs.Segment.{NumberedBytes, appended, overflow}
 use Rattle.rk_segment.specs.declared.segment.Full.{Full}
 use Rattle.rk_side_log.specs.Side.{Side, IsFilled, place_for, room_in, segments_of}
-use Rattle.rk_side_log.specs.Spelled.{bytes_in, items_in}
+use Rattle.rk_side_log.specs.Spelled.{bytes_in, items_read}
 use Rattle.rk_side_log.proofs.Begun.{room_is}
-use Rattle.rk_side_log.proofs.Filled.{Goes, goes}
+use Rattle.rk_side_log.proofs.Filled.{GoesInto, goes}
 
 -- the bytes of as many segments
 pub length-bytes_in : (segments : List NumberedBytes) → length (bytes_in segments) ≡ length segments
@@ -61,11 +61,11 @@ room_seen segments used size last some within is count =
 
 -- where the entry of an item goes
 pub goes_seen : (segments slice : List NumberedBytes) (used : ℕ) (side : Side) (item : Held) (bytes : List ℕ) (place : ℕ)
-    → IsFilled (bytes_in segments) used (items_in (bytes_in segments)) → record { items = items_in (bytes_in segments); made = length segments } ≡ side
+    → IsFilled (bytes_in segments) used (items_read (bytes_in segments)) → record { items = items_read (bytes_in segments); made = length segments } ≡ side
     → IsLawfulHeld item × ((bytes ≡ spelled (entries.Held item)) × (segments_of (side.items ++ item ∷ []) ≤ side.made)) → slice ≡ segments → place ≡ place_for (bytes_in slice) used bytes
-    → Goes (bytes_in segments) (items_in (bytes_in segments)) item bytes place
+    → GoesInto (bytes_in segments) (items_read (bytes_in segments)) item bytes place
 goes_seen segments slice used side item bytes place filled seen needs same at =
-    let items : segments_of (items_in (bytes_in segments) ++ item ∷ []) ≡ segments_of (side.items ++ item ∷ []) = ap (λ (s : Side). segments_of (s.items ++ item ∷ [])) seen in
+    let items : segments_of (items_read (bytes_in segments) ++ item ∷ []) ≡ segments_of (side.items ++ item ∷ []) = ap (λ (s : Side). segments_of (s.items ++ item ∷ [])) seen in
     let made : length segments ≡ side.made = ap (λ (s : Side). s.made) seen in
-    goes (bytes_in segments) used (items_in (bytes_in segments)) item bytes place filled needs.0 needs.1.0 (omega (arith, items, made, length-bytes_in segments, needs.1.1))
+    goes (bytes_in segments) used (items_read (bytes_in segments)) item bytes place filled needs.0 needs.1.0 (omega (arith, items, made, length-bytes_in segments, needs.1.1))
     (at ∙ ap (λ (l : List NumberedBytes). place_for (bytes_in l) used bytes) same)

@@ -13,5 +13,5 @@ abbrev pub made_in : List Side → ℕ
 made_in sides = sum_by (λ side. side.made) sides
 
 -- enough segments are made to put these items at the end
-abbrev pub HasRoom : List Held → Side → Type 0
-HasRoom items side = segments_of (side.items ++ items) ≤ side.made
+abbrev pub HasSegmentsFor : List Held → Side → Type 0
+HasSegmentsFor items side = segments_of (side.items ++ items) ≤ side.made

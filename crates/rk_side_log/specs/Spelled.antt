@@ -20,10 +20,10 @@ abbrev pub bytes_in : List NumberedBytes → List (List ℕ)
 bytes_in segments = map (λ segment. segment.bytes) segments
 
 -- the items that segments with these bytes spell
-abbrev pub items_in : List (List ℕ) → List Held
-items_in segments = items_of (spelled_in segments)
+abbrev pub items_read : List (List ℕ) → List Held
+items_read segments = items_of (spelled_in segments)
 
 -- the item that these bytes spell; where they spell none, one of zeros
-unfoldable pub item_in : List ℕ → Held
-item_in bytes =
-    slice_index_or (items_in (bytes ∷ [])) 0 (record { table = 0; version = 0; client = 0; seq = 0; key = []; value = None })
+unfoldable pub item_read : List ℕ → Held
+item_read bytes =
+    slice_index_or (items_read (bytes ∷ [])) 0 (record { table = 0; version = 0; client = 0; seq = 0; key = []; value = None })

@@ -6,7 +6,7 @@ ghost use Rattle.rk_entry.specs.Spelling.{spelled};
 ghost use Rattle.rk_table.specs.Items.{found, is_newer, with_newer};
 ghost use Rattle.rk_side_log.specs.Replayed.{side_replayed};
 ghost use Rattle.rk_side_log.specs.Side.{with_last};
-ghost use Rattle.rk_side_log.specs.Sides.{HasRoom};
+ghost use Rattle.rk_side_log.specs.Sides.{HasSegmentsFor};
 ghost use Rattle.rk_side_log.specs.Spelled.{spelled_items};
 
 use crate::side_log::SideLog;
@@ -32,7 +32,7 @@ pub(crate) fn replay_all<T: RecordTable>(
     requires lawful { All IsLawfulHeld items.items }
     requires few { vec_len items < 2 ^ 32 }
     requires spare { vec_len items ≤ T.spare table.old }
-    requires room { HasRoom items.items side.old }
+    requires room { HasSegmentsFor items.items side.old }
     requires spelling { LONGEST_SPELLED ≤ vec_capacity spelling.old }
     ensures records { T.items table.new ≡ (side_replayed (T.items table.old) side.old.items items.items).records }
     ensures items { side.new.items ≡ (side_replayed (T.items table.old) side.old.items items.items).items }
@@ -60,7 +60,7 @@ fn replay_one<T: RecordTable>(
 ) -> Option<u32>
     requires lawful { IsLawfulHeld item }
     requires spare { 0 < T.spare table.old }
-    requires room { HasRoom (item ∷ []) side.old }
+    requires room { HasSegmentsFor (item ∷ []) side.old }
     requires spelling { LONGEST_SPELLED ≤ vec_capacity spelling.old }
     ensures records { T.items table.new ≡ with_newer item (T.items table.old) }
     ensures side { side.new ≡ (if is_newer item (found item.table item.key (T.items table.old))

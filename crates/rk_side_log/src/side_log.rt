@@ -26,13 +26,13 @@ pub(crate) struct SideLog {
 impl Model for SideLog {
     ghost use Rattle.std.specs.Prelude.{length};
     ghost use Rattle.rk_side_log.specs.Side.{Side, IsFilled};
-    ghost use Rattle.rk_side_log.specs.Spelled.{bytes_in, items_in};
+    ghost use Rattle.rk_side_log.specs.Spelled.{bytes_in, items_read};
 
     ghost Value = { Side };
 
-    ghost view = { λ log. record { items = items_in (bytes_in log.segments.items); made = length log.segments.items } };
+    ghost view = { λ log. record { items = items_read (bytes_in log.segments.items); made = length log.segments.items } };
 
-    ghost invariant = { λ log. IsFilled (bytes_in log.segments.items) log.used (items_in (bytes_in log.segments.items)) };
+    ghost invariant = { λ log. IsFilled (bytes_in log.segments.items) log.used (items_read (bytes_in log.segments.items)) };
 }
 
 impl SideLog {

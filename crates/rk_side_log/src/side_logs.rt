@@ -4,7 +4,7 @@ ghost use Rattle.rk_entry.specs.Lawful.{IsLawfulHeld};
 ghost use Rattle.rk_world.specs.SideLogs.{sealed_sides};
 ghost use Rattle.rk_side_log.specs.Replayed.{side_replayed};
 ghost use Rattle.rk_side_log.specs.Side.{no_side};
-ghost use Rattle.rk_side_log.specs.Sides.{HasRoom, items_of_each, made_in};
+ghost use Rattle.rk_side_log.specs.Sides.{HasSegmentsFor, items_of_each, made_in};
 ghost use Rattle.rk_side_log.specs.Spelled.{bytes_in, spelled_items, unsealed_in};
 
 use crate::replay::replay_all;
@@ -69,9 +69,11 @@ impl SideLogs {
         self.bytes
     }
 
-    /// Replays items by a worker, one after the other: an item that is newer than what the table has of its key goes into
-    /// the table and the worker's side log. It answers how many items were newer. After `NoMemory` nothing has changed. A
-    /// search of the table for each item, and the time to spell it.
+    /// Replays items by a worker, one after the other: one that is newer than what the table has of its key goes into the
+    /// table and to the end of the worker's side log, and any other nowhere. It answers how many were newer. There are
+    /// fewer than 2^32 items, and fewer than 2^63 bytes in the side logs. `NoMemory` comes before the first change, and
+    /// nothing has changed after it; the memory of whole segments is taken for all that the items could begin, and kept.
+    /// It takes a search of the table for each item, and the time to spell it.
     pub fn replay<T: RecordTable>(
         &mut self,
         worker: u8,
@@ -90,6 +92,7 @@ impl SideLogs {
             length (slice_index_or self.new worker []) ≡ length (slice_index_or self.old worker []) + count) }
         ensures err { OnErr result (self.new ≡ self.old) }
         ensures err_records { OnErr result (T.items table.new ≡ T.items table.old) }
+        ensures workers { OnOk result (length self.old ≡ WORKERS) }
     {
         let worker = worker as usize;
         table.reserve(items.len())?;
@@ -107,8 +110,8 @@ impl SideLogs {
         Ok(tally.items)
     }
 
-    /// Hands out the segments that spell all items, those of the first worker first, and leaves no items. It takes no
-    /// memory, and a step for each segment.
+    /// Hands out the segments that spell all items, those of the first worker first, and leaves no items. The numbers that
+    /// they were made with say nothing. It takes no memory, and a step for each segment.
     pub fn seal(&mut self) -> Vec<Segment>
         ensures bytes { bytes_in result.items ≡ map spelled_items (sealed_sides self.old) }
         ensures empty { self.new ≡ [] ∷ [] ∷ [] ∷ [] ∷ [] }
@@ -130,7 +133,7 @@ fn make_room(
     requires worker { worker < length sides.old }
     requires none_sealed { sealed.old.items ≡ [] }
     requires made { made_in sides.old ≤ vec_capacity sealed.old }
-    ensures ok { OnOk result (HoldsAt (HasRoom items.now) sides.new worker) }
+    ensures ok { OnOk result (HoldsAt (HasSegmentsFor items.now) sides.new worker) }
     ensures items { items_of_each sides.new ≡ items_of_each sides.old }
     ensures none_sealed { sealed.new.items ≡ [] }
     ensures made { made_in sides.new ≤ vec_capacity sealed.new }

@@ -5,7 +5,7 @@ use Rattle.std.proofs.lemmas.List.{map-append, take-map}
 use Rattle.rk_segment.specs.Segment.{NumberedBytes}
 use Rattle.rk_world.specs.SideLogs.{cut_items}
 use Rattle.rk_side_log.specs.Side.{Side}
-use Rattle.rk_side_log.specs.Spelled.{bytes_in, items_in, spelled_items}
+use Rattle.rk_side_log.specs.Spelled.{bytes_in, items_read, spelled_items}
 use Rattle.rk_side_log.proofs.Cutting.{spelled_cut}
 use Rattle.rk_side_log.proofs.Filled.{take-filled}
 use Rattle.rk_side_log.proofs.side_log.SideLog.seal_into.Goals as goal
@@ -18,7 +18,7 @@ returns-clause-bytes c =
     ∙ ap (λ (l : List NumberedBytes). c.args.sealed.now.items ++ l) c.truncate.ensures.items in
     let front : bytes_in (take c.self.inside.used c.self.inside.segments.items) ≡ map spelled_items (cut_items c.args.self.now.items) =
     sym (take-map (λ (s : NumberedBytes). s.bytes) c.self.inside.used c.self.inside.segments.items)
-    ∙ take-filled bytes c.self.inside.used (items_in bytes) c.self.invariant
-    ∙ sym (spelled_cut (items_in bytes)) ∙ ap (λ (s : Side). map spelled_items (cut_items s.items)) c.self.view_is in
+    ∙ take-filled bytes c.self.inside.used (items_read bytes) c.self.invariant
+    ∙ sym (spelled_cut (items_read bytes)) ∙ ap (λ (s : Side). map spelled_items (cut_items s.items)) c.self.view_is in
     ap bytes_in moved ∙ map-append (λ (s : NumberedBytes). s.bytes) c.args.sealed.now.items (take c.self.inside.used c.self.inside.segments.items)
     ∙ ap (λ (l : List (List ℕ)). bytes_in c.args.sealed.now.items ++ l) front
