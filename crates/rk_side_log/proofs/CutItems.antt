@@ -1,0 +1,130 @@
+-- The side segments that items fill: none is empty or too long, none could have taken what begins the next, and all items stand in them.
+use Rattle.std.proofs.Common.{◌≡◌, ℕ, zero, suc, ◌+◌, ◌<◌, ◌≤◌, Bool, true, false, leb, List, [], ◌∷◌, ◌++◌, length, map, sum, get_or, fold, refl, sym, ap, subst, ◌∙◌, arith, add-one, length-append, append_assoc}
+use Rattle.std.specs.List.{All, flat_map}
+use Rattle.std.proofs.lemmas.Bool.{cond_both, leb-true, leb-false}
+use Rattle.std.proofs.lemmas.List.{append-nil}
+use Rattle.std.proofs.lemmas.List.Elements.{All-nil, All-cons, All-head, All-tail}
+use Rattle.rk_types.specs.Held.{spelled_of}
+use Rattle.rk_types.specs.declared.held.Held.{Held}
+use Rattle.rk_types.specs.declared.held.TheConstants.{SEGMENT_BYTES}
+use Rattle.rk_entry.specs.Lawful.{IsLawfulHeld}
+use Rattle.rk_entry.specs.declared.entry.Entry.TheVariants as entries
+use Rattle.rk_entry.specs.Spelling.{spelled}
+use Rattle.rk_entry.proofs.Sizes.{held_spelled}
+use Rattle.rk_world.specs.SideLogs.{with_side_item, cut_items}
+use Rattle.rk_side_log.specs.Spelled.{spelled_items}
+use Rattle.rk_side_log.proofs.Cutting.{length-spelled, spelled_push, spelled_one}
+use Rattle.rk_side_log.proofs.Filled.{spelled_most}
+
+-- whether an item fits behind others
+abbrev fits : List Held → Held → Bool
+fits items item = leb (sum (map spelled_of items) + spelled_of item) SEGMENT_BYTES
+
+-- ---- the bytes of a segment
+
+abbrev size : List Held → ℕ
+size items = length (spelled_items items)
+
+size_push : (items : List Held) (item : Held) → size (items ++ item ∷ []) ≡ size items + spelled_of item
+size_push items item =
+    ap length (spelled_push items item) ∙ length-append (spelled_items items) (spelled (entries.Held item)) ∙ ap (λ (n : ℕ). size items + n) (sym (held_spelled item))
+
+size_one : (item : Held) → size (item ∷ []) ≡ spelled_of item
+size_one item = ap length (spelled_one item) ∙ sym (held_spelled item)
+
+-- ---- what holds of each segment
+
+module _ (P : List Held → Type 0) (item : Held) (alone : P (item ∷ [])) (more : (items : List Held) → P items → fits items item ≡ true → P (items ++ item ∷ [])) where
+  -- it holds of each with one more item
+  each_with : (lists : List (List Held)) → All P lists → All P (with_side_item lists item)
+  each_with [] all = All-cons P (item ∷ []) [] alone (All-nil P)
+  each_with (items ∷ []) all =
+      cond_both (fits items item) ((items ++ item ∷ []) ∷ []) (items ∷ (item ∷ []) ∷ []) (All P)
+      (λ e. All-cons P (items ++ item ∷ []) [] (more items (All-head P items [] all) e) (All-nil P))
+      (λ e. All-cons P items ((item ∷ []) ∷ []) (All-head P items [] all) (All-cons P (item ∷ []) [] alone (All-nil P)))
+  each_with (items ∷ next ∷ others) all =
+      All-cons P items (with_side_item (next ∷ others) item) (All-head P items (next ∷ others) all) (each_with (next ∷ others) (All-tail P items (next ∷ others) all))
+
+-- none is empty
+some_after : (lists : List (List Held)) (items : List Held) → All (λ (s : List Held). 0 < length s) lists → All (λ (s : List Held). 0 < length s) (fold with_side_item lists items)
+some_after lists [] all = all
+some_after lists (x ∷ items) all =
+    some_after (with_side_item lists x) items
+    (each_with (λ (s : List Held). 0 < length s) x (omega arith) (λ s h e. omega (arith, length-append s (x ∷ []))) lists all)
+
+pub cut_some : (items : List Held) → All (λ (s : List Held). 0 < length s) (cut_items items)
+cut_some items = some_after [] items (All-nil (λ (s : List Held). 0 < length s))
+
+-- none is longer than a segment may be
+within_after : (lists : List (List Held)) (items : List Held) → All IsLawfulHeld items → All (λ (s : List Held). size s ≤ SEGMENT_BYTES) lists
+    → All (λ (s : List Held). size s ≤ SEGMENT_BYTES) (fold with_side_item lists items)
+within_after lists [] lawful all = all
+within_after lists (x ∷ items) lawful all =
+    within_after (with_side_item lists x) items (All-tail IsLawfulHeld x items lawful)
+    (each_with (λ (s : List Held). size s ≤ SEGMENT_BYTES) x (omega (arith, size_one x, spelled_most x (All-head IsLawfulHeld x items lawful)))
+    (λ s h e. omega (arith, size_push s x, length-spelled s, leb-true (sum (map spelled_of s) + spelled_of x) SEGMENT_BYTES e)) lists all)
+
+pub cut_within : (items : List Held) → All IsLawfulHeld items → All (λ (s : List Held). length (spelled_items s) ≤ SEGMENT_BYTES) (cut_items items)
+cut_within items lawful = within_after [] items lawful (All-nil (λ (s : List Held). size s ≤ SEGMENT_BYTES))
+
+-- ---- two that follow one another
+
+-- each is too long to stand in one segment with the next
+abbrev ArePacked : List (List Held) → Type 0
+ArePacked [] = Unit {0}
+ArePacked (items ∷ []) = Unit {0}
+ArePacked (items ∷ next ∷ others) = (SEGMENT_BYTES < size items + size next) × ArePacked (next ∷ others)
+
+-- an item that does not fit begins one
+begins : (items : List Held) (item : Held) → fits items item ≡ false → SEGMENT_BYTES < size items + size (item ∷ [])
+begins items item e = omega (arith, size_one item, length-spelled items, leb-false (sum (map spelled_of items) + spelled_of item) SEGMENT_BYTES e)
+
+packed_next : (items next : List Held) (others : List (List Held)) (item : Held) → ArePacked (items ∷ next ∷ others) → ArePacked (items ∷ with_side_item (next ∷ others) item)
+packed_next items next [] item packed =
+    cond_both (fits next item) ((next ++ item ∷ []) ∷ []) (next ∷ (item ∷ []) ∷ []) (λ (s : List (List Held)). ArePacked (items ∷ s))
+    (λ e. (omega (arith, packed.0, size_push next item), tt))
+    (λ e. (packed.0, (begins next item e, tt)))
+packed_next items next (third ∷ others) item packed = (packed.0, packed_next next third others item packed.1)
+
+packed_with : (lists : List (List Held)) (item : Held) → ArePacked lists → ArePacked (with_side_item lists item)
+packed_with [] item packed = tt
+packed_with (items ∷ []) item packed =
+    cond_both (fits items item) ((items ++ item ∷ []) ∷ []) (items ∷ (item ∷ []) ∷ []) ArePacked (λ e. tt) (λ e. (begins items item e, tt))
+packed_with (items ∷ next ∷ others) item packed = packed_next items next others item packed
+
+packed_after : (lists : List (List Held)) (items : List Held) → ArePacked lists → ArePacked (fold with_side_item lists items)
+packed_after lists [] packed = packed
+packed_after lists (x ∷ items) packed = packed_after (with_side_item lists x) items (packed_with lists x packed)
+
+packed_at : (lists : List (List Held)) (place : ℕ) → ArePacked lists → suc place < length lists → SEGMENT_BYTES < size (get_or lists place []) + size (get_or lists (suc place) [])
+packed_at [] place packed h = absurd (omega arith)
+packed_at (items ∷ []) place packed h = absurd (omega arith)
+packed_at (items ∷ next ∷ others) zero packed h = packed.0
+packed_at (items ∷ next ∷ others) (suc place) packed h = packed_at (next ∷ others) place packed.1 (omega arith)
+
+pub cut_packed : (items : List Held) (place : ℕ) → place + 1 < length (cut_items items)
+    → SEGMENT_BYTES < length (spelled_items (get_or (cut_items items) place [])) + length (spelled_items (get_or (cut_items items) (place + 1) []))
+cut_packed items place h =
+    subst (λ (n : ℕ). SEGMENT_BYTES < size (get_or (cut_items items) place []) + size (get_or (cut_items items) n [])) (sym (add-one place))
+    (packed_at (cut_items items) place (packed_after [] items tt) (omega arith))
+
+-- ---- all items
+
+whole_with : (lists : List (List Held)) (item : Held) → flat_map (λ (s : List Held). s) (with_side_item lists item) ≡ flat_map (λ (s : List Held). s) lists ++ item ∷ []
+whole_with [] item = refl
+whole_with (items ∷ []) item =
+    cond_both (fits items item) ((items ++ item ∷ []) ∷ []) (items ∷ (item ∷ []) ∷ []) (λ (l : List (List Held)). flat_map (λ (s : List Held). s) l ≡ (items ++ []) ++ item ∷ [])
+    (λ e. append-nil (items ++ item ∷ []) ∙ ap (λ (l : List Held). l ++ item ∷ []) (sym (append-nil items)))
+    (λ e. ap (λ (l : List Held). l ++ item ∷ []) (sym (append-nil items)))
+whole_with (items ∷ next ∷ others) item =
+    ap (λ (l : List Held). items ++ l) (whole_with (next ∷ others) item)
+    ∙ sym (append_assoc items (flat_map (λ (s : List Held). s) (next ∷ others)) (item ∷ []))
+
+whole_after : (lists : List (List Held)) (items : List Held) → flat_map (λ (s : List Held). s) (fold with_side_item lists items) ≡ flat_map (λ (s : List Held). s) lists ++ items
+whole_after lists [] = sym (append-nil (flat_map (λ (s : List Held). s) lists))
+whole_after lists (x ∷ items) =
+    whole_after (with_side_item lists x) items ∙ ap (λ (l : List Held). l ++ items) (whole_with lists x)
+    ∙ append_assoc (flat_map (λ (s : List Held). s) lists) (x ∷ []) items
+
+pub cut_whole : (items : List Held) → flat_map (λ (s : List Held). s) (cut_items items) ≡ items
+cut_whole items = whole_after [] items

@@ -1,0 +1,9 @@
+pub mod Cutting
+pub mod Filled
+pub mod Begun
+pub mod Views
+pub mod Replaying
+pub mod Sides
+pub mod Sealing
+pub mod CutItems
+pub mod Masters

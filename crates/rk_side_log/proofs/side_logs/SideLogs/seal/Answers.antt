@@ -1,0 +1,20 @@
+use Rattle.std.proofs.Common.{◌≡◌, ◌∙◌, ℕ, List, Vec, length, replicate, sym, ap, arith}
+use Rattle.std.specs.Global.{Global}
+use Rattle.rk_segment.specs.Segment.{NumberedBytes}
+use Rattle.rk_side_log.specs.Side.{Side, no_side}
+use Rattle.rk_side_log.specs.Sides.{items_of_each, made_in}
+use Rattle.rk_side_log.specs.Spelled.{unsealed_in}
+use Rattle.rk_side_log.proofs.Sealing.{made_none, unsealed_no_sides}
+use Rattle.rk_side_log.proofs.side_logs.SideLogs.seal.Goals as goal
+
+pub invariant_of-self : goal.invariant_of-self
+invariant_of-self c = record {
+  bytes_are = sym (ap (λ (l : List Side). unsealed_in (items_of_each l)) c.seal_all.ensures.empty ∙ unsealed_no_sides (length c.self.inside.workers));
+  none_sealed = ap (λ (v : Vec NumberedBytes Global). v.items) c.replace.ensures.after ∙ c.new.ensures.items;
+  room = omega (arith, ap made_in c.seal_all.ensures.empty, made_none (length c.self.inside.workers));
+}
+
+pub returns-clause-empty : goal.returns-clause-empty
+returns-clause-empty c =
+    let four : length c.self.inside.workers ≡ 4 = omega arith in
+    ap items_of_each c.seal_all.ensures.empty ∙ ap (λ (n : ℕ). items_of_each (replicate n no_side)) four
