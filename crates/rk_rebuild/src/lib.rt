@@ -1,0 +1,6 @@
+//! How a master that rebuilds a tablet gathers what the logs of a lineage hold, and merges it.
+//!
+//! It stands on `rk_world`, whose definitions say what is read next, what counts, and what is merged.
+#![tactic(auto)]
+
+mod floor;
