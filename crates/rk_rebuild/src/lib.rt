@@ -3,4 +3,5 @@
 //! It stands on `rk_world`, whose definitions say what is read next, what counts, and what is merged.
 #![tactic(auto)]
 
+mod ends;
 mod floor;
