@@ -3,5 +3,6 @@
 //! It stands on `rk_world`, whose definitions say what is read next, what counts, and what is merged.
 #![tactic(auto)]
 
+mod copies;
 mod ends;
 mod floor;
