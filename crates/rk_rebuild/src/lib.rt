@@ -6,3 +6,4 @@
 mod copies;
 mod ends;
 mod floor;
+mod material;
