@@ -2,3 +2,4 @@ pub mod Lent
 pub mod Told
 pub mod Versions
 pub mod Numbers
+pub mod Logs

@@ -7,3 +7,4 @@ mod copies;
 mod ends;
 mod floor;
 mod material;
+mod member;
