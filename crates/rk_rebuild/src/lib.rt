@@ -8,3 +8,4 @@ mod ends;
 mod floor;
 mod material;
 mod member;
+mod reading;
