@@ -7,7 +7,7 @@ use Rattle.std.proofs.lemmas.List.Elements.{All-from_recursion}
 use Rattle.rk_types.specs.declared.lineage.Member.{Member}
 use Rattle.rk_types.specs.declared.range.Range.{Range}
 use Rattle.rk_world.specs.declared.work.Reading.{Reading}
-use Rattle.rk_world.specs.Gather.{Gathered, next_of, next_segment, reading_of}
+use Rattle.rk_world.specs.Gather.{Gathered, unread, next_of, next_segment, reading_of}
 use Rattle.rk_rebuild.specs.declared.member.ReadLog.{ReadLog}
 use Rattle.rk_rebuild.specs.declared.member.Reader.{Reader}
 use Rattle.rk_rebuild.specs.Logs.{is_by, log_of, gathered_of, gathered_at, members_of, KnowsNamed, IsShort}
@@ -63,3 +63,10 @@ next_behind range logs readers i reader within is next =
     let here : Gathered = gathered_at logs reader.member in
     members_from range logs readers i reader within is
     ∙ ap (λ (o : Option ℕ). option_or (option_map (reading_of here) o) (next_of range (members_of logs (drop (i + 1) readers)))) (sym next)
+
+-- ---- nothing was read
+
+-- where nothing was read of any master, nothing was of any member
+pub members_unread : (readers : List Reader) → members_of [] readers ≡ map unread (map (λ reader. reader.member) readers)
+members_unread [] = refl
+members_unread (reader ∷ readers) = ap (λ rest. unread reader.member ∷ rest) (members_unread readers)

@@ -3,3 +3,5 @@ pub mod Told
 pub mod Versions
 pub mod Numbers
 pub mod Logs
+pub mod Gathering
+pub mod Counted

@@ -6,6 +6,8 @@
 mod copies;
 mod ends;
 mod floor;
+mod gather;
 mod material;
 mod member;
+mod merging;
 mod reading;
