@@ -1,5 +1,5 @@
 -- What is read next, as the code looks for it, and what a change of one log leaves of the others.
-use Rattle.std.proofs.Common.{◌≡◌, ℕ, ◌+◌, ◌<◌, ◌≤◌, Bool, true, false, cond, eqb, List, [], ◌∷◌, ◌++◌, map, drop, set, length, get_or, Option, Some, None, refl, sym, ap, ◌∙◌, subst, ⊎_elim, arith}
+use Rattle.std.proofs.Common.{◌≡◌, ℕ, ◌+◌, ◌<◌, Bool, true, false, cond, List, [], ◌∷◌, map, drop, length, get_or, Option, Some, None, refl, sym, ap, ◌∙◌, subst}
 use Rattle.std.specs.List.{AllByRecursion, find}
 use Rattle.std.specs.Option.{option_map, option_or}
 use Rattle.std.proofs.lemmas.List.{at_drop_more}
@@ -10,7 +10,7 @@ use Rattle.rk_world.specs.declared.work.Reading.{Reading}
 use Rattle.rk_world.specs.Gather.{Gathered, unread, next_of, next_segment, reading_of}
 use Rattle.rk_rebuild.specs.declared.member.ReadLog.{ReadLog}
 use Rattle.rk_rebuild.specs.declared.member.Reader.{Reader}
-use Rattle.rk_rebuild.specs.Logs.{is_by, log_of, gathered_of, gathered_at, members_of, KnowsNamed, IsShort}
+use Rattle.rk_rebuild.specs.Logs.{is_by, log_of, gathered_of, gathered_at, members_of, IsShort}
 
 -- what holds of each in a list holds of one that is found there
 found_has : {X : Type 0} (P : X → Type 0) (test : X → Bool) (xs : List X) (x : X) → AllByRecursion P xs → find test xs ≡ Some x → P x

@@ -25,11 +25,7 @@ type Versions<'a> = BTreeSet<(u64, &'a Key, u64)>;
 /// The newest item of each key among all these entries, in order of version, except those of which an own entry is an
 /// item of that key and version. A tombstone counts like any other item. A search for each entry, and what is copied
 /// takes a sort; the keys and values of the result alone are copied.
-pub(crate) fn copies_of(
-    alloc: Global,
-    own: &[Entry],
-    all: &[&Entry],
-) -> Result<Vec<Held>, NoMemory>
+pub(crate) fn copies_of(alloc: Global, own: &[Entry], all: &[&Entry]) -> Result<Vec<Held>, NoMemory>
     ensures { IfOk result (λ copies. copies.items ≡ copies_of_lem (items_of own.now) (items_of (lent all.now))) }
 {
     let mut newest = BTreeMap::new(alloc);

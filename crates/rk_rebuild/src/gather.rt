@@ -70,12 +70,7 @@ impl Gather {
     /// is read next: then nothing changes. After `NoMemory` nothing has changed; it comes too where a log has 2^31 main
     /// segments. A step for each entry of the segment; for each entry of the log where its main segments are passed by
     /// this; and what [`Gather::next`] takes.
-    pub fn take(
-        &mut self,
-        master: u8,
-        segment: u32,
-        bytes: Option<&[u8]>,
-    ) -> Result<bool, NoMemory>
+    pub fn take(&mut self, master: u8, segment: u32, bytes: Option<&[u8]>) -> Result<bool, NoMemory>
         ensures awaited { IfOk result (λ taken. taken ≡ gathers.is_awaited (gathers.next_reading self.old) master segment) }
         ensures taken { IfOk result (λ taken. OnTrue taken
             (self.new ≡ gathers.gathering self.old master segment (option_map (λ b. b.now) bytes.entry))) }

@@ -13,7 +13,7 @@ use std::alloc::Global;
 
 /// What was read of the log of a master: its main segments, whether the last one was passed, and its side segments.
 #[derive(Drop)]
-pub struct ReadLog {
+pub(crate) struct ReadLog {
     pub master: u8,
     pub main: Listed<Listed<Entry>>,
     pub main_read: bool,
@@ -23,7 +23,7 @@ pub struct ReadLog {
 /// A member of a lineage, with the side segments that its entries name, each once. These are known once the last main
 /// segment of its master was passed.
 #[derive(Drop)]
-pub struct Reader {
+pub(crate) struct Reader {
     pub member: Member,
     pub named: Listed<u32>,
 }

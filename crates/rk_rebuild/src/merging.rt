@@ -91,7 +91,12 @@ fn counted_at<'a>(
         return Ok(Vec::new(alloc));
     };
     let entries = lend_all(alloc, log.main.as_slice())?;
-    material(alloc, range, behind(entries.as_slice(), member.from), &log.sides)
+    material(
+        alloc,
+        range,
+        behind(entries.as_slice(), member.from),
+        &log.sides,
+    )
 }
 
 /// What counts for a range of the members with a master. A step for each entry of the master's log, and a look at each

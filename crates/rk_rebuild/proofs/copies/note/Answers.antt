@@ -1,5 +1,4 @@
-use Rattle.std.proofs.Common.{List, ◌++◌, sym, ap, subst}
-use Rattle.rk_types.specs.declared.held.Held.{Held}
+use Rattle.std.proofs.Common.{◌++◌, sym, subst}
 use Rattle.rk_entry.specs.declared.entry.Entry.{Entry}
 use Rattle.rk_world.specs.Ends.{items_in}
 use Rattle.rk_rebuild.specs.Versions.{HasVersions}

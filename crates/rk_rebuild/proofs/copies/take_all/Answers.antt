@@ -1,6 +1,5 @@
-use Rattle.std.proofs.Common.{List, take, sym, ap, ◌∙◌, subst}
-use Rattle.rk_types.specs.declared.held.Held.{Held}
-use Rattle.rk_overlay.specs.Newest.{Found, newest_from}
+use Rattle.std.proofs.Common.{take, sym, ap, ◌∙◌, subst}
+use Rattle.rk_overlay.specs.Newest.{newest_from}
 use Rattle.rk_overlay.specs.Lent.{IsTreeOf}
 use Rattle.rk_overlay.proofs.Folds.{newest_from-append}
 use Rattle.rk_world.specs.Ends.{items_in, items_of}

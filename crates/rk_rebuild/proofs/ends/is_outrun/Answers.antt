@@ -1,5 +1,4 @@
-use Rattle.std.proofs.Common.{Option, sym, ap, ◌∙◌}
-use Rattle.std.specs.Option.{option_copied}
+use Rattle.std.proofs.Common.{Option, ap, ◌∙◌}
 use Rattle.rk_done.specs.declared.completion.Completion.{Completion}
 use Rattle.rk_types.specs.NumberMap.{get}
 use Rattle.rk_rebuild.proofs.Placing.{outruns, outrun_told}

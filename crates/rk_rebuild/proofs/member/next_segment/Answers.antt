@@ -1,5 +1,4 @@
-use Rattle.std.proofs.Common.{◌≡◌, ◌<◌, List, length, sym, ap, ◌∙◌, rules, arith}
-use Rattle.rk_entry.specs.declared.entry.Entry.{Entry}
+use Rattle.std.proofs.Common.{◌≡◌, ◌<◌, length, sym, ap, arith}
 use Rattle.rk_rebuild.proofs.Logs.{short_found}
 use Rattle.rk_rebuild.proofs.member.next_segment.Goals as goal
 

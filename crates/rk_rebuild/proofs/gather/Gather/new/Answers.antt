@@ -1,4 +1,4 @@
-use Rattle.std.proofs.Common.{◌≡◌, [], List, map, not, eqb, ap, ◌∙◌}
+use Rattle.std.proofs.Common.{◌≡◌, List, map, not, eqb, ap, ◌∙◌}
 use Rattle.std.specs.Prelude.{filter}
 use Rattle.rk_types.specs.declared.lineage.Member.{Member}
 use Rattle.rk_world.specs.Gather.{Gathered, unread, gather_begun}
