@@ -1,0 +1,338 @@
+-- What a segment that was read changes: of its master's log, of what was read of each member, and of what readers know.
+use Rattle.std.proofs.Common.{◌≡◌, ℕ, ◌+◌, ◌<◌, Bool, true, false, cond, eqb, List, [], ◌∷◌, ◌++◌, map, drop, set, zero, suc, length, get_or, Option, Some, None, Result, Ok, Err, refl, sym, ap, ◌∙◌, subst, arith, length-append}
+use Rattle.std.specs.Prelude.{OnOk, OnErr}
+use Rattle.std.specs.List.{AllByRecursion, find, flat_map, position_or_len, slice_get}
+use Rattle.std.proofs.lemmas.Bool.{eqb-true, eq-eqb, ne_eqb, false≢true}
+use Rattle.std.proofs.lemmas.List.{set-get_or}
+use Rattle.std.proofs.lemmas.List.Folds.{find_at, find-set}
+use Rattle.std.proofs.lemmas.List.Sums.{passes_at_first}
+use Rattle.std.proofs.lemmas.Option.{slice_get-get_or}
+use Rattle.rk_types.specs.NumberMap.{insert}
+use Rattle.rk_types.specs.declared.lineage.Member.{Member}
+use Rattle.rk_types.specs.declared.range.Range.{Range}
+use Rattle.rk_outside.specs.Segments.{bytes_of}
+use Rattle.rk_entry.specs.Entries.{entries_of}
+use Rattle.rk_entry.specs.declared.entry.Entry.{Entry}
+use Rattle.rk_world.specs.Material.{named}
+use Rattle.rk_world.specs.Gather.{Gathered, main_entries, with_main, with_segment, with_read, LAST_MAIN_SEGMENT}
+use Rattle.rk_rebuild.specs.declared.member.ReadLog.{ReadLog}
+use Rattle.rk_rebuild.specs.declared.member.Reader.{Reader}
+use Rattle.rk_rebuild.specs.Logs.{is_by, log_of, gathered_of, gathered_at, members_of, KnowsNamed, IsShort, IsGathered, passed}
+use Rattle.rk_rebuild.proofs.Logs.{gathered_member, stands_has}
+
+-- ---- logs
+
+-- the log of a master stands at this place, the first one that does
+pub record StandsAt (logs : List ReadLog) (place master : ℕ) (log : ReadLog) : Type 0 where
+  pub place_is : place ≡ position_or_len (is_by master) logs
+  pub within : place < length logs
+  pub log_is : log ≡ get_or logs place log
+
+-- it is the one that is found
+log_found : (logs : List ReadLog) (place master : ℕ) (log : ReadLog) → StandsAt logs place master log → log_of logs master ≡ Some log
+log_found logs place master log at =
+    find_at (is_by master) logs
+    ∙ ap (λ (i : ℕ). slice_get logs i) (sym at.place_is)
+    ∙ slice_get-get_or logs place log at.within
+    ∙ ap Some (sym at.log_is)
+
+-- and it is that master's
+pub log_master : (logs : List ReadLog) (place master : ℕ) (log : ReadLog) → StandsAt logs place master log → log.master ≡ master
+log_master logs place master log at =
+    let first : position_or_len (is_by master) logs < length logs = subst (λ (i : ℕ). i < length logs) at.place_is at.within in
+    let same : get_or logs (position_or_len (is_by master) logs) log ≡ log = ap (λ (i : ℕ). get_or logs i log) (sym at.place_is) ∙ sym at.log_is in
+    eqb-true log.master master (ap (is_by master) (sym same) ∙ passes_at_first (is_by master) logs log first)
+
+-- what is found by another test stays where neither the old nor the new one passes it
+find_other : {X : Type 0} (p : X → Bool) (xs : List X) (i : ℕ) (new d : X) → p (get_or xs i d) ≡ false → p new ≡ false → find p (set xs i new) ≡ find p xs
+find_other p [] i new d old_fails new_fails = refl
+find_other p (x ∷ xs) zero new d old_fails new_fails =
+    ap (λ (b : Bool). cond b (Some new) (find p xs)) new_fails ∙ sym (ap (λ (b : Bool). cond b (Some x) (find p xs)) old_fails)
+find_other p (x ∷ xs) (suc i) new d old_fails new_fails = ap (λ o. cond (p x) (Some x) o) (find_other p xs i new d old_fails new_fails)
+
+-- ---- what was read of a member, once the log of a master was changed
+
+same_gathered : (logs : List ReadLog) (place master : ℕ) (old new : ReadLog) → StandsAt logs place master old → new.master ≡ master
+    → (member : Member) → eqb member.master master ≡ true → gathered_at (set logs place new) member ≡ gathered_of (Some new) member
+same_gathered logs place master old new at new_master member own =
+    ap (λ (log : Option ReadLog). gathered_of log member)
+    (ap (log_of (set logs place new)) (eqb-true member.master master own)
+    ∙ find-set (is_by master) logs place new at.place_is at.within (eq-eqb new.master master new_master))
+
+other_gathered : (logs : List ReadLog) (place master : ℕ) (old new : ReadLog) → StandsAt logs place master old → new.master ≡ master
+    → (member : Member) → eqb member.master master ≡ false → gathered_at (set logs place new) member ≡ gathered_at logs member
+other_gathered logs place master old new at new_master member other =
+    let apart : (x : ReadLog) → x.master ≡ master → is_by member.master x ≡ false = λ x is.
+    ne_eqb x.master member.master (λ same. false≢true (sym other ∙ eq-eqb member.master master (sym same ∙ is))) in
+    ap (λ (log : Option ReadLog). gathered_of log member)
+    (find_other (is_by member.master) logs place new old
+    (ap (is_by member.master) (sym at.log_is) ∙ apart old (log_master logs place master old at)) (apart new new_master))
+
+-- what was read of a member of the master before
+old_gathered : (logs : List ReadLog) (place master : ℕ) (old : ReadLog) → StandsAt logs place master old
+    → (member : Member) → eqb member.master master ≡ true → gathered_at logs member ≡ gathered_of (Some old) member
+old_gathered logs place master old at member own =
+    ap (λ (log : Option ReadLog). gathered_of log member)
+    (ap (log_of logs) (eqb-true member.master master own) ∙ log_found logs place master old at)
+
+-- what was read of each member once a segment of the master was read
+pub members_read : (before logs : List ReadLog) (place master : ℕ) (old new : ReadLog) (segment : ℕ) (bytes : Option (List ℕ))
+    → ((member : Member) → gathered_at logs member ≡ gathered_at before member)
+    → StandsAt logs place master old → new.master ≡ master
+    → ((member : Member) → gathered_of (Some new) member ≡ with_segment (gathered_of (Some old) member) segment bytes)
+    → (readers : List Reader) → members_of (set logs place new) readers ≡ with_read (members_of before readers) master segment bytes
+members_read before logs place master old new segment bytes same at new_master reads [] = refl
+members_read before logs place master old new segment bytes same at new_master reads (reader ∷ readers) =
+    let rest = members_read before logs place master old new segment bytes same at new_master reads readers in
+    λ i. one (eqb reader.member.master master) refl i ∷ rest i
+  where
+    member : Member
+    member = reader.member
+
+    was : Gathered
+    was = gathered_at before member
+
+    its : was.member.master ≡ member.master
+    its = ap (λ (m : Member). m.master) (gathered_member (log_of before member.master) member)
+
+    one : (own : Bool) → eqb member.master master ≡ own
+        → gathered_at (set logs place new) member ≡ cond (eqb was.member.master master) (with_segment was segment bytes) was
+    one true own =
+        same_gathered logs place master old new at new_master member own
+        ∙ reads member
+        ∙ ap (λ (g : Gathered). with_segment g segment bytes) (sym (old_gathered logs place master old at member own) ∙ same member)
+        ∙ sym (ap (λ (b : Bool). cond b (with_segment was segment bytes) was) (ap (λ (m : ℕ). eqb m master) its ∙ own))
+    one false other =
+        other_gathered logs place master old new at new_master member other ∙ same member
+        ∙ sym (ap (λ (b : Bool). cond b (with_segment was segment bytes) was) (ap (λ (m : ℕ). eqb m master) its ∙ other))
+
+-- where nothing changed
+pub members_same : (before logs : List ReadLog) → ((member : Member) → gathered_at logs member ≡ gathered_at before member)
+    → (readers : List Reader) → members_of logs readers ≡ members_of before readers
+members_same before logs same [] = refl
+members_same before logs same (reader ∷ readers) = λ i. same reader.member i ∷ members_same before logs same readers i
+
+-- readers of the same members
+pub members_passed : (range : Range) (log : ReadLog) (logs : List ReadLog) (readers : List Reader) → members_of logs (map (passed range log) readers) ≡ members_of logs readers
+members_passed range log logs [] = refl
+members_passed range log logs (reader ∷ readers) =
+    λ i. gathered_at logs (one (eqb reader.member.master log.master) i) ∷ members_passed range log logs readers i
+  where
+    now : Reader
+    now = record reader { named = named range (drop reader.member.from (flat_map (λ entries. entries) log.main)) }
+
+    one : (b : Bool) → (cond b now reader).member ≡ reader.member
+    one true = refl
+    one false = refl
+
+-- ---- the segments
+
+-- a side segment was read
+pub side_reads : (old : ReadLog) (segment : ℕ) (bytes : Option (List ℕ)) → old.main_read ≡ true → (member : Member)
+    → gathered_of (Some (record old { sides = insert old.sides segment (entries_of (bytes_of bytes)) })) member
+    ≡ with_segment (gathered_of (Some old) member) segment bytes
+side_reads old segment bytes is member =
+    let g : Gathered = gathered_of (Some old) member in
+    sym (ap (λ (b : Bool). cond b (record g { sides = insert g.sides segment (entries_of (bytes_of bytes)) }) (with_main g bytes)) is)
+
+-- a main segment was read
+pub main_reads : (old : ReadLog) (segment : ℕ) (bytes : List ℕ) → old.main_read ≡ false → length old.main + 1 < LAST_MAIN_SEGMENT → (member : Member)
+    → gathered_of (Some (record old { main = old.main ++ entries_of bytes ∷ [] })) member
+    ≡ with_segment (gathered_of (Some old) member) segment (Some bytes)
+main_reads old segment bytes is short member =
+    let g : Gathered = gathered_of (Some old) member in
+    let not_last : eqb (length old.main + 1) LAST_MAIN_SEGMENT ≡ false = ne_eqb (length old.main + 1) LAST_MAIN_SEGMENT (λ same. absurd (omega arith)) in
+    (λ i. record g { main = old.main ++ entries_of bytes ∷ []; main_read = (is ∙ sym not_last) i })
+    ∙ sym (ap (λ (b : Bool). cond b (record g { sides = insert g.sides segment (entries_of bytes) }) (with_main g (Some bytes))) is)
+
+-- the main segments are passed
+pub pass_reads : (old : ReadLog) (segment : ℕ) → old.main_read ≡ false → (member : Member)
+    → gathered_of (Some (record old { main_read = true })) member ≡ with_segment (gathered_of (Some old) member) segment None
+pass_reads old segment is member =
+    let g : Gathered = gathered_of (Some old) member in
+    sym (ap (λ (b : Bool). cond b (record g { sides = insert g.sides segment (entries_of []) }) (with_main g None)) is)
+
+-- ---- what readers know
+
+-- what holds of each, where it follows
+all_weaker : {X : Type 0} (P Q : X → Type 0) → ((x : X) → P x → Q x) → (xs : List X) → AllByRecursion P xs → AllByRecursion Q xs
+all_weaker P Q gives [] all = tt
+all_weaker P Q gives (x ∷ xs) all = (gives x all.0, all_weaker P Q gives xs all.1)
+
+all_mapped : {X Y : Type 0} (P : X → Type 0) (Q : Y → Type 0) (f : X → Y) → ((x : X) → P x → Q (f x)) → (xs : List X) → AllByRecursion P xs → AllByRecursion Q (map f xs)
+all_mapped P Q f gives [] all = tt
+all_mapped P Q f gives (x ∷ xs) all = (gives x all.0, all_mapped P Q f gives xs all.1)
+
+all_set : {X : Type 0} (P : X → Type 0) (xs : List X) (i : ℕ) (new : X) → P new → AllByRecursion P xs → AllByRecursion P (set xs i new)
+all_set P [] i new has all = tt
+all_set P (x ∷ xs) zero new has all = (has, all.1)
+all_set P (x ∷ xs) (suc i) new has all = (all.0, all_set P xs i new has all.1)
+
+-- what is known stays where what was read stays
+pub knows_same : (range : Range) (before logs : List ReadLog) → ((member : Member) → gathered_at logs member ≡ gathered_at before member)
+    → (readers : List Reader) → AllByRecursion (KnowsNamed range before) readers → AllByRecursion (KnowsNamed range logs) readers
+knows_same range before logs same readers all =
+    all_weaker (KnowsNamed range before) (KnowsNamed range logs)
+    (λ reader knows. subst (λ (g : Gathered). g.main_read ≡ true → reader.named ≡ named range (main_entries g)) (sym (same reader.member)) knows)
+    readers all
+
+pub gathered_same : (range : Range) (before logs : List ReadLog) (readers : List Reader) → ((member : Member) → gathered_at logs member ≡ gathered_at before member)
+    → AllByRecursion IsShort logs → IsGathered range before readers → IsGathered range logs readers
+gathered_same range before logs readers same short was = record {
+  short = short;
+  named = knows_same range before logs same readers was.named;
+}
+
+-- a reader knows what is named once the log of a master was changed
+knows_set : (range : Range) (logs : List ReadLog) (place master : ℕ) (old new : ReadLog) → StandsAt logs place master old → new.master ≡ master
+    → (reader now : Reader) → now.member ≡ reader.member
+    → (eqb reader.member.master master ≡ true → KnowsNamed range logs reader → new.main_read ≡ true → now.named ≡ named range (main_entries (gathered_of (Some new) reader.member)))
+    → (eqb reader.member.master master ≡ false → now.named ≡ reader.named)
+    → KnowsNamed range logs reader → KnowsNamed range (set logs place new) now
+knows_set range logs place master old new at new_master reader now same_member if_own if_other knows =
+    subst (λ (m : Member). (gathered_at (set logs place new) m).main_read ≡ true → now.named ≡ named range (main_entries (gathered_at (set logs place new) m))) (sym same_member)
+    (go (eqb member.master master) refl)
+  where
+    member : Member
+    member = reader.member
+
+    go : (own : Bool) → eqb member.master master ≡ own → (gathered_at (set logs place new) member).main_read ≡ true → now.named ≡ named range (main_entries (gathered_at (set logs place new) member))
+    go true own =
+        subst (λ (g : Gathered). g.main_read ≡ true → now.named ≡ named range (main_entries g))
+        (sym (same_gathered logs place master old new at new_master member own)) (if_own own knows)
+    go false other =
+        subst (λ (g : Gathered). g.main_read ≡ true → now.named ≡ named range (main_entries g))
+        (sym (other_gathered logs place master old new at new_master member other))
+        (λ is. if_other other ∙ knows is)
+
+-- after a side segment
+pub gathered_side : (range : Range) (logs : List ReadLog) (place master : ℕ) (old new : ReadLog) (readers : List Reader) → StandsAt logs place master old
+    → new.master ≡ old.master → new.main ≡ old.main → old.main_read ≡ true → IsGathered range logs readers → IsGathered range (set logs place new) readers
+gathered_side range logs place master old new readers at same_master same_main old_read was = record {
+  short = all_set IsShort logs place new
+      (subst (λ (segments : List (List Entry)). length segments < LAST_MAIN_SEGMENT) (sym same_main) (stands_has IsShort logs place old was.short at.within at.log_is)) was.short;
+  named = all_weaker (KnowsNamed range logs) (KnowsNamed range (set logs place new))
+      (λ reader. knows_set range logs place master old new at (same_master ∙ log_master logs place master old at) reader reader refl
+      (λ own knows is.
+      subst (λ (g : Gathered). g.main_read ≡ true → reader.named ≡ named range (main_entries g)) (old_gathered logs place master old at reader.member own) knows old_read
+      ∙ ap (λ (segments : List (List Entry)). named range (drop reader.member.from (flat_map (λ entries. entries) segments))) (sym same_main))
+      (λ other. refl))
+      readers was.named;
+}
+
+-- after a main segment
+pub gathered_main : (range : Range) (logs : List ReadLog) (place master : ℕ) (old new : ReadLog) (readers : List Reader) → StandsAt logs place master old
+    → new.master ≡ old.master → new.main_read ≡ false → IsShort new → IsGathered range logs readers → IsGathered range (set logs place new) readers
+gathered_main range logs place master old new readers at same_master not_read short was = record {
+  short = all_set IsShort logs place new short was.short;
+  named = all_weaker (KnowsNamed range logs) (KnowsNamed range (set logs place new))
+      (λ reader. knows_set range logs place master old new at (same_master ∙ log_master logs place master old at) reader reader refl
+      (λ own knows is. absurd (false≢true (sym not_read ∙ is)))
+      (λ other. refl))
+      readers was.named;
+}
+
+-- after the main segments were passed
+pub gathered_pass : (range : Range) (logs : List ReadLog) (place master : ℕ) (old new : ReadLog) (readers : List Reader) → StandsAt logs place master old
+    → new.master ≡ old.master → new.main ≡ old.main → IsGathered range logs readers → IsGathered range (set logs place new) (map (passed range old) readers)
+gathered_pass range logs place master old new readers at same_master same_main was = record {
+  short = all_set IsShort logs place new
+      (subst (λ (segments : List (List Entry)). length segments < LAST_MAIN_SEGMENT) (sym same_main) (stands_has IsShort logs place old was.short at.within at.log_is)) was.short;
+  named = all_mapped (KnowsNamed range logs) (KnowsNamed range (set logs place new)) (passed range old)
+      (λ reader. knows_set range logs place master old new at (same_master ∙ log_master logs place master old at) reader (passed range old reader) (member_is reader)
+      (λ own knows is. named_own reader (ap (eqb reader.member.master) (log_master logs place master old at) ∙ own))
+      (λ other. named_other reader (ap (eqb reader.member.master) (log_master logs place master old at) ∙ other)))
+      readers was.named;
+}
+  where
+    now : Reader → Reader
+    now reader = record reader { named = named range (drop reader.member.from (flat_map (λ entries. entries) old.main)) }
+
+    member_is : (reader : Reader) → (passed range old reader).member ≡ reader.member
+    member_is reader = go (eqb reader.member.master old.master)
+      where
+        go : (b : Bool) → (cond b (now reader) reader).member ≡ reader.member
+        go true = refl
+        go false = refl
+
+    named_own : (reader : Reader) → eqb reader.member.master old.master ≡ true → (passed range old reader).named ≡ named range (main_entries (gathered_of (Some new) reader.member))
+    named_own reader own =
+        ap (λ (b : Bool). (cond b (now reader) reader).named) own
+        ∙ ap (λ (segments : List (List Entry)). named range (drop reader.member.from (flat_map (λ entries. entries) segments))) (sym same_main)
+
+    named_other : (reader : Reader) → eqb reader.member.master old.master ≡ false → (passed range old reader).named ≡ reader.named
+    named_other reader other = ap (λ (b : Bool). (cond b (now reader) reader).named) other
+
+-- ---- a log of which nothing was read
+
+-- what is found with one more log
+find_pushed : {X : Type 0} (p : X → Bool) (xs : List X) (x : X) → find p xs ≡ None → find p (xs ++ x ∷ []) ≡ cond (p x) (Some x) None
+find_pushed p [] x none = refl
+find_pushed {X} p (y ∷ xs) x none = go (p y) none (find_pushed p xs x)
+  where
+    go : (b : Bool) → cond b (Some y) (find p xs) ≡ None → (find p xs ≡ None → find p (xs ++ x ∷ []) ≡ cond (p x) (Some x) None)
+        → cond b (Some y) (find p (xs ++ x ∷ [])) ≡ cond (p x) (Some x) None
+    go true here rest = absurd (cc here)
+    go false behind rest = rest behind
+
+find_before : {X : Type 0} (p : X → Bool) (xs : List X) (x y : X) → find p xs ≡ Some y → find p (xs ++ x ∷ []) ≡ Some y
+find_before p [] x y found = absurd (cc found)
+find_before {X} p (z ∷ xs) x y found = go (p z) found (find_before p xs x y)
+  where
+    go : (b : Bool) → cond b (Some z) (find p xs) ≡ Some y → (find p xs ≡ Some y → find p (xs ++ x ∷ []) ≡ Some y)
+        → cond b (Some z) (find p (xs ++ x ∷ [])) ≡ Some y
+    go true here rest = here
+    go false behind rest = rest behind
+
+-- a log of which nothing was read tells nothing
+pub opened_same : (logs : List ReadLog) (new : ReadLog) → new.main ≡ [] → new.main_read ≡ false → new.sides ≡ [] → (member : Member)
+    → gathered_at (logs ++ new ∷ []) member ≡ gathered_at logs member
+opened_same logs new no_main not_read no_sides member = go (log_of logs member.master) refl
+  where
+    unread_is : (b : Bool) → gathered_of (cond b (Some new) None) member ≡ gathered_of None member
+    unread_is true = λ i. record { member = member; main = no_main i; main_read = not_read i; sides = no_sides i }
+    unread_is false = refl
+
+    go : (log : Option ReadLog) → log_of logs member.master ≡ log → gathered_of (log_of (logs ++ new ∷ []) member.master) member ≡ gathered_of (log_of logs member.master) member
+    go None none =
+        ap (λ (o : Option ReadLog). gathered_of o member) (find_pushed (is_by member.master) logs new none)
+        ∙ unread_is (is_by member.master new)
+        ∙ ap (λ (o : Option ReadLog). gathered_of o member) (sym none)
+    go (Some log) some =
+        ap (λ (o : Option ReadLog). gathered_of o member) (find_before (is_by member.master) logs new log some ∙ sym some)
+
+-- a log with one more main segment is short
+pub short_main : (old new : ReadLog) (entries : List Entry) → new.main ≡ old.main ++ entries ∷ [] → length old.main + 1 < LAST_MAIN_SEGMENT → IsShort new
+short_main old new entries is short = omega (arith, ap length is, length-append old.main (entries ∷ []))
+
+-- ---- where nothing changed
+
+-- a log that is put back as it was
+pub put_back : (logs : List ReadLog) (place master : ℕ) (old new : ReadLog) → StandsAt logs place master old → new ≡ old → set logs place new ≡ logs
+put_back logs place master old new at is = ap (set logs place) (is ∙ at.log_is) ∙ set-get_or logs place old
+
+-- ---- either answer
+
+-- what follows from either answer
+pub either : {T E : Type 0} {P Q X : Type 0} (r : Result T E) → OnOk r P → OnErr r Q → (P → X) → (Q → X) → X
+either (Ok x) ok err p q = p ok
+either (Err e) ok err p q = q err
+
+-- what follows from success
+pub ok_gives : {T E : Type 0} {P X : Type 0} (r : Result T E) → OnOk r P → (P → X) → OnOk r X
+ok_gives (Ok x) ok p = p ok
+ok_gives (Err e) ok p = tt
+
+-- and from an error
+pub err_gives : {T E : Type 0} {P X : Type 0} (r : Result T E) → OnErr r P → (P → X) → OnErr r X
+err_gives (Ok x) err p = tt
+err_gives (Err e) err p = p err
+
+-- what an answer gives in two parts
+pub both : {T E : Type 0} (P Q : Type 0) (r : Result T E) → OnOk r P → OnOk r Q → OnOk r (P × Q)
+both P Q (Ok x) p q = (p, q)
+both P Q (Err e) p q = tt
+
+pub both_err : {T E : Type 0} (P Q : Type 0) (r : Result T E) → OnErr r P → OnErr r Q → OnErr r (P × Q)
+both_err P Q (Ok x) p q = tt
+both_err P Q (Err e) p q = (p, q)

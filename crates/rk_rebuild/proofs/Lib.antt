@@ -1,0 +1,4 @@
+pub mod Placing
+pub mod Versions
+pub mod Logs
+pub mod Changes

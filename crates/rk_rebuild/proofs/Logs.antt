@@ -1,0 +1,72 @@
+-- What is read next, as the code looks for it, and what a change of one log leaves of the others.
+use Rattle.std.proofs.Common.{◌≡◌, ℕ, ◌+◌, ◌<◌, Bool, true, false, cond, List, [], ◌∷◌, map, drop, length, get_or, Option, Some, None, refl, sym, ap, ◌∙◌, subst}
+use Rattle.std.specs.List.{AllByRecursion, find}
+use Rattle.std.specs.Option.{option_map, option_or}
+use Rattle.std.proofs.lemmas.List.{at_drop_more}
+use Rattle.std.proofs.lemmas.List.Elements.{All-from_recursion}
+use Rattle.rk_types.specs.declared.lineage.Member.{Member}
+use Rattle.rk_types.specs.declared.range.Range.{Range}
+use Rattle.rk_world.specs.declared.work.Reading.{Reading}
+use Rattle.rk_world.specs.Gather.{Gathered, unread, next_of, next_segment, reading_of}
+use Rattle.rk_rebuild.specs.declared.member.ReadLog.{ReadLog}
+use Rattle.rk_rebuild.specs.declared.member.Reader.{Reader}
+use Rattle.rk_rebuild.specs.Logs.{is_by, log_of, gathered_of, gathered_at, members_of, IsShort}
+
+-- what holds of each in a list holds of one that is found there
+found_has : {X : Type 0} (P : X → Type 0) (test : X → Bool) (xs : List X) (x : X) → AllByRecursion P xs → find test xs ≡ Some x → P x
+found_has P test [] x all found = absurd (cc found)
+found_has {X} P test (y ∷ xs) x all found = go (test y) found (found_has P test xs x all.1)
+  where
+    go : (b : Bool) → cond b (Some y) (find test xs) ≡ Some x → (find test xs ≡ Some x → P x) → P x
+    go true here rest = let same : y ≡ x = cc here in subst P same all.0
+    go false behind rest = rest behind
+
+-- and of one that stands at a place
+pub stands_has : {X : Type 0} (P : X → Type 0) (xs : List X) (i : ℕ) (x : X) → AllByRecursion P xs → i < length xs → x ≡ get_or xs i x → P x
+stands_has P xs i x all within is = subst P (sym is) (All-from_recursion P xs all i x within)
+
+-- a log that is found is short
+pub short_found : (logs : List ReadLog) (master : ℕ) (log : ReadLog) → AllByRecursion IsShort logs → log_of logs master ≡ Some log → IsShort log
+short_found logs master log all found = found_has IsShort (is_by master) logs log all found
+
+-- ---- what is read next
+
+-- what was read of a member is of that member
+pub gathered_member : (log : Option ReadLog) (member : Member) → (gathered_of log member).member ≡ member
+gathered_member None member = refl
+gathered_member (Some log) member = refl
+
+-- the members from one on
+members_from : (range : Range) (logs : List ReadLog) (readers : List Reader) (i : ℕ) (reader : Reader) → i < length readers → reader ≡ get_or readers i reader
+    → next_of range (members_of logs (drop i readers)) ≡ next_of range (gathered_at logs reader.member ∷ members_of logs (drop (i + 1) readers))
+members_from range logs readers i reader within is =
+    at_drop_more (λ (rest : List Reader). next_of range (members_of logs rest)) readers i reader within
+    ∙ ap (λ (r : Reader). next_of range (gathered_at logs r.member ∷ members_of logs (drop (i + 1) readers))) (sym is)
+
+-- a member has something to read
+pub next_here : (range : Range) (logs : List ReadLog) (readers : List Reader) (i segment : ℕ) (reader : Reader) → i < length readers → reader ≡ get_or readers i reader
+    → Some segment ≡ next_segment range (gathered_at logs reader.member)
+    → Some (record { master = reader.member.master; segment = segment }) ≡ next_of range (members_of logs (drop i readers))
+next_here range logs readers i segment reader within is next =
+    let here : Gathered = gathered_at logs reader.member in
+    let others : Option Reading = next_of range (members_of logs (drop (i + 1) readers)) in
+    let made : ℕ → Reading = λ master. record { master = master; segment = segment } in
+    ap (λ (m : Member). Some (made m.master)) (sym (gathered_member (log_of logs reader.member.master) reader.member))
+    ∙ ap (λ (o : Option ℕ). option_or (option_map (reading_of here) o) others) next
+    ∙ sym (members_from range logs readers i reader within is)
+
+-- a member has nothing to read
+pub next_behind : (range : Range) (logs : List ReadLog) (readers : List Reader) (i : ℕ) (reader : Reader) → i < length readers → reader ≡ get_or readers i reader
+    → None ≡ next_segment range (gathered_at logs reader.member)
+    → next_of range (members_of logs (drop i readers)) ≡ next_of range (members_of logs (drop (i + 1) readers))
+next_behind range logs readers i reader within is next =
+    let here : Gathered = gathered_at logs reader.member in
+    members_from range logs readers i reader within is
+    ∙ ap (λ (o : Option ℕ). option_or (option_map (reading_of here) o) (next_of range (members_of logs (drop (i + 1) readers)))) (sym next)
+
+-- ---- nothing was read
+
+-- where nothing was read of any master, nothing was of any member
+pub members_unread : (readers : List Reader) → members_of [] readers ≡ map unread (map (λ reader. reader.member) readers)
+members_unread [] = refl
+members_unread (reader ∷ readers) = ap (λ rest. unread reader.member ∷ rest) (members_unread readers)

@@ -1,0 +1,79 @@
+-- The items among entries, one entry after the other, and the set of their versions.
+use Rattle.std.proofs.Common.{◌≡◌, ℕ, ◌+◌, ◌<◌, Bool, true, false, cond, eqb, ◌&&◌, ◌||◌, List, [], ◌∷◌, ◌++◌, take, length, get_or, refl, sym, ap, ◌∙◌}
+use Rattle.std.specs.Prelude.{bytes_eq}
+use Rattle.std.specs.List.{flat_map, list_any}
+use Rattle.std.specs.Ordering.{nat_cmp, is_eq, ordering_then}
+use Rattle.std.specs.Cmp.{tied_then, unsigned_tied}
+use Rattle.std.specs.Cmp.Lexicographic.{slice_cmp}
+use Rattle.std.specs.BTreeSet.{BTreeSet, contains, Updates}
+use Rattle.std.specs.BTreeMap.{is_at}
+use Rattle.std.proofs.lemmas.List.{append-nil, take_more}
+use Rattle.std.proofs.lemmas.List.Concat.{flat_map-append}
+use Rattle.std.proofs.lemmas.List.Folds.{list_any-append}
+use Rattle.std.proofs.lemmas.Map.Text.{is_eq-slice_cmp}
+use denote.Ref.{Bor}
+use Rattle.rk_types.specs.declared.held.Held.{Held}
+use Rattle.rk_entry.specs.declared.entry.Entry.{Entry}
+use Rattle.rk_rebuild.specs.Lent.{lent}
+use Rattle.rk_rebuild.specs.Versions.{Version, version_cmp, HasVersions}
+
+-- ---- items of entries
+
+-- what entries give, with one more entry
+pub given_taken : {X Y : Type 0} (f : X → List Y) (xs : List X) (i : ℕ) (x : X) → i < length xs → x ≡ get_or xs i x
+    → flat_map f (take (i + 1) xs) ≡ flat_map f (take i xs) ++ f x
+given_taken {X} f xs i x within is =
+    ap (flat_map f) (take_more xs i x within ∙ ap (λ (y : X). take i xs ++ y ∷ []) (sym is))
+    ∙ flat_map-append f (take i xs) (x ∷ [])
+    ∙ ap (λ ys. flat_map f (take i xs) ++ ys) (append-nil (f x))
+
+-- what lent entries give
+lent_given : {Y : Type 0} (f : Entry → List Y) (entries : List (Bor Entry)) → flat_map f (lent entries) ≡ flat_map (λ (entry : Bor Entry). f entry.now) entries
+lent_given f [] = refl
+lent_given f (entry ∷ entries) = ap (λ ys. f entry.now ++ ys) (lent_given f entries)
+
+-- with one more of them
+pub lent_taken : {Y : Type 0} (f : Entry → List Y) (entries : List (Bor Entry)) (i : ℕ) (entry : Bor Entry) → i < length entries → entry ≡ get_or entries i entry
+    → flat_map f (lent (take (i + 1) entries)) ≡ flat_map f (lent (take i entries)) ++ f entry.now
+lent_taken f entries i entry within is =
+    lent_given f (take (i + 1) entries)
+    ∙ given_taken (λ (it : Bor Entry). f it.now) entries i entry within is
+    ∙ ap (λ ys. ys ++ f entry.now) (sym (lent_given f (take i entries)))
+
+-- ---- versions
+
+-- two versions are one where all three parts are
+same_version : (a b : Version) → is_eq (version_cmp a b) ≡ (eqb a.0 b.0 && bytes_eq a.1.now b.1.now && eqb a.2 b.2)
+same_version a b =
+    sym (tied_then (ordering_then (nat_cmp a.0 b.0) (slice_cmp nat_cmp a.1.now b.1.now)) (nat_cmp a.2 b.2))
+    ∙ ap (λ t. t && is_eq (nat_cmp a.2 b.2)) (sym (tied_then (nat_cmp a.0 b.0) (slice_cmp nat_cmp a.1.now b.1.now)))
+    ∙ ap (λ t. t && is_eq (slice_cmp nat_cmp a.1.now b.1.now) && is_eq (nat_cmp a.2 b.2)) (unsigned_tied a.0 b.0)
+    ∙ ap (λ t. eqb a.0 b.0 && t && is_eq (nat_cmp a.2 b.2)) (is_eq-slice_cmp a.1.now b.1.now)
+    ∙ ap (λ t. eqb a.0 b.0 && bytes_eq a.1.now b.1.now && t) (unsigned_tied a.2 b.2)
+
+-- the version of an item; where its key stands tells nothing
+abbrev pub version_of : Held → Version
+version_of item = (item.table, record { ref_ptr = (0, 0); now = item.key }, item.version)
+
+-- a set with one more version
+pub version_noted : (old new : BTreeSet Version) (items : List Held) (item : Held)
+    → Updates version_cmp old new (version_of item) true → HasVersions old items → HasVersions new (items ++ item ∷ [])
+version_noted old new items item updates were q =
+    updates.0 q
+    ∙ ap (λ (b : Bool). cond b true (contains version_cmp old q)) (same_version (version_of item) q)
+    ∙ ap (λ (b : Bool). cond (here item) true b) (were q)
+    ∙ either (here item) (list_any here items)
+    ∙ sym (list_any-append here items (item ∷ []))
+  where
+    here : Held → Bool
+    here other = eqb other.table q.0 && bytes_eq other.key q.1.now && eqb other.version q.2
+
+    either : (a b : Bool) → cond a true b ≡ (b || (a || false))
+    either true true = refl
+    either true false = refl
+    either false true = refl
+    either false false = refl
+
+-- a set without versions is that of no items
+pub no_versions : (set : BTreeSet Version) → set.keys ≡ [] → HasVersions set []
+no_versions set empty version = ap (list_any (is_at (version_cmp version))) empty

@@ -1,0 +1,10 @@
+use Rattle.std.proofs.Common.{◌≡◌, [], drop}
+use Rattle.std.specs.List.{flat_map}
+use Rattle.rk_done.specs.Completions.{completions_from}
+use Rattle.rk_rebuild.proofs.ends.last_ends.Given as goal
+
+-- with what is left noted, all is noted
+abbrev pub invariant-loop-ends : goal.invariant-loop-ends
+invariant-loop-ends l =
+    completions_from l.last (flat_map (λ ends. ends) (drop l.ends-index l.told))
+    ≡ completions_from [] (flat_map (λ ends. ends) l.told)

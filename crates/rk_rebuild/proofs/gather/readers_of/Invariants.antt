@@ -1,0 +1,7 @@
+use Rattle.std.proofs.Common.{◌≡◌, eqb, map, not, take}
+use Rattle.std.specs.Prelude.{filter}
+use Rattle.rk_rebuild.proofs.gather.readers_of.Given as goal
+
+abbrev pub invariant-loop-member : goal.invariant-loop-member
+invariant-loop-member l =
+    map (λ reader. reader.member) l.readers.items ≡ filter (λ member. not (eqb member.master l.own)) (take l.member-index l.lineage)

@@ -1,0 +1,6 @@
+use Rattle.std.proofs.Common.{◌≡◌, ◌++◌, take}
+use Rattle.rk_rebuild.specs.Lent.{lent}
+use Rattle.rk_rebuild.proofs.material.lend.Given as goal
+
+abbrev pub invariant-loop-entry : goal.invariant-loop-entry
+invariant-loop-entry l = lent l.into.items ≡ lent l.fn.into.items ++ take l.entry-index l.entries

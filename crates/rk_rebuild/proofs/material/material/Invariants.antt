@@ -1,0 +1,8 @@
+use Rattle.std.proofs.Common.{◌≡◌, take}
+use Rattle.rk_world.specs.Material.{counting}
+use Rattle.rk_rebuild.specs.Lent.{lent}
+use Rattle.rk_rebuild.proofs.material.material.Given as goal
+
+-- those so far that count
+abbrev pub invariant-loop-entry : goal.invariant-loop-entry
+invariant-loop-entry l = lent l.counted.items ≡ counting l.range (lent (take l.entry-index l.entries))

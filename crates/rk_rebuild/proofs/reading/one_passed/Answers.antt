@@ -1,0 +1,23 @@
+use Rattle.std.proofs.Common.{◌≡◌, Bool, cond, List, drop, sym, ap, ◌∙◌}
+use Rattle.std.specs.List.{flat_map}
+use Rattle.std.proofs.lemmas.Bool.{eq-eqb}
+use Rattle.std.proofs.lemmas.List.{drop-map}
+use denote.Ref.{Bor}
+use Rattle.rk_entry.specs.declared.entry.Entry.{Entry}
+use Rattle.rk_world.specs.Material.{named}
+use Rattle.rk_rebuild.specs.declared.member.Reader.{Reader}
+use Rattle.rk_rebuild.specs.Lent.{lent}
+use Rattle.rk_rebuild.proofs.reading.one_passed.Goals as goal
+
+pub returns : goal.returns
+returns c = λ log its main_is.
+    let reader : Reader = c.args.reader.now in
+    let entries : List (Bor Entry) = c.args.entries.now in
+    let known : c.in_ok-named.field-0 ≡ named c.args.range.now (drop reader.member.from (flat_map (λ segment. segment) log.main)) =
+    c.in_ok-named.ensures
+    ∙ ap (λ (es : List (Bor Entry)). named c.args.range.now (lent es)) c.behind.ensures
+    ∙ ap (named c.args.range.now) (sym (drop-map (λ (entry : Bor Entry). entry.now) reader.member.from entries))
+    ∙ ap (λ (es : List Entry). named c.args.range.now (drop reader.member.from es)) (sym main_is) in
+    let now : Reader = record reader { named = named c.args.range.now (drop reader.member.from (flat_map (λ segment. segment) log.main)) } in
+    (λ i. record reader { named = known i })
+    ∙ sym (ap (λ (b : Bool). cond b now reader) (eq-eqb reader.member.master log.master (c.if-reader-master.false ∙ sym its)))

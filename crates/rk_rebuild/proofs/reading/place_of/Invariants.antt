@@ -1,0 +1,8 @@
+use Rattle.std.proofs.Common.{◌≡◌, ℕ, ◌<◌, false, get_or}
+use Rattle.rk_rebuild.specs.declared.member.ReadLog.{ReadLog}
+use Rattle.rk_rebuild.specs.Logs.{is_by}
+use Rattle.rk_rebuild.proofs.reading.place_of.Given as goal
+
+-- none of the logs so far is that of the master
+abbrev pub invariant-loop-place : goal.invariant-loop-place
+invariant-loop-place l = (k : ℕ) (d : ReadLog) → k < l.place → is_by l.master (get_or l.logs k d) ≡ false
