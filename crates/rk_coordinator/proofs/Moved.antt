@@ -29,12 +29,12 @@ pub both_split : (coordinator : Coordinator) (tablet at new master from : ℕ) (
     → rows_split coordinator tablet at new ≡ record coordinator { rows = rows }
 both_split coordinator tablet at new master from row split lower rows found owned is_split is_lower is_both =
     let number : row.tablet ≡ tablet = number_of coordinator.rows tablet row (sym found) in
-    let turned_twice : List Row → ℕ → Phase → List Row = λ rows lower phase. changed_rows (changed_rows rows lower (row.term + 1) phase) new (row.term + 1) phase in
+    let changed_twice : List Row → ℕ → Phase → List Row = λ rows lower phase. changed_rows (changed_rows rows lower (row.term + 1) phase) new (row.term + 1) phase in
     subst (λ (o : Option Row). rows_split_of coordinator o at new ≡ record coordinator { rows = rows }) found
     (ap (λ (these : List Row). record coordinator { rows = these })
-    (ap (λ (phase : Phase). turned_twice (split_rows coordinator.rows row.tablet at new) row.tablet phase) owned
-    ∙ ap (λ (t : ℕ). turned_twice (split_rows coordinator.rows t at new) t (Owned master from)) number
-    ∙ ap (λ (these : List Row). turned_twice these tablet (Owned master from)) (sym is_split)
+    (ap (λ (phase : Phase). changed_twice (split_rows coordinator.rows row.tablet at new) row.tablet phase) owned
+    ∙ ap (λ (t : ℕ). changed_twice (split_rows coordinator.rows t at new) t (Owned master from)) number
+    ∙ ap (λ (these : List Row). changed_twice these tablet (Owned master from)) (sym is_split)
     ∙ ap (λ (these : List Row). changed_rows these new (row.term + 1) (Owned master from)) (sym is_lower)
     ∙ sym is_both))
 

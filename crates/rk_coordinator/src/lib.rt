@@ -11,4 +11,6 @@ pub use handled::Handled;
 
 mod coordinator_lane;
 mod handled;
+#[cfg(test)]
+mod tests;
 mod told;

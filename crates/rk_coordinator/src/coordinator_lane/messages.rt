@@ -174,33 +174,29 @@ impl CoordinatorLane {
                 target,
                 dfrom,
                 ..
-            } => {
-                if sender != *target {
-                    return Ok(sends);
-                }
-                let (tablet, term) = (row.tablet, row.term);
+            } if sender == *target => {
+                sends.push(own_to(*target, row))?;
+                sends.push(release_to(*source, row))?;
                 let phase = Phase::Owned {
                     master: *target,
                     from: *dfrom,
                 };
-                sends.push(own_to(*target, row))?;
-                sends.push(release_to(*source, row))?;
+                let (tablet, term) = (row.tablet, row.term);
                 self.map.change(tablet, term, phase);
                 Ok(sends)
             }
-            Phase::Owned { master, .. } => {
-                if sender == *master {
-                    sends.push(own_to(*master, row))?;
-                }
+            Phase::Owned { master, .. } if sender == *master => {
+                sends.push(own_to(*master, row))?;
                 Ok(sends)
             }
-            Phase::Opening { .. } | Phase::Rebuilding { .. } => Ok(sends),
+            _ => Ok(sends),
         }
     }
 
     // A tablet is rebuilt: its master owns it, and what it told is taken. An owner is told again.
     fn rebuilt_in(&mut self, sender: u8, rebuilt: &Rebuilt) -> Result<Handled, NoMemory>
-        ensures ok { IfOk result (IsHandled (step.report self.old sender (Body.Rebuilt rebuilt.now)) (Body.Rebuilt rebuilt.now) self.new) }
+        ensures ok { IfOk result
+            (IsHandled (step.report self.old sender (Body.Rebuilt rebuilt.now)) (Body.Rebuilt rebuilt.now) self.new) }
         ensures err { OnErr result (self.new ≡ self.old) }
     {
         let mut sends = Vec::new(self.alloc());
@@ -208,29 +204,24 @@ impl CoordinatorLane {
             return Ok(sending(sends));
         };
         match &row.phase {
-            Phase::Rebuilding { to, .. } => {
-                if sender != *to {
-                    return Ok(sending(sends));
-                }
-                let (tablet, term) = (row.tablet, row.term);
+            Phase::Rebuilding { to, .. } if sender == *to => {
+                sends.push(own_to(*to, row))?;
                 let phase = Phase::Owned {
                     master: *to,
                     from: rebuilt.place,
                 };
-                sends.push(own_to(*to, row))?;
+                let (tablet, term) = (row.tablet, row.term);
                 self.map.change(tablet, term, phase);
                 Ok(Handled {
                     sends,
                     took_rebuilt: true,
                 })
             }
-            Phase::Owned { master, .. } => {
-                if sender == *master {
-                    sends.push(own_to(*master, row))?;
-                }
+            Phase::Owned { master, .. } if sender == *master => {
+                sends.push(own_to(*master, row))?;
                 Ok(sending(sends))
             }
-            Phase::Opening { .. } | Phase::Moving { .. } => Ok(sending(sends)),
+            _ => Ok(sending(sends)),
         }
     }
 }

@@ -1,11 +1,13 @@
 // How a coordinator notices that a master has crashed.
 ghost use Rattle.std.specs.Prelude.{◌≡◌, ◌<◌, ◌^◌, Some, not, map, OnOk, OnErr, IfOk};
 ghost use Rattle.std.specs.List.{find};
+ghost use Rattle.std.specs.Option.{option_map};
+ghost use Rattle.rk_tablet_map.specs.Phase.{lineage_of as lineage_of_lem, member as member_lem};
 ghost use Rattle.rk_tablet_map.specs.Rows.{IsTabletMap};
 ghost use Rattle.rk_world.specs.Coordinator.{is_noticed, lowest_left as lowest_left_lem};
 ghost use Rattle.rk_world.specs.Notices.{notice_one, next_rebuilder as next_rebuilder_lem, phase_noticed as phase_noticed_lem};
 ghost use Rattle.rk_coordinator.specs.Lane.{MayRise, marked};
-ghost use Rattle.rk_coordinator.specs.Turns.{turn_of as turn_of_lem, turned_rows, turns_of as turns_of_lem};
+ghost use Rattle.rk_coordinator.specs.Changes.{change_of as change_of_lem, changes_of as changes_of_lem, rows_after};
 
 use crate::coordinator_lane::CoordinatorLane;
 use crate::coordinator_lane::duties::push_some;
@@ -13,60 +15,61 @@ use rk_tablet_map::{Phase, Row, TabletMap};
 use rk_types::{Listed, Member, NoMemory};
 use std::alloc::Global;
 
-/// A row at its next term: the phase that it has then.
+/// What becomes of a row: its term and its phase then.
 #[derive(Drop)]
-pub(crate) struct Turn {
+pub(crate) struct Change {
     pub tablet: u32,
     pub term: u64,
     pub phase: Phase,
 }
 
 impl CoordinatorLane {
-    /// Notices that a master has crashed: each row that it has or would get is to be rebuilt, at the next term. After
-    /// `NoMemory` nothing has changed. A step for each row, and a search for each of those rows.
+    /// Notices that a master has crashed: each tablet that it owns, gives, takes or rebuilds is to be rebuilt by one that is
+    /// left, at the next term. Whether it was noticed before is not tested. After `NoMemory` nothing has changed. A step for
+    /// each row and, for each row that changes, another one for each row; lineages are copied.
     pub fn notice(&mut self, master: u8) -> Result<(), NoMemory>
         requires { MayRise self.old }
         ensures ok { OnOk result (self.new ≡ notice_one self.old master) }
         ensures err { OnErr result (self.new ≡ self.old) }
     {
-        let turns = turns_of(self, master)?;
+        let changes = changes_of(self, master)?;
         self.noticed.push(master)?;
-        turn_rows(&mut self.map, turns);
+        change_rows(&mut self.map, changes);
         Ok(())
     }
 }
 
 // The rows change.
-fn turn_rows(map: &mut TabletMap, turns: Vec<Turn>)
-    ensures { map.new ≡ turned_rows map.old turns.items }
+fn change_rows(map: &mut TabletMap, changes: Vec<Change>)
+    ensures { map.new ≡ rows_after map.old changes.items }
 {
-    for turn in turns {
-        map.change(turn.tablet, turn.term, turn.phase);
+    for change in changes {
+        map.change(change.tablet, change.term, change.phase);
     }
 }
 
 // Which rows change once one more master is noticed dead, and how.
-fn turns_of(lane: &CoordinatorLane, dead: u8) -> Result<Vec<Turn>, NoMemory>
+fn changes_of(lane: &CoordinatorLane, dead: u8) -> Result<Vec<Change>, NoMemory>
     requires { MayRise lane.now }
-    ensures turns { IfOk result (λ turns. turns.items ≡ turns_of_lem (marked lane.now dead) dead lane.now.rows) }
+    ensures changes { IfOk result (λ changes. changes.items ≡ changes_of_lem (marked lane.now dead) dead lane.now.rows) }
     ensures lawful { IsTabletMap lane.now.rows }
 {
-    let mut turns = Vec::new(lane.alloc());
+    let mut changes = Vec::new(lane.alloc());
     for row in lane.map.rows() {
-        push_some(&mut turns, turn_of(lane, dead, row)?)?;
+        push_some(&mut changes, change_of(lane, dead, row)?)?;
     }
-    Ok(turns)
+    Ok(changes)
 }
 
 // How a row changes once one more master is noticed dead, where it does.
-fn turn_of(lane: &CoordinatorLane, dead: u8, row: &Row) -> Result<Option<Turn>, NoMemory>
+fn change_of(lane: &CoordinatorLane, dead: u8, row: &Row) -> Result<Option<Change>, NoMemory>
     requires { row.now.term < 2 ^ 63 }
-    ensures { IfOk result (λ turn. turn ≡ turn_of_lem row.now (phase_noticed_lem (marked lane.now dead) dead row.now.phase)) }
+    ensures { IfOk result (λ change. change ≡ change_of_lem row.now (phase_noticed_lem (marked lane.now dead) dead row.now.phase)) }
 {
     let Some(phase) = phase_noticed(lane, dead, &row.phase)? else {
         return Ok(None);
     };
-    Ok(Some(Turn {
+    Ok(Some(Change {
         tablet: row.tablet,
         term: row.term + 1,
         phase,
@@ -77,73 +80,59 @@ fn turn_of(lane: &CoordinatorLane, dead: u8, row: &Row) -> Result<Option<Turn>, 
 fn phase_noticed(lane: &CoordinatorLane, dead: u8, phase: &Phase) -> Result<Option<Phase>, NoMemory>
     ensures { IfOk result (λ changed. changed ≡ phase_noticed_lem (marked lane.now dead) dead phase.now) }
 {
-    let alloc = lane.alloc();
+    let Some(to) = rebuilder(lane, dead, phase) else {
+        return Ok(None);
+    };
+    let lineage = lineage_of(lane.alloc(), phase)?;
+    Ok(Some(Phase::Rebuilding { lineage, to }))
+}
+
+// The master that is to rebuild a tablet once one more master is noticed dead, where that changes its phase.
+fn rebuilder(lane: &CoordinatorLane, dead: u8, phase: &Phase) -> Option<u8>
+    ensures { phase_noticed_lem (marked lane.now dead) dead phase.now ≡ option_map (Phase.Rebuilding (lineage_of_lem phase.now)) result }
+{
     match phase {
-        Phase::Owned { master, from } => {
-            if *master != dead {
-                return Ok(None);
-            }
-            rebuilding(alloc, &[member(dead, *from)], lowest_left(lane, dead))
+        Phase::Owned { master, .. } if *master == dead => Some(lowest_left(lane, dead)),
+        Phase::Opening { source, .. } if *source == dead => Some(lowest_left(lane, dead)),
+        Phase::Opening { source, target, .. } if *target == dead => Some(*source),
+        Phase::Moving { source, target, .. } if *source == dead => Some(*target),
+        Phase::Moving { source, target, .. } if *target == dead => Some(*source),
+        Phase::Rebuilding { lineage, to } if *to == dead => {
+            Some(next_rebuilder(lane, dead, lineage.as_slice()))
         }
-        Phase::Opening {
-            source,
-            sfrom,
-            target,
-            ..
-        } => {
-            if *source == dead {
-                return rebuilding(alloc, &[member(dead, *sfrom)], lowest_left(lane, dead));
-            }
-            if *target == dead {
-                return rebuilding(alloc, &[member(*source, *sfrom)], *source);
-            }
-            Ok(None)
-        }
+        _ => None,
+    }
+}
+
+// The masters whose logs have a tablet, the oldest first.
+fn lineage_of(alloc: Global, phase: &Phase) -> Result<Listed<Member>, NoMemory>
+    ensures { IfOk result (λ lineage. lineage ≡ lineage_of_lem phase.now) }
+{
+    match phase {
+        Phase::Owned { master, from } => listed(alloc, &[member(*master, *from)]),
+        Phase::Opening { source, sfrom, .. } => listed(alloc, &[member(*source, *sfrom)]),
         Phase::Moving {
             source,
             sfrom,
             target,
             dfrom,
-        } => {
-            if *source == dead {
-                return rebuilding(
-                    alloc,
-                    &[member(dead, *sfrom), member(*target, *dfrom)],
-                    *target,
-                );
-            }
-            if *target == dead {
-                return rebuilding(
-                    alloc,
-                    &[member(*source, *sfrom), member(dead, *dfrom)],
-                    *source,
-                );
-            }
-            Ok(None)
-        }
-        Phase::Rebuilding { lineage, to } => {
-            if *to != dead {
-                return Ok(None);
-            }
-            let to = next_rebuilder(lane, dead, lineage.as_slice());
-            rebuilding(alloc, lineage.as_slice(), to)
-        }
+        } => { listed(alloc, &[member(*source, *sfrom), member(*target, *dfrom)]) }
+        Phase::Rebuilding { lineage, .. } => lineage.duplicate(),
     }
+}
+
+// These masters as a list.
+fn listed(alloc: Global, members: &[Member]) -> Result<Listed<Member>, NoMemory>
+    ensures { IfOk result (λ listed. listed ≡ members.now) }
+{
+    Ok(Listed::from_vec(Vec::from_slice(alloc, members)?))
 }
 
 // A master of a lineage, with its place.
 fn member(master: u8, from: u64) -> Member
-    ensures { result ≡ record { master = master; from = from } }
+    ensures { result ≡ member_lem master from }
 {
     Member { master, from }
-}
-
-// A tablet with this lineage is rebuilt by a master.
-fn rebuilding(alloc: Global, lineage: &[Member], to: u8) -> Result<Option<Phase>, NoMemory>
-    ensures { IfOk result (λ phase. phase ≡ Some (Phase.Rebuilding lineage.now to)) }
-{
-    let lineage = Listed::from_vec(Vec::from_slice(alloc, lineage)?);
-    Ok(Some(Phase::Rebuilding { lineage, to }))
 }
 
 // The first master of a lineage that was not noticed dead once one more is, and else the lowest one left.
