@@ -78,7 +78,8 @@ impl CoordinatorLane {
     }
 
     /// Adds a tablet, owned by a master from the start of its log on. `Taken` comes where its number is there, else
-    /// `Overlap` where its range meets that of another tablet. After an error nothing has changed. A step for each row.
+    /// `Overlap` where its range meets that of another tablet. After an error, `NoMemory` too, nothing has changed. A few
+    /// steps for each row.
     pub fn add(&mut self, tablet: u32, range: Range, master: u8) -> Result<(), MapError>
         ensures lawful { OnOk result (add_fault self.old.rows (new_row tablet range master) ≡ None) }
         ensures ok { OnOk result (self.new ≡ with_row self.old (new_row tablet range master)) }
@@ -96,7 +97,8 @@ impl CoordinatorLane {
 
     /// A tablet begins to move to a master, at the next term. `NoTablet` comes where there is no such tablet, else
     /// `NotOwned` where it moves or is rebuilt, else `SameMaster` where that master owns it, else `DeadMaster` where that
-    /// was noticed dead. After an error nothing has changed. A step for each row, and for each master that was noticed.
+    /// was noticed dead. After an error nothing has changed; it takes no memory. A few steps for each row, and one for each
+    /// master that was noticed.
     pub fn migrate(&mut self, tablet: u32, to: u8) -> Result<(), MoveError>
         requires { MayRise self.old }
         ensures lawful { OnOk result (migrate_fault self.old tablet to ≡ None) }
@@ -129,7 +131,8 @@ impl CoordinatorLane {
 
     /// Splits a tablet at a hash: the hashes from it on become the tablet `new`, and both begin the next term with the
     /// tablet's owner. `NoTablet` comes where there is no such tablet, else `NotOwned` where it moves or is rebuilt, else
-    /// `Map` with what the tablet map refuses. After an error nothing has changed. A few steps for each row.
+    /// `Map` with what the tablet map refuses. After an error, `NoMemory` too, nothing has changed. A few steps for each
+    /// row.
     pub fn split(&mut self, tablet: u32, at: u64, new: u32) -> Result<(), MoveError>
         requires { MayRise self.old }
         ensures lawful { OnOk result (tablet_split_fault self.old tablet at new ≡ None) }

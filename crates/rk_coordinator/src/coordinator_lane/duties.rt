@@ -12,7 +12,8 @@ use rk_types::{Listed, NoMemory, Node};
 
 impl CoordinatorLane {
     /// What the coordinator sends on its turn, by rising tablet: a Prepare or a Close for a tablet that opens, a Grant for
-    /// one that moves, a Rebuild for one that is rebuilt. A step for each row, and a search for one that moves.
+    /// one that moves, a Rebuild for one that is rebuilt. A step for each row, and a search for one that moves;
+    /// lineages, and what sources told of clients, are copied.
     pub fn turn(&self) -> Result<Vec<Message>, NoMemory>
         ensures { IfOk result (λ sends. sends.items ≡ coordinator_turn self.now) }
     {
