@@ -1,0 +1,10 @@
+use rk_message::Message;
+
+/// What came of a message that the coordinator took.
+#[derive(Debug, Drop)]
+pub struct Handled {
+    /// What the coordinator sends, in this order.
+    pub sends: Vec<Message>,
+    /// Whether the message was a Rebuilt that its row waited for: what it tells is to be recorded.
+    pub took_rebuilt: bool,
+}
