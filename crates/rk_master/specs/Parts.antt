@@ -1,8 +1,11 @@
 -- What the parts of a master in code stand for.
-use Rattle.std.specs.Prelude.{ℕ, List, [], ◌∷◌, Option, Some, None, is_some, map}
+use Rattle.std.specs.Prelude.{ℕ, List, [], Option, Some, None, is_some, map}
 use Rattle.rk_types.specs.declared.held.Held.{Held}
-use Rattle.rk_types.specs.NumberMap.{NumberMap}
+use Rattle.rk_types.specs.NumberMap.{NumberMap, get_or}
 use Rattle.rk_world.specs.Tablet.{Tablet, no_tablet, pulling_from}
+use Rattle.rk_world.specs.Master.{Master}
+use Rattle.rk_world.specs.Worked.{Worked}
+use Rattle.rk_master.specs.declared.work.Worked.{Worked as Work}
 use Rattle.rk_master.specs.declared.choice.Seen.{Seen}
 use Rattle.rk_master.specs.declared.tablet_lane.TabletLane.{TabletLane}
 
@@ -18,12 +21,15 @@ tablet_of lane = record no_tablet {
 abbrev pub tablets_of : List (ℕ × TabletLane) → NumberMap Tablet
 tablets_of tablets = map (λ entry. (entry.0, tablet_of entry.1)) tablets
 
+-- what the master has of the tablet of a number
+abbrev pub tablet_in : List (ℕ × TabletLane) → ℕ → Tablet
+tablet_in tablets number = get_or no_tablet (tablets_of tablets) number
+
 -- what a mutation sees of an item
 abbrev pub seen_of : Option Held → Option Seen
 seen_of None = None
 seen_of (Some item) = Some (record { version = item.version; is_live = is_some item.value })
 
--- what is there, as a list
-abbrev pub listed : {X : Type 0} → Option X → List X
-listed None = []
-listed (Some thing) = thing ∷ []
+-- the work of a master that is so now
+abbrev pub worked_of : Master → Work → Worked
+worked_of master work = record { master = master; sends = work.sends.items; served = work.served.items; marked = [] }

@@ -12,15 +12,22 @@ pub use choice::Seen;
 pub use master_lane::MasterLane;
 pub use staged_calls::StagedCalls;
 pub use staged_items::Kept;
-pub use tablet_lane::TabletLane;
+pub use staging::MOST_LOG_BYTES;
+pub use tablet_lane::{MOST_VERSIONS, TabletLane};
+pub use work::Worked;
 
 mod call_counts;
 mod choice;
 mod commit;
 mod effects;
 mod master_lane;
+mod requests;
 mod staged_calls;
 mod staged_items;
+mod staging;
+mod state;
 mod tablet_lane;
+mod tablets;
 #[cfg(test)]
 mod tests;
+mod work;

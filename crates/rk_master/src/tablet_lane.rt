@@ -1,4 +1,6 @@
-ghost use Rattle.std.specs.Prelude.{◌≡◌, ◌<◌, ◌^◌, Option, is_some, OnOk, OnErr};
+ghost use Rattle.std.specs.Prelude.{◌≡◌, Option, is_some, IfOk, OnOk, OnErr};
+ghost use Rattle.std.specs.Int.{w64};
+ghost use Rattle.rk_entry.specs.Numbers.{IsNumber};
 ghost use Rattle.rk_types.specs.Hashing.{hash_of};
 ghost use Rattle.rk_types.specs.declared.held.Held.{Held as Item};
 ghost use Rattle.rk_world.specs.Ranges.{has_key};
@@ -12,6 +14,9 @@ use rk_done::Completions;
 use rk_priority::Wanted;
 use rk_transfer::{Handover, Role};
 use rk_types::{Key, NoMemory, Token, bucket_of, hash};
+
+/// Versions count from 1, and this one and those above it are never given.
+pub const MOST_VERSIONS: u64 = 1 << 60;
 
 /// What a master has of a tablet, as far as calls need it.
 #[derive(Drop)]
@@ -63,14 +68,18 @@ impl TabletLane {
         Ok(())
     }
 
-    /// Gives the next version: the counter rises by one.
-    pub(crate) fn next_version(&mut self) -> u64
-        requires { self.old.handover.counter < 2 ^ 63 }
-        ensures version { result ≡ (tablet_of self.old).handover.counter }
-        ensures counter { tablet_of self.new ≡ counted_up (tablet_of self.old) }
+    /// Gives the next version: the counter rises by one. `NoMemory` where no version is left, and then nothing has
+    /// changed.
+    pub(crate) fn next_version(&mut self) -> Result<u64, NoMemory>
+        ensures version { IfOk result (λ version. version ≡ (tablet_of self.old).handover.counter) }
+        ensures lawful { IfOk result (IsNumber w64 1) }
+        ensures counter { OnOk result (tablet_of self.new ≡ counted_up (tablet_of self.old)) }
     {
         let version = self.handover.counter;
+        if version == 0 || version >= MOST_VERSIONS {
+            return Err(NoMemory);
+        }
         self.handover.counter = version + 1;
-        version
+        Ok(version)
     }
 }
