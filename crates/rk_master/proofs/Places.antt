@@ -1,5 +1,7 @@
 -- The place of a tablet's number, and what is found and changed there.
-use Rattle.std.proofs.Common.{◌≡◌, ℕ, zero, suc, ◌<◌, ◌≤◌, Bool, true, false, cond, ◌&&◌, T, List, [], ◌∷◌, length, get_or, set, Option, Some, None, is_some, unwrap_or, refl, sym, ap, ◌∙◌, subst, inl, inr, arith}
+use Rattle.std.proofs.Common.{◌≡◌, ℕ, zero, suc, ◌<◌, ◌≤◌, Bool, true, false, cond, ◌&&◌, T, List, [], ◌∷◌, ◌++◌, ◌+◌, length, map, take, drop, get_or, set, append_assoc, drop-cons, Option, Some, None, is_some, unwrap_or, refl, sym, ap, ◌∙◌, subst, inl, inr, arith}
+use Rattle.std.proofs.lemmas.List.{take_more_set, drop-set-lt, map-append}
+use Rattle.std.proofs.lemmas.Option.{slice_get-get_or}
 use Rattle.std.proofs.lemmas.Bool.{cases_lt, false≢true}
 use Rattle.std.specs.Prelude.{Result, Ok, Err, IfOk, IfErr, IsOk, IsSome}
 use Rattle.std.specs.Option.{option_map}
@@ -10,7 +12,7 @@ use Rattle.std.specs.declared.cmp.Ordering.{Ordering}
 use Rattle.std.specs.declared.cmp.Ordering.TheVariants.{Less, Equal, Greater}
 use Rattle.std.specs.Cmp.{nat_cmp_is, ranked}
 use Rattle.std.specs.FinMap.Entries.{below_all, by_order}
-use Rattle.rk_types.specs.NumberMap.{IsInOrder, get, insert}
+use Rattle.rk_types.specs.NumberMap.{NumberMap, IsInOrder, get, insert}
 use Rattle.rk_types.proofs.NumberMaps.{in_order_insert}
 use Rattle.rk_world.specs.Tablet.{Tablet, no_tablet}
 use Rattle.rk_master.specs.declared.tablet_lane.TabletLane.{TabletLane}
@@ -195,3 +197,43 @@ there_too rows number there = go (get rows number) (sym (ap is_some (get_tablet 
     go : (o : Option TabletLane) → is_some (option_map tablet_of o) ≡ true → is_some o ≡ true
     go None none = none
     go (Some lane) some = refl
+
+-- ---- each tablet is changed in turn
+
+-- the rows from a place on are the one there and those behind it
+pub drop_next : (rows : List Row) (i : ℕ) (d : Row) → i < length rows → drop i rows ≡ get_or rows i d ∷ drop (i + 1) rows
+drop_next rows i d within = drop-cons rows i d within ∙ ap (λ (n : ℕ). get_or rows i d ∷ drop n rows) (one_later i)
+  where
+    one_later : (n : ℕ) → suc n ≡ n + 1
+    one_later n = omega arith
+
+-- a tablet stands at its own place
+pub at_itself : (rows : List Row) (i : ℕ) (d : Row) → i < length rows → IsAt (get_or rows i d).0 rows i
+at_itself rows i d within = record {
+  within = within;
+  same = λ other.
+      let one : Some (get_or rows i other) ≡ Some (get_or rows i d) = sym (slice_get-get_or rows i other within) ∙ slice_get-get_or rows i d within in
+      let row : get_or rows i other ≡ get_or rows i d = cc one in ap (λ (x : Row). x.0) row;
+}
+
+-- a tablet of a map is changed
+abbrev pub changing : (Tablet → Tablet) → ℕ × Tablet → ℕ × Tablet
+changing change entry = (entry.0, change entry.1)
+
+-- the tablets, of which those from a place on are still to be changed
+abbrev pub changed_from : (Tablet → Tablet) → ℕ → List Row → NumberMap Tablet
+changed_from change i rows = tablets_of (take i rows) ++ map (changing change) (tablets_of (drop i rows))
+
+-- the next one is changed
+pub changed_next : (change : Tablet → Tablet) (rows : List Row) (i : ℕ) (d : Row) (lane : TabletLane) → i < length rows
+    → tablet_of lane ≡ change (tablet_of (get_or rows i d).1)
+    → changed_from change (i + 1) (set rows i ((get_or rows i d).0, lane)) ≡ changed_from change i rows
+changed_next change rows i d lane within changed =
+    (λ j. tablets_of (take_more_set rows i new within j) ++ map (changing change) (tablets_of (drop-set-lt (i + 1) rows i new (omega arith) j)))
+    ∙ ap (λ t. t ++ map (changing change) (tablets_of (drop (i + 1) rows))) (map-append (λ entry. (entry.0, tablet_of entry.1)) (take i rows) (new ∷ []))
+    ∙ append_assoc (tablets_of (take i rows)) ((new.0, tablet_of new.1) ∷ []) (map (changing change) (tablets_of (drop (i + 1) rows)))
+    ∙ ap (λ (t : Tablet). tablets_of (take i rows) ++ ((get_or rows i d).0, t) ∷ map (changing change) (tablets_of (drop (i + 1) rows))) changed
+    ∙ ap (λ (xs : List Row). tablets_of (take i rows) ++ map (changing change) (tablets_of xs)) (sym (drop_next rows i d within))
+  where
+    new : Row
+    new = ((get_or rows i d).0, lane)

@@ -1,7 +1,10 @@
 -- What the parts of a master in code stand for.
-use Rattle.std.specs.Prelude.{ℕ, List, [], Option, Some, None, is_some, map}
+use Rattle.std.specs.Prelude.{ℕ, List, [], ◌∷◌, ◌++◌, Option, Some, None, is_some, map}
 use Rattle.rk_types.specs.declared.held.Held.{Held}
 use Rattle.rk_types.specs.NumberMap.{NumberMap, get_or}
+use Rattle.rk_entry.specs.declared.entry.Entry.{Entry}
+use Rattle.rk_entry.specs.declared.entry.Entry.TheVariants as entries
+use Rattle.rk_table.specs.Items.{with_newer}
 use Rattle.rk_world.specs.Tablet.{Tablet, no_tablet, pulling_from}
 use Rattle.rk_world.specs.Master.{Master}
 use Rattle.rk_world.specs.Worked.{Worked}
@@ -33,3 +36,17 @@ seen_of (Some item) = Some (record { version = item.version; is_live = is_some i
 -- the work of a master that is so now
 abbrev pub worked_of : Master → Work → Worked
 worked_of master work = record { master = master; sends = work.sends.items; served = work.served.items; marked = [] }
+
+-- work behind what was sent and served before
+abbrev pub behind : Work → Worked → Worked
+behind before worked = record {
+  master = worked.master;
+  sends = before.sends.items ++ worked.sends;
+  served = before.served.items ++ worked.served;
+  marked = worked.marked;
+}
+
+-- the records after an entry was applied: an item goes into them where it is newer
+abbrev pub with_items_of : Entry → List Held → List Held
+with_items_of (entries.Held held) records = with_newer held records
+with_items_of entry records = records
