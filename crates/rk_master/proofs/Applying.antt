@@ -1,17 +1,16 @@
 -- What becomes of a master when entries are applied, and what it sends and serves by that.
 use Rattle.std.proofs.Common.{◌≡◌, ℕ, zero, suc, ◌+◌, ◌<◌, ◌≤◌, List, [], ◌∷◌, ◌++◌, length, take, drop, slice_get, Option, Some, None, refl, sym, ap, ◌∙◌, arith, append_assoc}
 use Rattle.std.proofs.lemmas.List.{append-nil}
-use Rattle.rk_types.specs.NumberMap.{NumberMap, get}
+use Rattle.rk_types.specs.NumberMap.{get}
 use Rattle.rk_types.specs.declared.call.Call.{Call}
 use Rattle.rk_types.specs.declared.call.Ended.{Ended}
-use Rattle.rk_types.specs.declared.held.Held.{Held}
 use Rattle.rk_entry.specs.declared.entry.Entry.{Entry}
 use Rattle.rk_entry.specs.declared.entry.Entry.TheVariants as entries
-use Rattle.rk_log.specs.Log.{Log, committed}
+use Rattle.rk_log.specs.Log.{committed}
 use Rattle.rk_world.specs.Ends.{told_by}
 use Rattle.rk_world.specs.Master.{Master}
-use Rattle.rk_world.specs.Worked.{Worked, changed, then_works}
-use Rattle.rk_world.specs.Commits.{with_entry_item, with_applied, with_ended, ended_call, apply_entry, apply_entries, newly_held}
+use Rattle.rk_world.specs.Worked.{Worked, changed}
+use Rattle.rk_world.specs.Commits.{with_entry_item, with_applied, with_ended, apply_entry, apply_entries, newly_held}
 use Rattle.rk_master.specs.declared.work.Worked.{Worked as Work}
 use Rattle.rk_master.specs.Parts.{worked_of, behind, with_items_of}
 use Rattle.rk_master.proofs.Keeping.{from_place}
@@ -74,8 +73,8 @@ applied_ending master after entry end after_is some =
 
 -- ---- the entries that all backups hold
 
--- an entry stands at each place of a log
-pub stands : (all : List Entry) (place : ℕ) → place < length all → (entry : Entry) × (slice_get all place ≡ Some entry)
+-- an entry stands at each place of a log, or of another list
+pub stands : {X : Type 0} (all : List X) (place : ℕ) → place < length all → (entry : X) × (slice_get all place ≡ Some entry)
 stands [] place within = absurd (omega (arith, within))
 stands (entry ∷ all) zero within = (entry, refl)
 stands (entry ∷ all) (suc place) within = stands all place (omega (arith, within))

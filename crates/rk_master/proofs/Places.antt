@@ -1,5 +1,5 @@
 -- The place of a tablet's number, and what is found and changed there.
-use Rattle.std.proofs.Common.{◌≡◌, ℕ, zero, suc, ◌<◌, ◌≤◌, Bool, true, false, cond, ◌&&◌, T, List, [], ◌∷◌, ◌++◌, ◌+◌, length, map, take, drop, get_or, set, append_assoc, drop-cons, Option, Some, None, is_some, unwrap_or, refl, sym, ap, ◌∙◌, subst, inl, inr, arith}
+use Rattle.std.proofs.Common.{◌≡◌, ℕ, zero, suc, ◌<◌, ◌≤◌, Bool, true, false, cond, ◌&&◌, T, List, [], ◌∷◌, ◌++◌, ◌+◌, length, map, take, drop, slice_get, get_or, set, append_assoc, drop-cons, Option, Some, None, is_some, unwrap_or, refl, sym, ap, ◌∙◌, subst, inl, inr, arith}
 use Rattle.std.proofs.lemmas.List.{take_more_set, drop-set-lt, map-append}
 use Rattle.std.proofs.lemmas.Option.{slice_get-get_or}
 use Rattle.std.proofs.lemmas.Bool.{cases_lt, false≢true}
@@ -14,7 +14,8 @@ use Rattle.std.specs.Cmp.{nat_cmp_is, ranked}
 use Rattle.std.specs.FinMap.Entries.{below_all, by_order}
 use Rattle.rk_types.specs.NumberMap.{NumberMap, IsInOrder, get, insert}
 use Rattle.rk_types.proofs.NumberMaps.{in_order_insert}
-use Rattle.rk_world.specs.Tablet.{Tablet, no_tablet}
+use Rattle.rk_transfer.specs.declared.handover.Handover.{Handover}
+use Rattle.rk_world.specs.Tablet.{Tablet, no_tablet, with_handover}
 use Rattle.rk_master.specs.declared.tablet_lane.TabletLane.{TabletLane}
 use Rattle.rk_master.specs.Parts.{tablet_of, tablets_of, tablet_in}
 use Rattle.rk_master.specs.Places.{Row, IsAt, IsBetween}
@@ -237,3 +238,40 @@ changed_next change rows i d lane within changed =
   where
     new : Row
     new = ((get_or rows i d).0, lane)
+
+-- ---- a tablet moves
+
+-- what is read at a place is the row there
+pub row_there : (rows : List Row) (i : ℕ) (d row : Row) → i < length rows → slice_get rows i ≡ Some row → get_or rows i d ≡ row
+row_there rows i d row within at =
+    let one : Some (get_or rows i d) ≡ Some row = sym (slice_get-get_or rows i d within) ∙ at in cc one
+
+-- a tablet that moved at its place is put under its number
+pub moved_there : (rows : List Row) (i : ℕ) (read row : Row) (lane : TabletLane) (handover : Handover) → IsInOrder rows → i < length rows
+    → read ≡ get_or rows i read → slice_get rows i ≡ Some row → tablet_of lane ≡ with_handover (tablet_of read.1) handover
+    → tablets_of (set rows i (read.0, lane)) ≡ insert (tablets_of rows) row.0 (with_handover (tablet_of row.1) handover)
+moved_there rows i read row lane handover order within is at moved =
+    ap (λ (r : Row). tablets_of (set rows i (r.0, lane))) is
+    ∙ changed_there rows (get_or rows i read).0 i read lane order (at_itself rows i read within)
+    ∙ ap (insert (tablets_of rows) (get_or rows i read).0) (moved ∙ ap (λ (r : Row). with_handover (tablet_of r.1) handover) is)
+    ∙ ap (λ (r : Row). insert (tablets_of rows) r.0 (with_handover (tablet_of r.1) handover)) (row_there rows i read row within at)
+
+-- and the numbers still rise
+pub moved_order : (rows : List Row) (i : ℕ) (read : Row) (lane : TabletLane) → IsInOrder rows → i < length rows → read ≡ get_or rows i read → IsInOrder (set rows i (read.0, lane))
+moved_order rows i read lane order within is =
+    subst (λ (r : Row). IsInOrder (set rows i (r.0, lane))) (sym is) (order_there rows (get_or rows i read).0 i read lane order (at_itself rows i read within))
+
+-- ---- a tablet is added
+
+-- the master has nothing of a tablet that is not there
+pub none_there : (rows : List Row) (number i : ℕ) → IsBetween number rows i → tablet_in rows number ≡ no_tablet
+none_there rows number i between =
+    ap (λ (o : Option Tablet). unwrap_or o no_tablet) (get_tablet rows number ∙ ap (option_map tablet_of) (get_between number rows i between))
+
+-- a tablet that is put between the others is put under its number
+pub added_between : (rows : List Row) (number i : ℕ) (lane : TabletLane) → IsBetween number rows i → tablets_of (insert_at rows i (number, lane)) ≡ insert (tablets_of rows) number (tablet_of lane)
+added_between rows number i lane between = ap tablets_of (sym (insert_between number lane rows i between)) ∙ insert_tablet rows number lane
+
+-- and the numbers still rise
+pub added_order : (rows : List Row) (number i : ℕ) (lane : TabletLane) → IsInOrder rows → IsBetween number rows i → IsInOrder (insert_at rows i (number, lane))
+added_order rows number i lane order between = subst IsInOrder (insert_between number lane rows i between) (in_order_insert rows number lane order)

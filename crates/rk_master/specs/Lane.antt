@@ -19,8 +19,3 @@ pub record IsWork (worked : Worked) (after : Option Master) (work : Work) : Type
   pub master : after ≡ Some worked.master
   pub sends : work.sends.items ≡ worked.sends
   pub served : work.served.items ≡ worked.served
-
--- a master that was not spent has worked so
-abbrev pub HasWorked : (Master → Worked) → Option Master → Option Master → Work → Type 0
-HasWorked works None after work = ⊥
-HasWorked works (Some before) after work = IsWork (works before) after work

@@ -1,13 +1,19 @@
 -- What the parts of a master in code stand for.
-use Rattle.std.specs.Prelude.{ℕ, List, [], ◌∷◌, ◌++◌, Option, Some, None, is_some, map}
+use Rattle.std.specs.Prelude.{◌≡◌, ℕ, List, [], ◌++◌, Option, Some, None, is_some, map}
+use Rattle.std.specs.List.{AllByRecursion}
 use Rattle.rk_types.specs.declared.held.Held.{Held}
+use Rattle.rk_types.specs.declared.range.Range.{Range}
 use Rattle.rk_types.specs.NumberMap.{NumberMap, get_or}
 use Rattle.rk_entry.specs.declared.entry.Entry.{Entry}
 use Rattle.rk_entry.specs.declared.entry.Entry.TheVariants as entries
+use Rattle.rk_entry.specs.Lawful.{IsLawfulEntry}
 use Rattle.rk_table.specs.Items.{with_newer}
+use Rattle.rk_transfer.specs.declared.handover.Handover.{Handover}
+use Rattle.rk_transfer.specs.declared.role.Role.TheVariants as roles
 use Rattle.rk_world.specs.Tablet.{Tablet, no_tablet, pulling_from}
 use Rattle.rk_world.specs.Master.{Master}
 use Rattle.rk_world.specs.Worked.{Worked}
+use Rattle.rk_world.specs.Waiting.{joined_entry}
 use Rattle.rk_master.specs.declared.work.Worked.{Worked as Work}
 use Rattle.rk_master.specs.declared.choice.Seen.{Seen}
 use Rattle.rk_master.specs.declared.tablet_lane.TabletLane.{TabletLane}
@@ -17,7 +23,7 @@ abbrev pub tablet_of : TabletLane → Tablet
 tablet_of lane = record no_tablet {
   handover = lane.handover;
   completions = lane.completions.completions;
-  pulling = record (pulling_from 0) { token = lane.token; hashes = lane.wanted };
+  pulling = record (pulling_from 0) { token = lane.token; hashes = lane.wanted; sealed = lane.sealed };
 }
 
 -- the tablets by number
@@ -50,3 +56,15 @@ behind before worked = record {
 abbrev pub with_items_of : Entry → List Held → List Held
 with_items_of (entries.Held held) records = with_newer held records
 with_items_of entry records = records
+
+-- a target that has all can spell the entry that closes its role
+abbrev pub IsClosable : Tablet → Type 0
+IsClosable tablet = tablet.handover.role ≡ roles.Joining None → IsLawfulEntry (joined_entry tablet)
+
+-- so can each of them
+abbrev pub AreClosable : NumberMap Tablet → Type 0
+AreClosable tablets = AllByRecursion (λ entry. IsClosable entry.1) tablets
+
+-- the handover of a tablet that is served from the start
+abbrev pub served : Range → Handover
+served range = record { role = roles.Serving; term = 1; range = range; counter = 1 }

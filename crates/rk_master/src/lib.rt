@@ -26,8 +26,10 @@ mod staged_calls;
 mod staged_items;
 mod staging;
 mod state;
+mod stored;
 mod tablet_lane;
 mod tablets;
 #[cfg(test)]
 mod tests;
+mod waiting;
 mod work;

@@ -1,15 +1,20 @@
-ghost use Rattle.std.specs.Prelude.{◌≡◌, ◌≤◌, Some, None, replicate, IfOk, OnErr};
+ghost use Rattle.std.specs.Prelude.{◌≡◌, ◌≤◌, Some, None, replicate, IfSome, IsSomeAnd, IfOk, OnOk, OnErr};
 ghost use Rattle.rk_log.specs.Known.{nothing};
 ghost use Rattle.rk_world.specs.Master.{new_master};
 ghost use Rattle.rk_world.specs.Premises.{IsLawfulCall};
+ghost use Rattle.rk_log.specs.Log.{IsBackup, overreach};
+ghost use Rattle.rk_world.specs.Commits.{stored_taken};
 ghost use Rattle.rk_world.specs.Requests.{call_of, request_taken};
+ghost use Rattle.rk_world.specs.Step.{with_added};
 
 use crate::requests::take_request;
 use crate::state::MasterState;
+use crate::stored::take_stored;
+use crate::tablets::serve;
 use crate::work::Worked;
 use rk_log::MOST_BACKUPS;
-use rk_message::Request;
-use rk_types::NoMemory;
+use rk_message::{Request, Stored};
+use rk_types::{NoMemory, Range};
 use std::alloc::Global;
 use std::marker::Model;
 
@@ -35,7 +40,8 @@ impl Model for MasterLane {
 }
 
 impl MasterLane {
-    ghost use Rattle.rk_master.specs.Lane.{HasWorked};
+    ghost use Rattle.rk_master.specs.Lane.{IsWork};
+    ghost use Rattle.rk_master.specs.Parts.{AreClosable};
 
     /// A master that knows nothing yet, with so many backups, which are numbered from 1.
     pub fn new(alloc: Global, number: u8, backups: u8) -> Result<MasterLane, NoMemory>
@@ -54,7 +60,7 @@ impl MasterLane {
     /// copy the key and the value and to spell the entry.
     pub fn handle(&mut self, client: u32, request: &Request) -> Result<Worked, NoMemory>
         requires { IsLawfulCall (call_of client request.now) }
-        ensures ok { IfOk result (HasWorked (λ master. request_taken master client request.now) self.old self.new) }
+        ensures ok { IfOk result (λ work. IsSomeAnd self.old (λ master. IsWork (request_taken master client request.now) self.new work)) }
         ensures err { OnErr result (self.new ≡ None) }
     {
         if self.spent {
@@ -64,5 +70,39 @@ impl MasterLane {
         let work = take_request(&mut self.state, client, request)?;
         self.spent = false;
         Ok(work)
+    }
+
+    /// Takes a backup's word that it holds so much of a segment; more than the segment has is ignored. What every backup
+    /// holds by then is applied, and what waited for it goes on. After `NoMemory` the master is spent; it also comes where
+    /// the log is full. A step for each entry that is committed and each segment that the backup is now known to hold
+    /// whole, a few searches for each entry and a look at each tablet where a call ends; a step for each staged entry
+    /// only where a tablet closes.
+    pub fn take_stored(&mut self, backup: u8, stored: Stored) -> Result<Worked, NoMemory>
+        requires backup { IfSome self.old (λ master. IsBackup master.log backup) }
+        requires lawful { IfSome self.old (λ master. AreClosable master.tablets) }
+        ensures ok { IfOk result (λ work. IsSomeAnd self.old (λ master.
+            IsWork (stored_taken master backup stored (overreach master.log stored.segment stored.length)) self.new work)) }
+        ensures err { OnErr result (self.new ≡ None) }
+    {
+        if self.spent {
+            return Err(NoMemory);
+        }
+        self.spent = true;
+        let work = take_stored(&mut self.state, backup, stored)?;
+        self.spent = false;
+        Ok(work)
+    }
+
+    /// Adds a tablet, which is served from now on. `NoMemory` also where the master is spent; nothing has changed then. A
+    /// binary search, and what an insertion takes.
+    pub fn add(&mut self, tablet: u32, range: Range) -> Result<(), NoMemory>
+        ensures ok { OnOk result (IsSomeAnd self.old (λ master. self.new ≡ Some (with_added master tablet range))) }
+        ensures err { OnErr result (self.new ≡ self.old) }
+    {
+        if self.spent {
+            return Err(NoMemory);
+        }
+        serve(&mut self.state.tablets, tablet, range)?;
+        Ok(())
     }
 }

@@ -1,5 +1,5 @@
 // What a master makes of a request: a choice, and what the choice changes, tells and serves.
-ghost use Rattle.std.specs.Prelude.{◌≡◌, ℕ, [], IfOk, OnOk};
+ghost use Rattle.std.specs.Prelude.{◌≡◌, ℕ, IfOk, OnOk};
 ghost use Rattle.rk_world.specs.Premises.{IsLawfulCall};
 ghost use Rattle.rk_world.specs.Requests as requests;
 ghost use Rattle.rk_world.specs.Worked.{sending};
@@ -69,14 +69,6 @@ fn carry_out(
 }
 
 impl MasterState {
-    // Nothing is sent or served.
-    fn nothing(&self) -> Worked
-        ensures sends { result.sends.items ≡ [] }
-        ensures served { result.served.items ≡ [] }
-    {
-        Worked::nothing(*self.tablets.allocator())
-    }
-
     // The client of a call is answered.
     fn tell(&self, call: &Call, answer: Answer) -> Result<Worked, NoMemory>
         ensures { IfOk result (λ work. worked_of (master_of self.now) work

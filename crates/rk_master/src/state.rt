@@ -1,4 +1,4 @@
-ghost use Rattle.std.specs.Prelude.{◌≡◌, ◌≤◌, List, Option, true, replicate, IfOk};
+ghost use Rattle.std.specs.Prelude.{◌≡◌, ◌≤◌, List, [], Option, true, replicate, IfOk};
 ghost use Rattle.rk_log.specs.Known.{nothing};
 ghost use Rattle.std.specs.List.{find};
 ghost use Rattle.std.specs.Option.{option_copied, option_map, option_or};
@@ -18,6 +18,7 @@ use crate::choice::{Seen, fresh_mutation, fresh_read, is_mutation};
 use crate::staged_calls::StagedCalls;
 use crate::staged_items::StagedItems;
 use crate::tablet_lane::TabletLane;
+use crate::work::Worked;
 use rk_done::Look;
 use rk_log::{MOST_BACKUPS, MasterLog};
 use rk_table::{RecordTable, SortedTable};
@@ -55,6 +56,14 @@ impl MasterState {
             records: SortedTable::new(alloc),
             tablets: Vec::new(alloc),
         })
+    }
+
+    /// Nothing is sent, and no call served.
+    pub(crate) fn nothing(&self) -> Worked
+        ensures sends { result.sends.items ≡ [] }
+        ensures served { result.served.items ≡ [] }
+    {
+        Worked::nothing(*self.tablets.allocator())
     }
 
     /// What is done with a call; nothing is changed. A look at each tablet, and a few searches.

@@ -1,14 +1,16 @@
 // The tablets of a master, by rising number.
-ghost use Rattle.std.specs.Prelude.{◌≡◌, IsSome, IfOk, IfErr, OnOk};
+ghost use Rattle.std.specs.Prelude.{◌≡◌, IsSome, IfOk, IfErr, OnOk, OnErr};
 ghost use Rattle.std.specs.Int.{w64};
 ghost use Rattle.rk_types.specs.NumberMap.{IsInOrder, get, insert};
 ghost use Rattle.rk_entry.specs.Numbers.{IsNumber};
+ghost use Rattle.rk_world.specs.Tablet.{with_handover};
 ghost use Rattle.rk_world.specs.Requests.{counted_up, with_wanted};
-ghost use Rattle.rk_master.specs.Parts.{tablet_in, tablets_of};
+ghost use Rattle.rk_master.specs.Parts.{served, tablet_in, tablets_of};
 ghost use Rattle.rk_master.specs.Places.{IsAt, IsBetween};
 
 use crate::tablet_lane::TabletLane;
-use rk_types::NoMemory;
+use rk_transfer::{Handover, Role};
+use rk_types::{NoMemory, Range};
 
 /// The place of the tablet of this number, or where it would stand. One binary search.
 pub(crate) fn search(tablets: &[(u32, TabletLane)], number: u32) -> Result<usize, usize>
@@ -60,4 +62,36 @@ pub(crate) fn want(
     let tablet = &mut tablets[at].1;
     tablet.want(hash)?;
     Ok(())
+}
+
+/// The tablet of this number is served from now on, at term 1. After `NoMemory` nothing has changed. One binary search,
+/// and what an insertion takes.
+pub(crate) fn serve(
+    tablets: &mut Vec<(u32, TabletLane)>,
+    number: u32,
+    range: Range,
+) -> Result<(), NoMemory>
+    requires { IsInOrder tablets.old.items }
+    ensures ok { OnOk result (tablets_of tablets.new.items ≡ insert (tablets_of tablets.old.items) number
+        (with_handover (tablet_in tablets.old.items number) (served range))) }
+    ensures order { IsInOrder tablets.new.items }
+    ensures err { OnErr result (tablets.new.items ≡ tablets.old.items) }
+{
+    let handover = Handover {
+        role: Role::Serving,
+        term: 1,
+        range,
+        counter: 1,
+    };
+    match search(tablets.as_slice(), number) {
+        Ok(at) => {
+            tablets[at].1.handover = handover;
+            Ok(())
+        }
+        Err(at) => {
+            let tablet = TabletLane::new(*tablets.allocator(), handover);
+            tablets.insert(at, (number, tablet))?;
+            Ok(())
+        }
+    }
 }

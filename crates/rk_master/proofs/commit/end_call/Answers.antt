@@ -1,4 +1,4 @@
-use Rattle.std.proofs.Common.{◌≡◌, ℕ, Option, List, [], ◌∷◌, ◌++◌, map, refl, sym, ap, ◌∙◌}
+use Rattle.std.proofs.Common.{Option, List, [], ◌∷◌, ◌++◌, map, refl, sym, ap, ◌∙◌}
 use Rattle.std.proofs.lemmas.List.{with_items_is}
 use Rattle.rk_types.specs.NumberMap.{NumberMap, get}
 use Rattle.rk_types.specs.declared.call.Answer.TheVariants.{Done}
@@ -8,7 +8,6 @@ use Rattle.rk_message.specs.declared.message.Message.{Message}
 use Rattle.rk_world.specs.Requests.{answering}
 use Rattle.rk_world.specs.Commits.{noting, with_ended}
 use Rattle.rk_world.specs.Master.{Master}
-use Rattle.rk_world.specs.Worked.{Worked}
 use Rattle.rk_master.specs.Places.{Row}
 use Rattle.rk_master.specs.Parts.{behind, tablets_of, worked_of}
 use Rattle.rk_master.specs.State.{master_of}
