@@ -1,28 +1,18 @@
 -- What was waited for goes on, at one tablet after the other.
-use Rattle.std.proofs.Common.{◌≡◌, ℕ, ◌+◌, ◌&&◌, not, map, Bool, true, false, cond, List, [], ◌∷◌, length, drop, slice_get, Option, Some, None, is_some, refl, sym, ap, ◌∙◌, subst}
+use Rattle.std.proofs.Common.{◌≡◌, ℕ, ◌+◌, true, false, List, [], length, drop, slice_get, Option, Some, None, is_some, refl, sym, ap, ◌∙◌}
 use Rattle.std.proofs.lemmas.List.{append-nil}
 use Rattle.std.proofs.lemmas.Bool.{cond-true, cond-false, false≢true}
-use Rattle.rk_types.specs.NumberMap.{NumberMap, get}
-use Rattle.rk_types.specs.declared.call.Call.{Call}
-use Rattle.rk_types.specs.declared.call.Ended.{Ended}
-use Rattle.rk_entry.specs.declared.entry.Entry.{Entry}
 use Rattle.rk_transfer.specs.Handover.{joined}
 use Rattle.rk_transfer.specs.declared.handover.Handover.{Handover}
 use Rattle.rk_transfer.specs.declared.role.Role.{Role}
 use Rattle.rk_transfer.specs.declared.role.Role.TheVariants as roles
-use Rattle.rk_world.specs.Ends.{told_by}
 use Rattle.rk_world.specs.Tablet.{Tablet, with_handover}
 use Rattle.rk_world.specs.Master.{Master, is_settled, with_tablet}
 use Rattle.rk_world.specs.Worked.{Worked, changed, then_works}
-use Rattle.rk_world.specs.Ranges.{has_key}
-use Rattle.rk_world.specs.RoleTests.{is_absent}
-use Rattle.rk_done.specs.Completions.{noted}
-use Rattle.rk_world.specs.Commits.{noting, with_applied, with_entry_item, with_ended, apply_entry, apply_entries}
 use Rattle.rk_world.specs.Waiting.{all_going_on, freezing, tablet_frozen, closing_entry, closing_appended, is_sealed_stored, going_on_in}
 use Rattle.rk_master.specs.declared.work.Worked.{Worked as Work}
-use Rattle.rk_master.specs.Parts.{tablet_of, tablets_of, worked_of, IsClosable, AreClosable}
+use Rattle.rk_master.specs.Parts.{tablet_of, tablets_of, worked_of}
 use Rattle.rk_master.specs.Places.{Row}
-use Rattle.rk_master.proofs.Applying.{entry_item_is}
 use Rattle.rk_master.proofs.Keeping.{from_place}
 
 -- a tablet of which nothing is staged freezes
@@ -69,11 +59,6 @@ not_there (Some place) none = absurd (false≢true (sym none))
 
 -- ---- one tablet after the other
 
--- what holds of the rows from a place on holds of the one there and of those behind it
-pub next_lawful : (rows : List Row) (at : ℕ) (row : Row) → slice_get rows at ≡ Some row → AreClosable (tablets_of (drop at rows))
-    → IsClosable (tablet_of row.1) × AreClosable (tablets_of (drop (at + 1) rows))
-next_lawful rows at row there lawful = subst (λ (xs : List Row). AreClosable (tablets_of xs)) (from_place rows at row there) lawful
-
 -- what was waited for went on at one more tablet
 pub gone_on : (master after : Master) (rows : List Row) (at : ℕ) (row : Row) → slice_get rows at ≡ Some row
     → after ≡ going_on_in master row.0 (tablet_of row.1) row.1.handover.role
@@ -81,36 +66,6 @@ pub gone_on : (master after : Master) (rows : List Row) (at : ℕ) (row : Row) �
 gone_on master after rows at row there is =
     ap (λ (m : Master). all_going_on m (tablets_of (drop (at + 1) rows))) is
     ∙ ap (λ (xs : List Row). all_going_on master (tablets_of xs)) (sym (from_place rows at row there))
-
--- ---- after entries were applied
-
--- an end that is noted leaves the closing entry as it is
-noted_closable : (call : Call) (end : Ended) (tablet : Tablet) → IsClosable tablet → IsClosable (noting call end tablet)
-noted_closable call end tablet lawful =
-    go (not (is_absent tablet.handover.role) && has_key tablet.handover.range call.table call.key)
-  where
-    go : (b : Bool) → IsClosable (cond b (record tablet { completions = noted tablet.completions end }) tablet)
-    go true = lawful
-    go false = lawful
-
-all_noted_closable : (call : Call) (end : Ended) (tablets : NumberMap Tablet) → AreClosable tablets → AreClosable (map (λ entry. (entry.0, noting call end entry.1)) tablets)
-all_noted_closable call end [] lawful = tt
-all_noted_closable call end (entry ∷ tablets) lawful = (noted_closable call end entry.1 lawful.0, all_noted_closable call end tablets lawful.1)
-
-ended_closable : (master : Master) (place : ℕ) (call : Option Call) (ends : List Ended) → AreClosable master.tablets → AreClosable (with_ended master place call ends).master.tablets
-ended_closable master place None ends lawful = lawful
-ended_closable master place (Some call) [] lawful = lawful
-ended_closable master place (Some call) (end ∷ ends) lawful = all_noted_closable call end master.tablets lawful
-
-entry_closable : (master : Master) (entry : Entry) → AreClosable master.tablets → AreClosable (apply_entry master entry).master.tablets
-entry_closable master entry lawful =
-    ended_closable (with_applied (with_entry_item master entry)) master.applied (get master.calls master.applied) (told_by entry)
-    (subst (λ (m : Master). AreClosable m.tablets) (entry_item_is master entry) lawful)
-
--- entries that are applied leave the closing entries as they are
-pub entries_closable : (master : Master) (entries : List Entry) → AreClosable master.tablets → AreClosable (apply_entries master entries).master.tablets
-entries_closable master [] lawful = lawful
-entries_closable master (entry ∷ entries) lawful = entries_closable (apply_entry master entry).master entries (entry_closable master entry lawful)
 
 -- what was waited for went on behind other work
 pub went_on : (work : Work) (master after : Master) (worked : Worked) → worked_of master work ≡ worked → after ≡ all_going_on master master.tablets

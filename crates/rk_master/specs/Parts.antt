@@ -3,7 +3,7 @@ use Rattle.std.specs.Prelude.{◌≡◌, ℕ, List, [], ◌++◌, Option, Some, 
 use Rattle.std.specs.List.{AllByRecursion}
 use Rattle.rk_types.specs.declared.held.Held.{Held}
 use Rattle.rk_types.specs.declared.range.Range.{Range}
-use Rattle.rk_types.specs.NumberMap.{NumberMap, get_or}
+use Rattle.rk_types.specs.NumberMap.{NumberMap, IsInOrder, get_or}
 use Rattle.rk_entry.specs.declared.entry.Entry.{Entry}
 use Rattle.rk_entry.specs.declared.entry.Entry.TheVariants as entries
 use Rattle.rk_entry.specs.Lawful.{IsLawfulEntry}
@@ -64,6 +64,11 @@ IsClosable tablet = tablet.handover.role ≡ roles.Joining None → IsLawfulEntr
 -- so can each of them
 abbrev pub AreClosable : NumberMap Tablet → Type 0
 AreClosable tablets = AllByRecursion (λ entry. IsClosable entry.1) tablets
+
+-- the tablets of a master stand by rising number, and what closes their roles can be spelled
+pub record AreTablets (tablets : List (ℕ × TabletLane)) : Type 0 where
+  pub order : IsInOrder tablets
+  pub closable : AreClosable (tablets_of tablets)
 
 -- the handover of a tablet that is served from the start
 abbrev pub served : Range → Handover

@@ -1,12 +1,12 @@
 // Commits: entries that every backup holds are applied, one after the other.
 ghost use Rattle.std.specs.Prelude.{◌≡◌, ◌<◌, ◌+◌, ◌∷◌, List, Some, length, map, drop, slice_get, IfOk, OnOk, OnErr};
-ghost use Rattle.rk_types.specs.NumberMap.{IsInOrder, get};
+ghost use Rattle.rk_types.specs.NumberMap.{get};
 ghost use Rattle.rk_types.specs.declared.call.Ended.{Ended as Ending};
 ghost use Rattle.rk_table.specs.Sorted.{items_of as records_of};
 ghost use Rattle.rk_world.specs.Commits.{apply_entries, apply_entry, newly_held, noting, with_applied, with_ended, with_entry_item};
 ghost use Rattle.rk_world.specs.Ends.{end_of_item as item_end_lem, end_of_refusal as refusal_end_lem, items_of, told_by};
 ghost use Rattle.rk_master.specs.Kept.{IsKept};
-ghost use Rattle.rk_master.specs.Parts.{behind, tablet_of, tablets_of, with_items_of, worked_of};
+ghost use Rattle.rk_master.specs.Parts.{AreTablets, behind, tablet_of, tablets_of, with_items_of, worked_of};
 ghost use Rattle.rk_master.specs.State.{IsState, master_of};
 
 use crate::choice::outcome_of;
@@ -75,9 +75,9 @@ fn note(tablet: &mut TabletLane, call: &Call, end: Ended) -> Result<(), NoMemory
 
 // Notes the end of a call in each tablet that is not absent and has the key. A look at each tablet.
 fn note_in_each(tablets: &mut [(u32, TabletLane)], call: &Call, end: Ended) -> Result<(), NoMemory>
-    requires { IsInOrder tablets.old }
+    requires { AreTablets tablets.old }
     ensures noted { OnOk result (tablets_of tablets.new ≡ map (λ entry. (entry.0, noting call.now end entry.1)) (tablets_of tablets.old)) }
-    ensures order { OnOk result (IsInOrder tablets.new) }
+    ensures tablets { OnOk result (AreTablets tablets.new) }
 {
     for entry in tablets.iter_mut() {
         note(&mut entry.1, call, end)?;

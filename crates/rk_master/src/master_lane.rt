@@ -1,4 +1,4 @@
-ghost use Rattle.std.specs.Prelude.{◌≡◌, ◌≤◌, Some, None, replicate, IfSome, IsSomeAnd, IfOk, OnOk, OnErr};
+ghost use Rattle.std.specs.Prelude.{◌≡◌, ◌≤◌, length, Some, None, replicate, IfSome, IsSomeAnd, IfOk, OnOk, OnErr};
 ghost use Rattle.rk_log.specs.Known.{nothing};
 ghost use Rattle.rk_world.specs.Master.{new_master};
 ghost use Rattle.rk_world.specs.Premises.{IsLawfulCall};
@@ -41,7 +41,6 @@ impl Model for MasterLane {
 
 impl MasterLane {
     ghost use Rattle.rk_master.specs.Lane.{IsWork};
-    ghost use Rattle.rk_master.specs.Parts.{AreClosable};
 
     /// A master that knows nothing yet, with so many backups, which are numbered from 1.
     pub fn new(alloc: Global, number: u8, backups: u8) -> Result<MasterLane, NoMemory>
@@ -53,6 +52,13 @@ impl MasterLane {
             state: MasterState::new(alloc, number, backups)?,
             spent: false,
         })
+    }
+
+    /// How many backups there are.
+    pub fn backups(&self) -> u8
+        ensures { IfSome self.now (λ master. result ≡ length master.log.known) }
+    {
+        self.state.backups
     }
 
     /// Takes a client's request: answers it at once, or stages it. After `NoMemory` the master is spent; it also comes
@@ -78,8 +84,7 @@ impl MasterLane {
     /// whole, a few searches for each entry and a look at each tablet where a call ends; a step for each staged entry
     /// only where a tablet closes.
     pub fn take_stored(&mut self, backup: u8, stored: Stored) -> Result<Worked, NoMemory>
-        requires backup { IfSome self.old (λ master. IsBackup master.log backup) }
-        requires lawful { IfSome self.old (λ master. AreClosable master.tablets) }
+        requires { IfSome self.old (λ master. IsBackup master.log backup) }
         ensures ok { IfOk result (λ work. IsSomeAnd self.old (λ master.
             IsWork (stored_taken master backup stored (overreach master.log stored.segment stored.length)) self.new work)) }
         ensures err { OnErr result (self.new ≡ None) }

@@ -31,6 +31,7 @@ use std::alloc::Global;
 #[derive(Drop)]
 pub(crate) struct MasterState {
     pub(crate) number: u8,
+    pub(crate) backups: u8,
     pub(crate) log: MasterLog,
     pub(crate) applied: u64,
     pub(crate) calls: StagedCalls,
@@ -49,6 +50,7 @@ impl MasterState {
     {
         Ok(MasterState {
             number,
+            backups,
             log: MasterLog::new(alloc, backups)?,
             applied: 0,
             calls: StagedCalls::new(alloc),

@@ -2,7 +2,7 @@
 ghost use Rattle.std.specs.Prelude.{◌≡◌, IfOk, OnOk};
 ghost use Rattle.rk_log.specs.Log.{IsBackup, overreach};
 ghost use Rattle.rk_world.specs.Commits.{stored_taken};
-ghost use Rattle.rk_master.specs.Parts.{AreClosable, worked_of};
+ghost use Rattle.rk_master.specs.Parts.{worked_of};
 ghost use Rattle.rk_master.specs.State.{IsState, master_of};
 
 use crate::commit::apply_held;
@@ -21,7 +21,6 @@ pub(crate) fn take_stored(
 ) -> Result<Worked, NoMemory>
     requires state { IsState state.old }
     requires backup { IsBackup state.old.log backup }
-    requires lawful { AreClosable (master_of state.old).tablets }
     ensures state { OnOk result (IsState state.new) }
     ensures ok { IfOk result (λ work. worked_of (master_of state.new) work
         ≡ stored_taken (master_of state.old) backup stored (overreach state.old.log stored.segment stored.length)) }

@@ -107,6 +107,7 @@ impl TabletLane {
     /// A tablet that closes freezes.
     pub(crate) fn freeze(&mut self)
         requires { self.old.handover.role ≡ Role.Closing }
+        ensures role { self.new.handover.role ≡ Role.Frozen }
         ensures moved { frozen self.old.handover self.old.handover.term ≡ Some self.new.handover }
         ensures tablet { tablet_of self.new ≡ with_handover (tablet_of self.old) self.new.handover }
     {
@@ -117,6 +118,7 @@ impl TabletLane {
     /// A target that has all takes the place of the entry that closes its role.
     pub(crate) fn join(&mut self, place: u64)
         requires { self.old.handover.role ≡ Role.Joining None }
+        ensures role { self.new.handover.role ≡ Role.Joining (Some place) }
         ensures moved { joined self.old.handover self.old.handover.term (Some place) ≡ Some self.new.handover }
         ensures tablet { tablet_of self.new ≡ with_handover (tablet_of self.old) self.new.handover }
     {

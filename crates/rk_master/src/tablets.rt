@@ -5,7 +5,7 @@ ghost use Rattle.rk_types.specs.NumberMap.{IsInOrder, get, insert};
 ghost use Rattle.rk_entry.specs.Numbers.{IsNumber};
 ghost use Rattle.rk_world.specs.Tablet.{with_handover};
 ghost use Rattle.rk_world.specs.Requests.{counted_up, with_wanted};
-ghost use Rattle.rk_master.specs.Parts.{served, tablet_in, tablets_of};
+ghost use Rattle.rk_master.specs.Parts.{AreTablets, served, tablet_in, tablets_of};
 ghost use Rattle.rk_master.specs.Places.{IsAt, IsBetween};
 
 use crate::tablet_lane::TabletLane;
@@ -33,12 +33,12 @@ pub(crate) fn place_of(tablets: &[(u32, TabletLane)], number: u32) -> usize
 /// Gives the next version of the tablet of this number, which is there: its counter rises by one. `NoMemory` where no
 /// version is left. One binary search.
 pub(crate) fn next_version(tablets: &mut [(u32, TabletLane)], number: u32) -> Result<u64, NoMemory>
-    requires order { IsInOrder tablets.old }
+    requires tablets { AreTablets tablets.old }
     requires there { IsSome (get tablets.old number) }
     ensures version { IfOk result (λ version. version ≡ (tablet_in tablets.old number).handover.counter) }
     ensures lawful { IfOk result (IsNumber w64 1) }
     ensures counter { OnOk result (tablets_of tablets.new ≡ insert (tablets_of tablets.old) number (counted_up (tablet_in tablets.old number))) }
-    ensures order { OnOk result (IsInOrder tablets.new) }
+    ensures tablets { OnOk result (AreTablets tablets.new) }
 {
     let at = place_of(tablets, number);
     let tablet = &mut tablets[at].1;
@@ -53,10 +53,10 @@ pub(crate) fn want(
     number: u32,
     hash: u64,
 ) -> Result<(), NoMemory>
-    requires order { IsInOrder tablets.old }
+    requires tablets { AreTablets tablets.old }
     requires there { IsSome (get tablets.old number) }
     ensures wanted { OnOk result (tablets_of tablets.new ≡ insert (tablets_of tablets.old) number (with_wanted (tablet_in tablets.old number) hash)) }
-    ensures order { OnOk result (IsInOrder tablets.new) }
+    ensures tablets { OnOk result (AreTablets tablets.new) }
 {
     let at = place_of(tablets, number);
     let tablet = &mut tablets[at].1;
@@ -71,10 +71,10 @@ pub(crate) fn serve(
     number: u32,
     range: Range,
 ) -> Result<(), NoMemory>
-    requires { IsInOrder tablets.old.items }
+    requires { AreTablets tablets.old.items }
     ensures ok { OnOk result (tablets_of tablets.new.items ≡ insert (tablets_of tablets.old.items) number
         (with_handover (tablet_in tablets.old.items number) (served range))) }
-    ensures order { IsInOrder tablets.new.items }
+    ensures tablets { AreTablets tablets.new.items }
     ensures err { OnErr result (tablets.new.items ≡ tablets.old.items) }
 {
     let handover = Handover {

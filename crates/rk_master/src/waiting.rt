@@ -2,13 +2,12 @@
 // that has all appends its closing entry once its side segments are stored.
 ghost use Rattle.std.specs.Prelude.{◌≡◌, ◌≤◌, ◌<◌, ◌+◌, Some, None, not, length, drop, slice_get, OnOk};
 ghost use Rattle.std.specs.List.{list_all, list_any};
-ghost use Rattle.rk_entry.specs.Lawful.{IsLawfulEntry};
 ghost use Rattle.rk_log.specs.Log.{is_side_stored};
 ghost use Rattle.rk_transfer.specs.Handover.{frozen};
 ghost use Rattle.rk_world.specs.Ranges.{has_key as has_key_lem};
 ghost use Rattle.rk_world.specs.Master.{touches as touches_lem};
 ghost use Rattle.rk_world.specs.Waiting as waiting;
-ghost use Rattle.rk_master.specs.Parts.{AreClosable, IsClosable, tablet_of};
+ghost use Rattle.rk_master.specs.Parts.{tablet_of};
 ghost use Rattle.rk_master.specs.Places.{Row};
 ghost use Rattle.rk_master.specs.State.{IsState, master_of};
 
@@ -23,8 +22,7 @@ use rk_types::{Key, NoMemory, Range, hash};
 /// What was waited for goes on, tablet by tablet. A look at each tablet; at one that closes a step for each staged entry,
 /// and at a target that has all one for each of its side segments and each backup.
 pub(crate) fn go_on(state: &mut MasterState) -> Result<(), NoMemory>
-    requires state { IsState state.old }
-    requires lawful { AreClosable (master_of state.old).tablets }
+    requires { IsState state.old }
     ensures state { OnOk result (IsState state.new) }
     ensures ok { OnOk result (master_of state.new ≡ waiting.all_going_on (master_of state.old) (master_of state.old).tablets) }
 {
@@ -38,7 +36,6 @@ pub(crate) fn go_on(state: &mut MasterState) -> Result<(), NoMemory>
 fn go_on_at(state: &mut MasterState, at: usize) -> Result<(), NoMemory>
     requires state { IsState state.old }
     requires within { at < length state.old.tablets.items }
-    requires lawful { (row : Row) → slice_get state.old.tablets.items at ≡ Some row → IsClosable (tablet_of row.1) }
     ensures state { OnOk result (IsState state.new) }
     ensures ok { OnOk result ((row : Row) → slice_get state.old.tablets.items at ≡ Some row
         → master_of state.new ≡ waiting.going_on_in (master_of state.old) row.0 (tablet_of row.1) row.1.handover.role) }
@@ -87,7 +84,6 @@ fn close_at(state: &mut MasterState, at: usize) -> Result<(), NoMemory>
     requires state { IsState state.old }
     requires within { at < length state.old.tablets.items }
     requires role { (row : Row) → slice_get state.old.tablets.items at ≡ Some row → row.1.handover.role ≡ Role.Joining None }
-    requires lawful { (row : Row) → slice_get state.old.tablets.items at ≡ Some row → IsLawfulEntry (waiting.joined_entry (tablet_of row.1)) }
     ensures state { OnOk result (IsState state.new) }
     ensures ok { OnOk result ((row : Row) → slice_get state.old.tablets.items at ≡ Some row
         → master_of state.new ≡ waiting.going_on_in (master_of state.old) row.0 (tablet_of row.1) (Role.Joining None)) }

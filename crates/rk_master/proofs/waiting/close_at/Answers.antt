@@ -7,9 +7,10 @@ use Rattle.rk_transfer.specs.declared.handover.Handover.{Handover}
 use Rattle.rk_log.specs.Log.{Log, with_entry}
 use Rattle.rk_world.specs.Master.{Master}
 use Rattle.rk_world.specs.Waiting.{is_sealed_stored, joined_entry}
-use Rattle.rk_master.specs.Parts.{tablet_of}
+use Rattle.rk_master.specs.Parts.{IsClosable, tablet_of}
 use Rattle.rk_master.specs.Places.{Row}
 use Rattle.rk_master.specs.State.{master_of}
+use Rattle.rk_master.proofs.Closable.{closable_at, closable_set}
 use Rattle.rk_master.proofs.GoingOn.{closed_so, still_waits}
 use Rattle.rk_master.proofs.Places.{row_there, moved_there, moved_order}
 use Rattle.rk_master.proofs.waiting.close_at.Goals as goal
@@ -30,8 +31,9 @@ join-requires c =
 pub append-requires : goal.append-requires
 append-requires c =
     let rows : List Row = c.args.state.now.tablets.items in
-    subst IsLawfulEntry (sym c.in_ok-entry.ensures)
-    (c.requires.lawful c.index.result.now (slice_get-get_or rows c.args.at c.index.result.now c.requires.within ∙ ap (λ (r : Row). Some r) (sym c.index.ensures)))
+    let there = slice_get-get_or rows c.args.at c.index.result.now c.requires.within ∙ ap (λ (r : Row). Some r) (sym c.index.ensures) in
+    let closable : IsClosable (tablet_of c.index.result.now.1) = subst (λ (r : Row). IsClosable (tablet_of r.1)) (sym c.index.ensures) (closable_at rows c.args.at c.index.result.now c.requires.within c.requires.state.tablets.closable) in
+    subst IsLawfulEntry (sym c.in_ok-entry.ensures) (closable (c.requires.role c.index.result.now there))
 
 pub returns-clause-state : goal.returns-clause-state
 returns-clause-state c =
@@ -41,7 +43,11 @@ returns-clause-state c =
     record {
       within = subst (λ (log : Log). c.args.state.now.applied ≤ length log.entries) (sym c.in_ok-append.ensures.log) longer;
       kept = c.in_ok-append.ensures.kept c.args.state.now.applied before c.requires.state.kept;
-      order = moved_order c.args.state.now.tablets.items c.args.at c.index_mut.result.now c.join.new.self c.requires.state.order c.requires.within c.index_mut.ensures.value;
+      tablets = record {
+        order = moved_order c.args.state.now.tablets.items c.args.at c.index_mut.result.now c.join.new.self c.requires.state.tablets.order c.requires.within c.index_mut.ensures.value;
+        closable = closable_set c.args.state.now.tablets.items c.args.at (c.index_mut.result.now.0, c.join.new.self) c.requires.state.tablets.closable (λ role. cc (role, c.join.ensures.role));
+      };
+      backups = ap (λ (log : Log). length log.known) c.in_ok-append.ensures.log ∙ c.requires.state.backups;
     }
 
 pub returns-clause-ok : goal.returns-clause-ok
@@ -57,6 +63,6 @@ returns-clause-ok c = λ row at.
     subst (λ (r : Row). joined r.1.handover r.1.handover.term place ≡ Some handover) it_is (ap (λ (n : ℕ). joined read.1.handover read.1.handover.term (Some n)) (sym c.length-place.ensures) ∙ c.join.ensures.moved) in
     let stored : is_sealed_stored master (tablet_of row.1) ≡ true = subst (λ (r : Row). is_sealed_stored master (tablet_of r.1) ≡ true) first_is (sym c.is_sealed_stored.ensures ∙ c.if-not-is_sealed_stored.false) in
     let log = c.in_ok-append.ensures.log ∙ ap (with_entry master.log) (c.in_ok-entry.ensures ∙ ap (λ (r : Row). joined_entry (tablet_of r.1)) first_is) in
-    let tablets = moved_there rows c.args.at read row c.join.new.self handover c.requires.state.order c.requires.within c.index_mut.ensures.value at c.join.ensures.tablet in
+    let tablets = moved_there rows c.args.at read row c.join.new.self handover c.requires.state.tablets.order c.requires.within c.index_mut.ensures.value at c.join.ensures.tablet in
     (λ i. record master { log = log i; tablets = tablets i })
     ∙ sym (closed_so master row.0 (tablet_of row.1) handover stored moved)

@@ -7,6 +7,7 @@ use Rattle.rk_world.specs.Tablet.{Tablet}
 use Rattle.rk_master.specs.Parts.{tablet_of}
 use Rattle.rk_master.specs.Places.{Row}
 use Rattle.rk_master.specs.State.{master_of}
+use Rattle.rk_master.proofs.Closable.{closable_set}
 use Rattle.rk_master.proofs.GoingOn.{frozen_so}
 use Rattle.rk_master.proofs.Places.{row_there, moved_there, moved_order}
 use Rattle.rk_master.proofs.waiting.freeze_at.Goals as goal
@@ -15,7 +16,11 @@ pub returns-clause-state : goal.returns-clause-state
 returns-clause-state c = record {
   within = c.requires.state.within;
   kept = c.requires.state.kept;
-  order = moved_order c.args.state.now.tablets.items c.args.at c.index_mut.result.now c.freeze.new.self c.requires.state.order c.requires.within c.index_mut.ensures.value;
+  backups = c.requires.state.backups;
+  tablets = record {
+    order = moved_order c.args.state.now.tablets.items c.args.at c.index_mut.result.now c.freeze.new.self c.requires.state.tablets.order c.requires.within c.index_mut.ensures.value;
+    closable = closable_set c.args.state.now.tablets.items c.args.at (c.index_mut.result.now.0, c.freeze.new.self) c.requires.state.tablets.closable (λ role. cc (role, c.freeze.ensures.role));
+  };
 }
 
 pub returns-clause-ok : goal.returns-clause-ok
@@ -29,5 +34,5 @@ returns-clause-ok c = λ row at.
     let moved : frozen row.1.handover row.1.handover.term ≡ Some handover = subst (λ (r : Row). frozen r.1.handover r.1.handover.term ≡ Some handover) it_is c.freeze.ensures.moved in
     let settled : is_settled master row.1.handover.range ≡ true = subst (λ (r : Row). is_settled master r.1.handover.range ≡ true) first_is (sym c.is_settled.ensures ∙ c.if-not-is_settled.false) in
     ap (λ (tablets : NumberMap Tablet). record master { tablets = tablets })
-    (moved_there rows c.args.at read row c.freeze.new.self handover c.requires.state.order c.requires.within c.index_mut.ensures.value at c.freeze.ensures.tablet)
+    (moved_there rows c.args.at read row c.freeze.new.self handover c.requires.state.tablets.order c.requires.within c.index_mut.ensures.value at c.freeze.ensures.tablet)
     ∙ sym (frozen_so master row.0 (tablet_of row.1) handover (frozen row.1.handover row.1.handover.term) moved settled)

@@ -1,15 +1,12 @@
-use Rattle.std.proofs.Common.{◌<◌, ℕ, List, length, sym, ap, ◌∙◌, subst, arith}
+use Rattle.std.proofs.Common.{◌<◌, ℕ, List, length, ap, ◌∙◌, arith}
 use Rattle.rk_world.specs.Waiting.{all_going_on}
 use Rattle.rk_world.specs.Master.{Master}
-use Rattle.rk_master.specs.Parts.{AreClosable, tablets_of}
+use Rattle.rk_master.specs.Parts.{tablets_of}
 use Rattle.rk_master.specs.Places.{Row}
 use Rattle.rk_master.specs.State.{master_of}
 use Rattle.rk_master.proofs.Applying.{stands}
-use Rattle.rk_master.proofs.GoingOn.{next_lawful, gone_on}
+use Rattle.rk_master.proofs.GoingOn.{gone_on}
 use Rattle.rk_master.proofs.waiting.go_on.Goals as goal
-
-pub go_on_at-requires-clause-lawful : goal.go_on_at-requires-clause-lawful
-go_on_at-requires-clause-lawful c = λ row there. (next_lawful c.loop-at.state.tablets.items c.loop-at.at row there c.loop-at.invariant.lawful).0
 
 pub loop-at-preserved : goal.loop-at-preserved
 loop-at-preserved c =
@@ -21,7 +18,6 @@ loop-at-preserved c =
     record {
       state = c.in_ok-go_on_at.ensures.state;
       length_is = c.in_ok-go_on_at.ensures.length ∙ c.loop-at.invariant.length_is;
-      lawful = subst (λ (xs : List Row). AreClosable (tablets_of xs)) (sym c.in_ok-go_on_at.ensures.behind) (next_lawful rows at there.0 there.1 c.loop-at.invariant.lawful).1;
       rest =
           ap (λ (xs : List Row). all_going_on after (tablets_of xs)) c.in_ok-go_on_at.ensures.behind
           ∙ gone_on (master_of c.loop-at.state) after rows at there.0 there.1 (c.in_ok-go_on_at.ensures.ok there.0 there.1)

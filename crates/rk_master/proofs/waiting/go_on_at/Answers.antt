@@ -9,12 +9,6 @@ use Rattle.rk_master.proofs.GoingOn.{waits_not, not_there}
 use Rattle.rk_master.proofs.Places.{row_there}
 use Rattle.rk_master.proofs.waiting.go_on_at.Goals as goal
 
-pub close_at-requires-clause-lawful : goal.close_at-requires-clause-lawful
-close_at-requires-clause-lawful c = λ row at.
-    let it_is : c.index.result.now ≡ row = c.index.ensures ∙ row_there c.args.state.now.tablets.items c.args.at c.index.result.now row c.requires.within at in
-    c.requires.lawful row at
-    (ap (λ (r : Row). r.1.handover.role) (sym it_is) ∙ c.in-Joining.is ∙ ap (λ (o : Option ℕ). roles.Joining o) (not_there c.in-Joining.entry (sym c.is_some.ensures ∙ c.if-is_some.false)))
-
 pub returns-in-Closing-clause-ok : goal.returns-in-Closing-clause-ok
 returns-in-Closing-clause-ok c = λ row at.
     let master : Master = master_of c.args.state.now in
