@@ -1,5 +1,5 @@
 -- What closes the roles of tablets can be spelled, also after one of them changed.
-use Rattle.std.proofs.Common.{ℕ, zero, suc, ◌<◌, Bool, true, false, cond, not, ◌&&◌, List, [], ◌∷◌, length, get_or, set, arith}
+use Rattle.std.proofs.Common.{◌≡◌, ℕ, zero, suc, ◌<◌, Bool, true, false, cond, not, ◌&&◌, List, [], ◌∷◌, length, get_or, set, sym, subst, arith}
 use Rattle.std.specs.Ordering.{nat_cmp}
 use Rattle.std.specs.declared.cmp.Ordering.{Ordering}
 use Rattle.std.specs.declared.cmp.Ordering.TheVariants.{Less, Equal, Greater}
@@ -12,8 +12,10 @@ use Rattle.rk_world.specs.Commits.{noting}
 use Rattle.rk_world.specs.Ranges.{has_key}
 use Rattle.rk_world.specs.RoleTests.{is_absent}
 use Rattle.rk_world.specs.Tablet.{Tablet}
-use Rattle.rk_master.specs.Parts.{IsClosable, AreClosable, tablet_of, tablets_of}
+use Rattle.rk_master.specs.Parts.{AreTablets, IsClosable, AreClosable, tablet_of, tablets_of}
+use Rattle.rk_master.specs.declared.tablet_lane.TabletLane.{TabletLane}
 use Rattle.rk_master.specs.Places.{Row}
+use Rattle.rk_master.proofs.Places.{at_itself, order_there}
 
 -- it can at each place
 pub closable_at : (rows : List Row) (i : ℕ) (d : Row) → i < length rows → AreClosable (tablets_of rows) → IsClosable (tablet_of (get_or rows i d).1)
@@ -46,3 +48,19 @@ noted_closable call end tablet lawful =
     go : (b : Bool) → IsClosable (cond b (record tablet { completions = noted tablet.completions end }) tablet)
     go true = lawful
     go false = lawful
+
+-- ---- the tablets of a master
+
+-- they stay lawful where one is changed at its place and what closes its role can be spelled
+pub lawful_set : (rows : List Row) (i : ℕ) (d : Row) (lane : TabletLane) → i < length rows → AreTablets rows → IsClosable (tablet_of lane)
+    → AreTablets (set rows i ((get_or rows i d).0, lane))
+lawful_set rows i d lane within old new = record {
+  order = order_there rows (get_or rows i d).0 i d lane old.order (at_itself rows i d within);
+  closable = closable_set rows i ((get_or rows i d).0, lane) old.closable new;
+}
+
+-- so they do where it was read there
+pub lawful_read : (rows : List Row) (i : ℕ) (read : Row) (lane : TabletLane) → i < length rows → read ≡ get_or rows i read → AreTablets rows → IsClosable (tablet_of lane)
+    → AreTablets (set rows i (read.0, lane))
+lawful_read rows i read lane within is old new =
+    subst (λ (r : Row). AreTablets (set rows i (r.0, lane))) (sym is) (lawful_set rows i read lane within old new)

@@ -256,11 +256,6 @@ moved_there rows i read row lane handover order within is at moved =
     ∙ ap (insert (tablets_of rows) (get_or rows i read).0) (moved ∙ ap (λ (r : Row). with_handover (tablet_of r.1) handover) is)
     ∙ ap (λ (r : Row). insert (tablets_of rows) r.0 (with_handover (tablet_of r.1) handover)) (row_there rows i read row within at)
 
--- and the numbers still rise
-pub moved_order : (rows : List Row) (i : ℕ) (read : Row) (lane : TabletLane) → IsInOrder rows → i < length rows → read ≡ get_or rows i read → IsInOrder (set rows i (read.0, lane))
-moved_order rows i read lane order within is =
-    subst (λ (r : Row). IsInOrder (set rows i (r.0, lane))) (sym is) (order_there rows (get_or rows i read).0 i read lane order (at_itself rows i read within))
-
 -- ---- a tablet is added
 
 -- the master has nothing of a tablet that is not there

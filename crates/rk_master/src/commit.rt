@@ -20,8 +20,8 @@ use rk_log::MasterLog;
 use rk_table::{RecordTable, SortedTable};
 use rk_types::{Answer, Call, End, Ended, Held, NoMemory};
 
-/// The first end that an entry tells.
-pub(crate) fn first_end(entry: &Entry) -> Option<Ended>
+// The first end that an entry tells.
+fn first_end(entry: &Entry) -> Option<Ended>
     ensures { result ≡ slice_get (told_by entry.now) 0 }
 {
     match entry {
@@ -61,7 +61,8 @@ fn end_of_refusal(refused: &Refused) -> End
     }
 }
 
-// Notes the end of a call in a tablet, where that is not absent and has the key. One binary search.
+// Notes the end of a call in a tablet, where that is not absent and has the key. One binary search, and for the first
+// call of a client what an insertion takes.
 fn note(tablet: &mut TabletLane, call: &Call, end: Ended) -> Result<(), NoMemory>
     ensures { OnOk result (tablet_of tablet.new ≡ noting call.now end (tablet_of tablet.old)) }
 {
@@ -85,8 +86,8 @@ fn note_in_each(tablets: &mut [(u32, TabletLane)], call: &Call, end: Ended) -> R
     Ok(())
 }
 
-/// The entry at a place is applied: an item is staged no more. After `NoMemory` nothing has changed.
-pub(crate) fn pass(items: &mut StagedItems, log: &MasterLog, place: u64) -> Result<(), NoMemory>
+// The entry at a place is applied: an item is staged no more. After `NoMemory` nothing has changed.
+fn pass(items: &mut StagedItems, log: &MasterLog, place: u64) -> Result<(), NoMemory>
     requires { place < length log.now.entries }
     ensures ok { OnOk result (IsKept items.old.newest (items_of (drop place log.now.entries))
         → IsKept items.new.newest (items_of (drop (place + 1) log.now.entries))) }
@@ -101,8 +102,8 @@ pub(crate) fn pass(items: &mut StagedItems, log: &MasterLog, place: u64) -> Resu
     Ok(())
 }
 
-/// The place after this one, where an entry stands.
-pub(crate) fn next_place(log: &MasterLog, place: u64) -> u64
+// The place after this one, where an entry stands.
+fn next_place(log: &MasterLog, place: u64) -> u64
     requires { place < length log.now.entries }
     ensures { result ≡ place + 1 }
 {

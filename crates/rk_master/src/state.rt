@@ -26,8 +26,8 @@ use rk_types::{Call, Key, NoMemory};
 use rk_world::Choice;
 use std::alloc::Global;
 
-/// All that a master has in a lane. Contracts see it as the master that the definitions speak of, with nothing pulled,
-/// gathered or merged, by [`master_of`].
+/// All that a master has in a lane. Contracts see it by its fields, and say by `master_of` which master of the
+/// definitions it stands for.
 #[derive(Drop)]
 pub(crate) struct MasterState {
     pub(crate) number: u8,

@@ -1,9 +1,9 @@
 use Rattle.std.proofs.Common.{◌∙◌, ◌<◌, ℕ, List, length, get_or, arith, sym, subst}
 use Rattle.rk_world.specs.Commits.{noting}
 use Rattle.rk_master.specs.Parts.{IsClosable, tablet_of}
-use Rattle.rk_master.proofs.Closable.{closable_at, closable_set, noted_closable}
+use Rattle.rk_master.proofs.Closable.{closable_at, lawful_set, noted_closable}
 use Rattle.rk_master.specs.Places.{Row}
-use Rattle.rk_master.proofs.Places.{at_itself, changed_next, order_there}
+use Rattle.rk_master.proofs.Places.{changed_next}
 use Rattle.rk_master.proofs.commit.note_in_each.Goals as goal
 
 pub loop-entry-preserved : goal.loop-entry-preserved
@@ -13,11 +13,9 @@ loop-entry-preserved c =
     let row : Row = c.entry-item.result in
     let within : i < length rows = omega (arith, c.loop-entry-test.true, c.loop-entry.auto.tablets) in
     record {
-      tablets = record {
-        order = order_there rows (get_or rows i row).0 i row c.note.new.tablet c.loop-entry.invariant.tablets.order (at_itself rows i row within);
-        closable = closable_set rows i ((get_or rows i row).0, c.note.new.tablet) c.loop-entry.invariant.tablets.closable
-            (subst IsClosable (sym c.in_ok-note.ensures)
-            (noted_closable c.args.call.now c.args.end (tablet_of (get_or rows i row).1) (closable_at rows i row within c.loop-entry.invariant.tablets.closable)));
-      };
+      tablets =
+          lawful_set rows i row c.note.new.tablet within c.loop-entry.invariant.tablets
+          (subst IsClosable (sym c.in_ok-note.ensures)
+          (noted_closable c.args.call.now c.args.end (tablet_of (get_or rows i row).1) (closable_at rows i row within c.loop-entry.invariant.tablets.closable)));
       rest = changed_next (noting c.args.call.now c.args.end) rows i row c.note.new.tablet within c.in_ok-note.ensures ∙ c.loop-entry.invariant.rest;
     }

@@ -1,13 +1,13 @@
 use Rattle.std.proofs.Common.{List, set, sym, ap, ◌∙◌, subst}
 use Rattle.std.specs.List.{insert as insert_at}
-use Rattle.rk_types.specs.NumberMap.{IsInOrder, insert}
+use Rattle.rk_types.specs.NumberMap.{insert}
 use Rattle.rk_transfer.specs.declared.handover.Handover.{Handover}
 use Rattle.rk_world.specs.Tablet.{Tablet, with_handover}
 use Rattle.rk_master.specs.declared.tablet_lane.TabletLane.{TabletLane}
 use Rattle.rk_master.specs.Parts.{served, tablet_of, tablets_of, IsClosable, AreClosable, AreTablets}
 use Rattle.rk_master.specs.Places.{Row, IsAt, IsBetween}
-use Rattle.rk_master.proofs.Closable.{closable_set, closable_insert}
-use Rattle.rk_master.proofs.Places.{changed_so, order_there, none_there, added_between, added_order}
+use Rattle.rk_master.proofs.Closable.{lawful_read, closable_insert}
+use Rattle.rk_master.proofs.Places.{changed_so, none_there, added_between, added_order}
 use Rattle.rk_master.proofs.tablets.serve.Goals as goal
 
 pub returns-in-Ok-clause-ok : goal.returns-in-Ok-clause-ok
@@ -27,10 +27,7 @@ returns-in-Ok-clause-tablets c =
     let read : Row = c.index_mut.result.now in
     let lane : TabletLane = record read.1 { handover = served c.args.range } in
     let found : IsAt c.args.number rows c.in-Ok.at = subst (λ (xs : List Row). IsAt c.args.number xs c.in-Ok.at) c.as_slice.ensures.value c.in-Ok.ensures.found in
-    record {
-      order = subst (λ (r : Row). IsInOrder (set rows c.in-Ok.at (r.0, lane))) (sym c.index_mut.ensures.value) (order_there rows c.args.number c.in-Ok.at read lane c.requires.order found);
-      closable = closable_set rows c.in-Ok.at (read.0, lane) c.requires.closable (λ role. cc role);
-    }
+    lawful_read rows c.in-Ok.at read lane found.within c.index_mut.ensures.value c.requires (λ role. cc role)
 
 pub returns-in_ok-insert-in-Err-clause-ok : goal.returns-in_ok-insert-in-Err-clause-ok
 returns-in_ok-insert-in-Err-clause-ok c =

@@ -10,9 +10,9 @@ use Rattle.rk_world.specs.Waiting.{is_sealed_stored, joined_entry}
 use Rattle.rk_master.specs.Parts.{IsClosable, tablet_of}
 use Rattle.rk_master.specs.Places.{Row}
 use Rattle.rk_master.specs.State.{master_of}
-use Rattle.rk_master.proofs.Closable.{closable_at, closable_set}
+use Rattle.rk_master.proofs.Closable.{closable_at, lawful_read}
 use Rattle.rk_master.proofs.GoingOn.{closed_so, still_waits}
-use Rattle.rk_master.proofs.Places.{row_there, moved_there, moved_order}
+use Rattle.rk_master.proofs.Places.{row_there, moved_there}
 use Rattle.rk_master.proofs.waiting.close_at.Goals as goal
 
 pub returns-then-not-is_sealed_stored-clause-ok : goal.returns-then-not-is_sealed_stored-clause-ok
@@ -43,10 +43,7 @@ returns-clause-state c =
     record {
       within = subst (λ (log : Log). c.args.state.now.applied ≤ length log.entries) (sym c.in_ok-append.ensures.log) longer;
       kept = c.in_ok-append.ensures.kept c.args.state.now.applied before c.requires.state.kept;
-      tablets = record {
-        order = moved_order c.args.state.now.tablets.items c.args.at c.index_mut.result.now c.join.new.self c.requires.state.tablets.order c.requires.within c.index_mut.ensures.value;
-        closable = closable_set c.args.state.now.tablets.items c.args.at (c.index_mut.result.now.0, c.join.new.self) c.requires.state.tablets.closable (λ role. cc (role, c.join.ensures.role));
-      };
+      tablets = lawful_read c.args.state.now.tablets.items c.args.at c.index_mut.result.now c.join.new.self c.requires.within c.index_mut.ensures.value c.requires.state.tablets (λ role. cc (role, c.join.ensures.role));
       backups = ap (λ (log : Log). length log.known) c.in_ok-append.ensures.log ∙ c.requires.state.backups;
     }
 

@@ -7,9 +7,9 @@ use Rattle.rk_world.specs.Tablet.{Tablet}
 use Rattle.rk_master.specs.Parts.{tablet_of}
 use Rattle.rk_master.specs.Places.{Row}
 use Rattle.rk_master.specs.State.{master_of}
-use Rattle.rk_master.proofs.Closable.{closable_set}
+use Rattle.rk_master.proofs.Closable.{lawful_read}
 use Rattle.rk_master.proofs.GoingOn.{frozen_so}
-use Rattle.rk_master.proofs.Places.{row_there, moved_there, moved_order}
+use Rattle.rk_master.proofs.Places.{row_there, moved_there}
 use Rattle.rk_master.proofs.waiting.freeze_at.Goals as goal
 
 pub returns-clause-state : goal.returns-clause-state
@@ -17,10 +17,7 @@ returns-clause-state c = record {
   within = c.requires.state.within;
   kept = c.requires.state.kept;
   backups = c.requires.state.backups;
-  tablets = record {
-    order = moved_order c.args.state.now.tablets.items c.args.at c.index_mut.result.now c.freeze.new.self c.requires.state.tablets.order c.requires.within c.index_mut.ensures.value;
-    closable = closable_set c.args.state.now.tablets.items c.args.at (c.index_mut.result.now.0, c.freeze.new.self) c.requires.state.tablets.closable (λ role. cc (role, c.freeze.ensures.role));
-  };
+  tablets = lawful_read c.args.state.now.tablets.items c.args.at c.index_mut.result.now c.freeze.new.self c.requires.within c.index_mut.ensures.value c.requires.state.tablets (λ role. cc (role, c.freeze.ensures.role));
 }
 
 pub returns-clause-ok : goal.returns-clause-ok
