@@ -1,5 +1,5 @@
 -- What is done with a call, at the tablet that is served here and has its key.
-use Rattle.std.proofs.Common.{◌≡◌, ℕ, Bool, true, false, cond, List, Option, Some, None, sym, ap, ◌∙◌, subst}
+use Rattle.std.proofs.Common.{◌≡◌, ℕ, Bool, true, false, cond, List, Option, Some, None, sym, ap, ◌∙◌}
 use Rattle.std.specs.Option.{option_or, option_map, option_copied}
 use Rattle.std.specs.List.{find}
 use denote.Ref.{Bor}
@@ -20,15 +20,14 @@ abbrev Row : Type 0
 Row = ℕ × TabletLane
 
 -- the tablet that a search found is the one that is served
-pub served_found : (seen master : Master) (rows lent : List Row) (table : ℕ) (key : List ℕ) (result : Option (Bor Row)) (row : Bor Row)
-    → seen.tablets ≡ tablets_of rows → lent ≡ rows
+pub served_found : (master : Master) (rows lent : List Row) (table : ℕ) (key : List ℕ) (result : Option (Bor Row)) (row : Bor Row)
+    → master.tablets ≡ tablets_of rows → lent ≡ rows
     → option_map (λ entry. (entry.0, tablet_of entry.1)) (option_copied result) ≡ find (λ entry. serves_key table key entry.1) (tablets_of lent)
-    → result ≡ Some row → seen ≡ master → serving master table key ≡ Some (row.now.0, tablet_of row.now.1)
-served_found seen master rows lent table key result row tablets_are lent_is searched is view_is =
-    subst (λ (m : Master). serving m table key ≡ Some (row.now.0, tablet_of row.now.1)) view_is
-    (ap (find (λ entry. serves_key table key entry.1)) tablets_are
+    → result ≡ Some row → serving master table key ≡ Some (row.now.0, tablet_of row.now.1)
+served_found master rows lent table key result row tablets_are lent_is searched is =
+    ap (find (λ entry. serves_key table key entry.1)) tablets_are
     ∙ sym (searched ∙ ap (λ (some_rows : List Row). find (λ entry. serves_key table key entry.1) (tablets_of some_rows)) lent_is)
-    ∙ ap (λ (r : Option (Bor Row)). option_map (λ entry. (entry.0, tablet_of entry.1)) (option_copied r)) is)
+    ∙ ap (λ (r : Option (Bor Row)). option_map (λ entry. (entry.0, tablet_of entry.1)) (option_copied r)) is
 
 -- a mutation
 pub mutation_chosen : (master : Master) (call : Call) (number : ℕ) (tablet : Tablet) → serving master call.table call.key ≡ Some (number, tablet) → is_mutation call.op ≡ true

@@ -249,9 +249,9 @@ kept_some item items table key here none = go (newest (item ∷ items) table key
 -- ---- an entry of the log is applied
 
 -- the entries from a place on are the one there and those behind it
-from_place : (all : List Entry) (place : ℕ) (entry : Entry) → slice_get all place ≡ Some entry → drop place all ≡ entry ∷ drop (place + 1) all
+pub from_place : {X : Type 0} (all : List X) (place : ℕ) (entry : X) → slice_get all place ≡ Some entry → drop place all ≡ entry ∷ drop (place + 1) all
 from_place [] place entry at = cc at
-from_place (first ∷ all) zero entry at = let same : first ≡ entry = cc at in ap (λ (x : Entry). x ∷ all) same
+from_place {X} (first ∷ all) zero entry at = let same : first ≡ entry = cc at in ap (λ (x : X). x ∷ all) same
 from_place (first ∷ all) (suc place) entry at = from_place all place entry at ∙ ap (λ (n : ℕ). entry ∷ drop n (first ∷ all)) (one_later place)
   where
     one_later : (n : ℕ) → suc (n + 1) ≡ suc n + 1

@@ -1,6 +1,6 @@
 -- What is kept of the staged items of each record: of the newest one its version and whether it has a value, and how many
 -- there are.
-use Rattle.std.specs.Prelude.{◌≡◌, ℕ, ◌+◌, nat_lt, if◌then◌else◌, List, [], ◌∷◌, Option, Some, None, is_some}
+use Rattle.std.specs.Prelude.{◌≡◌, ℕ, ◌+◌, nat_lt, if◌then◌else◌, List, [], ◌∷◌, drop, Option, Some, None, is_some}
 use Rattle.std.specs.declared.cmp.Ordering.{Ordering}
 use Rattle.std.specs.Ordering.{nat_cmp, ordering_then}
 use Rattle.std.specs.Cmp.Lexicographic.{slice_cmp}
@@ -9,6 +9,7 @@ use Rattle.rk_types.specs.declared.held.Held.{Held}
 use Rattle.rk_entry.specs.declared.entry.Entry.{Entry}
 use Rattle.rk_entry.specs.declared.entry.Entry.TheVariants as entries
 use Rattle.rk_overlay.specs.Newest.{is_of, newer_of, newest}
+use Rattle.rk_world.specs.Ends.{items_of}
 use Rattle.rk_master.specs.declared.staged_items.Kept.{Kept}
 
 -- a table and a key of it
@@ -49,3 +50,7 @@ IsKept tree items = (table : ℕ) (key : List ℕ) → get name_cmp tree (table,
 abbrev pub newer_in : Option Held → Entry → ℕ → List ℕ → Option Held
 newer_in found (entries.Held item) table key = if is_of table key item then Some (newer_of found item) else found
 newer_in found _ table key = found
+
+-- a tree keeps just what is kept of the items among the entries from a place on
+abbrev pub IsKeptFrom : ℕ → BTreeMap Name Kept → List Entry → Type 0
+IsKeptFrom place tree entries = IsKept tree (items_of (drop place entries))

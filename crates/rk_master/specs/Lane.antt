@@ -1,25 +1,22 @@
 -- What a master in code stands for.
-use Rattle.std.specs.Prelude.{◌≤◌, [], length, drop}
-use Rattle.rk_table.specs.Sorted.{items_of as records_of}
-use Rattle.rk_world.specs.Ends.{items_of}
+use Rattle.std.specs.Prelude.{◌≡◌, false, [], Option, Some, None, if◌then◌else◌}
 use Rattle.rk_world.specs.Master.{Master}
-use Rattle.rk_master.specs.Kept.{IsKept}
-use Rattle.rk_master.specs.Parts.{tablets_of}
+use Rattle.rk_world.specs.Worked.{Worked}
+use Rattle.rk_master.specs.State.{IsState, master_of}
+use Rattle.rk_master.specs.declared.work.Worked.{Worked as Work}
 use Rattle.rk_master.specs.declared.master_lane.MasterLane.TheInside.{Inside}
 
--- the master, with no side segments
-abbrev pub master_of : Inside → Master
-master_of lane = record {
-  number = lane.number;
-  log = lane.log;
-  sides = [];
-  applied = lane.applied;
-  calls = lane.calls;
-  records = records_of lane.records;
-  tablets = tablets_of lane.tablets.items;
-}
+-- the master, or none where it is spent
+abbrev pub lane_of : Inside → Option Master
+lane_of lane = if lane.spent then None else Some (master_of lane.state)
 
--- no more is applied than there is, and the newest staged items are kept
-pub record IsLane (lane : Inside) : Type 0 where
-  pub within : lane.applied ≤ length lane.log.entries
-  pub kept : IsKept lane.items.newest (items_of (drop lane.applied lane.log.entries))
+-- its state is in order, unless it is spent
+abbrev pub IsLane : Inside → Type 0
+IsLane lane = lane.spent ≡ false → IsState lane.state
+
+-- this is what a master has worked: how it is now, what it sends, and which calls it served; no rebuild made a piece of its log
+pub record IsWork (worked : Worked) (after : Option Master) (work : Work) : Type 0 where
+  pub master : after ≡ Some worked.master
+  pub sends : work.sends.items ≡ worked.sends
+  pub served : work.served.items ≡ worked.served
+  pub marked : worked.marked ≡ []

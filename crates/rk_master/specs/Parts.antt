@@ -1,8 +1,20 @@
 -- What the parts of a master in code stand for.
-use Rattle.std.specs.Prelude.{ℕ, List, [], ◌∷◌, Option, Some, None, is_some, map}
+use Rattle.std.specs.Prelude.{◌≡◌, ℕ, List, [], ◌++◌, Option, Some, None, is_some, map}
+use Rattle.std.specs.List.{AllByRecursion}
 use Rattle.rk_types.specs.declared.held.Held.{Held}
-use Rattle.rk_types.specs.NumberMap.{NumberMap}
+use Rattle.rk_types.specs.declared.range.Range.{Range}
+use Rattle.rk_types.specs.NumberMap.{NumberMap, IsInOrder, get_or}
+use Rattle.rk_entry.specs.declared.entry.Entry.{Entry}
+use Rattle.rk_entry.specs.declared.entry.Entry.TheVariants as entries
+use Rattle.rk_entry.specs.Lawful.{IsLawfulEntry}
+use Rattle.rk_table.specs.Items.{with_newer}
+use Rattle.rk_transfer.specs.declared.handover.Handover.{Handover}
+use Rattle.rk_transfer.specs.declared.role.Role.TheVariants as roles
 use Rattle.rk_world.specs.Tablet.{Tablet, no_tablet, pulling_from}
+use Rattle.rk_world.specs.Master.{Master}
+use Rattle.rk_world.specs.Worked.{Worked}
+use Rattle.rk_world.specs.Waiting.{joined_entry}
+use Rattle.rk_master.specs.declared.work.Worked.{Worked as Work}
 use Rattle.rk_master.specs.declared.choice.Seen.{Seen}
 use Rattle.rk_master.specs.declared.tablet_lane.TabletLane.{TabletLane}
 
@@ -11,19 +23,53 @@ abbrev pub tablet_of : TabletLane → Tablet
 tablet_of lane = record no_tablet {
   handover = lane.handover;
   completions = lane.completions.completions;
-  pulling = record (pulling_from 0) { token = lane.token; hashes = lane.wanted };
+  pulling = record (pulling_from 0) { token = lane.token; hashes = lane.wanted; sealed = lane.sealed };
 }
 
 -- the tablets by number
 abbrev pub tablets_of : List (ℕ × TabletLane) → NumberMap Tablet
 tablets_of tablets = map (λ entry. (entry.0, tablet_of entry.1)) tablets
 
+-- what the master has of the tablet of a number
+abbrev pub tablet_in : List (ℕ × TabletLane) → ℕ → Tablet
+tablet_in tablets number = get_or no_tablet (tablets_of tablets) number
+
 -- what a mutation sees of an item
 abbrev pub seen_of : Option Held → Option Seen
 seen_of None = None
 seen_of (Some item) = Some (record { version = item.version; is_live = is_some item.value })
 
--- what is there, as a list
-abbrev pub listed : {X : Type 0} → Option X → List X
-listed None = []
-listed (Some thing) = thing ∷ []
+-- the work of a master that is so now
+abbrev pub worked_of : Master → Work → Worked
+worked_of master work = record { master = master; sends = work.sends.items; served = work.served.items; marked = [] }
+
+-- work behind what was sent and served before
+abbrev pub behind : Work → Worked → Worked
+behind before worked = record {
+  master = worked.master;
+  sends = before.sends.items ++ worked.sends;
+  served = before.served.items ++ worked.served;
+  marked = worked.marked;
+}
+
+-- the records after an entry was applied: an item goes into them where it is newer
+abbrev pub with_items_of : Entry → List Held → List Held
+with_items_of (entries.Held held) records = with_newer held records
+with_items_of entry records = records
+
+-- a target that has all can spell the entry that closes its role
+abbrev pub IsClosable : Tablet → Type 0
+IsClosable tablet = tablet.handover.role ≡ roles.Joining None → IsLawfulEntry (joined_entry tablet)
+
+-- so can each of them
+abbrev pub AreClosable : NumberMap Tablet → Type 0
+AreClosable tablets = AllByRecursion (λ entry. IsClosable entry.1) tablets
+
+-- the tablets of a master stand by rising number, and what closes their roles can be spelled
+pub record AreTablets (tablets : List (ℕ × TabletLane)) : Type 0 where
+  pub order : IsInOrder tablets
+  pub closable : AreClosable (tablets_of tablets)
+
+-- the handover of a tablet that is served from the start
+abbrev pub served : Range → Handover
+served range = record { role = roles.Serving; term = 1; range = range; counter = 1 }

@@ -1,18 +1,27 @@
-// What a commit does with an entry: the end that it tells, noted in each tablet that has the key.
-ghost use Rattle.std.specs.Prelude.{◌≡◌, ◌<◌, ◌+◌, length, drop, slice_get, OnOk, OnErr};
-ghost use Rattle.rk_world.specs.Commits.{noting};
+// Commits: entries that every backup holds are applied, one after the other.
+ghost use Rattle.std.specs.Prelude.{◌≡◌, ◌<◌, ◌+◌, ◌∷◌, List, Some, length, map, drop, slice_get, IfOk, OnOk, OnErr};
+ghost use Rattle.rk_types.specs.NumberMap.{get};
+ghost use Rattle.rk_types.specs.declared.call.Ended.{Ended as Ending};
+ghost use Rattle.rk_table.specs.Sorted.{items_of as records_of};
+ghost use Rattle.rk_world.specs.Commits.{apply_entries, apply_entry, newly_held, noting, with_applied, with_ended, with_entry_item};
 ghost use Rattle.rk_world.specs.Ends.{end_of_item as item_end_lem, end_of_refusal as refusal_end_lem, items_of, told_by};
 ghost use Rattle.rk_master.specs.Kept.{IsKept};
-ghost use Rattle.rk_master.specs.Parts.{tablet_of};
+ghost use Rattle.rk_master.specs.Parts.{AreTablets, behind, tablet_of, tablets_of, with_items_of, worked_of};
+ghost use Rattle.rk_master.specs.State.{IsState, master_of};
 
+use crate::choice::outcome_of;
+use crate::effects::answering;
 use crate::staged_items::StagedItems;
+use crate::state::MasterState;
 use crate::tablet_lane::TabletLane;
+use crate::work::Worked;
 use rk_entry::{Entry, Refused};
 use rk_log::MasterLog;
-use rk_types::{Call, End, Ended, Held, NoMemory};
+use rk_table::{RecordTable, SortedTable};
+use rk_types::{Answer, Call, End, Ended, Held, NoMemory};
 
-/// The first end that an entry tells.
-pub(crate) fn first_end(entry: &Entry) -> Option<Ended>
+// The first end that an entry tells.
+fn first_end(entry: &Entry) -> Option<Ended>
     ensures { result ≡ slice_get (told_by entry.now) 0 }
 {
     match entry {
@@ -52,19 +61,33 @@ fn end_of_refusal(refused: &Refused) -> End
     }
 }
 
-/// Notes the end of a call in a tablet, where that is not absent and has the key. The tablet has room for one client.
-pub(crate) fn note(tablet: &mut TabletLane, call: &Call, end: Ended)
-    requires { 0 < tablet.old.completions.room }
-    ensures { tablet_of tablet.new ≡ noting call.now end (tablet_of tablet.old) }
+// Notes the end of a call in a tablet, where that is not absent and has the key. One binary search, and for the first
+// call of a client what an insertion takes.
+fn note(tablet: &mut TabletLane, call: &Call, end: Ended) -> Result<(), NoMemory>
+    ensures { OnOk result (tablet_of tablet.new ≡ noting call.now end (tablet_of tablet.old)) }
 {
     if tablet.is_absent() || !tablet.has_key(call.table, &call.key) {
-        return;
+        return Ok(());
     }
+    tablet.completions.reserve(1)?;
     tablet.completions.note(end);
+    Ok(())
 }
 
-/// The entry at a place is applied: an item is staged no more. After `NoMemory` nothing has changed.
-pub(crate) fn pass(items: &mut StagedItems, log: &MasterLog, place: u64) -> Result<(), NoMemory>
+// Notes the end of a call in each tablet that is not absent and has the key. A look at each tablet.
+fn note_in_each(tablets: &mut [(u32, TabletLane)], call: &Call, end: Ended) -> Result<(), NoMemory>
+    requires { AreTablets tablets.old }
+    ensures noted { OnOk result (tablets_of tablets.new ≡ map (λ entry. (entry.0, noting call.now end entry.1)) (tablets_of tablets.old)) }
+    ensures tablets { OnOk result (AreTablets tablets.new) }
+{
+    for entry in tablets.iter_mut() {
+        note(&mut entry.1, call, end)?;
+    }
+    Ok(())
+}
+
+// The entry at a place is applied: an item is staged no more. After `NoMemory` nothing has changed.
+fn pass(items: &mut StagedItems, log: &MasterLog, place: u64) -> Result<(), NoMemory>
     requires { place < length log.now.entries }
     ensures ok { OnOk result (IsKept items.old.newest (items_of (drop place log.now.entries))
         → IsKept items.new.newest (items_of (drop (place + 1) log.now.entries))) }
@@ -79,12 +102,105 @@ pub(crate) fn pass(items: &mut StagedItems, log: &MasterLog, place: u64) -> Resu
     Ok(())
 }
 
-/// The place after this one, where an entry stands.
-pub(crate) fn next_place(log: &MasterLog, place: u64) -> u64
+// The place after this one, where an entry stands.
+fn next_place(log: &MasterLog, place: u64) -> u64
     requires { place < length log.now.entries }
     ensures { result ≡ place + 1 }
 {
     let length = log.length();
     prove!(place < length);
     place + 1
+}
+
+/// Applies the entries that every backup holds and that are not applied. For each of them a few searches, what it takes
+/// to put an item into the records, and where a call ends a look at each tablet.
+pub(crate) fn apply_held(state: &mut MasterState, work: &mut Worked) -> Result<(), NoMemory>
+    requires { IsState state.old }
+    ensures state { OnOk result (IsState state.new) }
+    ensures ok { OnOk result (worked_of (master_of state.new) work.new
+        ≡ behind work.old (apply_entries (master_of state.old) (newly_held (master_of state.old)))) }
+{
+    let held = state.log.committed();
+    'held: while state.applied < held {
+        apply_next(state, work)?;
+    }
+    Ok(())
+}
+
+// Applies the next entry, and tells the client of the call that waited for it.
+fn apply_next(state: &mut MasterState, work: &mut Worked) -> Result<(), NoMemory>
+    requires state { IsState state.old }
+    requires left { state.old.applied < length state.old.log.entries }
+    ensures state { OnOk result (IsState state.new) }
+    ensures log { state.new.log ≡ state.old.log }
+    ensures applied { OnOk result (state.new.applied ≡ state.old.applied + 1) }
+    ensures ok { OnOk result ((entry : Entry) → slice_get state.old.log.entries state.old.applied ≡ Some entry
+        → worked_of (master_of state.new) work.new ≡ behind work.old (apply_entry (master_of state.old) entry)) }
+{
+    let place = state.applied;
+    let Some(end) = apply_item(state)? else {
+        return Ok(());
+    };
+    end_call(state, work, place, end)?;
+    Ok(())
+}
+
+// Applies the next entry but for the call that waits for it, and answers the first end that the entry tells.
+fn apply_item(state: &mut MasterState) -> Result<Option<Ended>, NoMemory>
+    requires state { IsState state.old }
+    requires left { state.old.applied < length state.old.log.entries }
+    ensures state { OnOk result (IsState state.new) }
+    ensures log { state.new.log ≡ state.old.log }
+    ensures applied { OnOk result (state.new.applied ≡ state.old.applied + 1) }
+    ensures end { IfOk result (λ end. (entry : Entry) → slice_get state.old.log.entries state.old.applied ≡ Some entry
+        → end ≡ slice_get (told_by entry) 0) }
+    ensures ok { OnOk result ((entry : Entry) → slice_get state.old.log.entries state.old.applied ≡ Some entry
+        → master_of state.new ≡ with_applied (with_entry_item (master_of state.old) entry)) }
+{
+    let place = state.applied;
+    let entry = state.log.entry(place);
+    put_item(&mut state.records, entry)?;
+    let end = first_end(entry);
+    pass(&mut state.items, &state.log, place)?;
+    state.applied = next_place(&state.log, place);
+    Ok(end)
+}
+
+// Puts the item that an entry is into the records, where it is newer than what is there. Two searches, and what an
+// insertion takes.
+fn put_item(records: &mut SortedTable, entry: &Entry) -> Result<(), NoMemory>
+    ensures { OnOk result (records_of records.new ≡ with_items_of entry.now (records_of records.old)) }
+{
+    let Entry::Held(held) = entry else {
+        return Ok(());
+    };
+    let item = held.duplicate()?;
+    records.reserve(1)?;
+    let _ = records.put_if_newer(item);
+    Ok(())
+}
+
+// Ends the call that waits for the entry at a place, if one does: its end is noted, and its client told. A look at each
+// tablet, and a search.
+fn end_call(
+    state: &mut MasterState,
+    work: &mut Worked,
+    place: u64,
+    end: Ended,
+) -> Result<(), NoMemory>
+    requires { IsState state.old }
+    ensures state { OnOk result (IsState state.new) }
+    ensures log { state.new.log ≡ state.old.log }
+    ensures applied { state.new.applied ≡ state.old.applied }
+    ensures ok { OnOk result ((ends : List Ending) → worked_of (master_of state.new) work.new
+        ≡ behind work.old (with_ended (master_of state.old) place (get (master_of state.old).calls place) (end ∷ ends))) }
+{
+    let Some(call) = state.calls.take(place) else {
+        return Ok(());
+    };
+    note_in_each(state.tablets.as_mut_slice(), &call, end)?;
+    let answer = Answer::Done(outcome_of(end.end));
+    work.send(answering(state.number, &call, answer))?;
+    work.serve(call, outcome_of(end.end))?;
+    Ok(())
 }

@@ -1,14 +1,41 @@
-// What a choice leaves: the entry of a mutation, and what is answered at once.
+// What requests and choices are made into: the call, its entry, and the answer to its client.
 ghost use Rattle.std.specs.Prelude.{◌≡◌, IfOk};
+ghost use Rattle.rk_world.specs.Master.{Master};
 ghost use Rattle.rk_world.specs.Requests as requests;
-ghost use Rattle.rk_master.specs.Parts.{listed};
 
-use crate::choice::outcome_of;
-use crate::master_lane::MasterLane;
 use rk_entry::{Entry, Refused};
-use rk_message::Message;
-use rk_types::{Answer, Call, Held, NoMemory, Value};
-use rk_world::Choice;
+use rk_message::{Body, Message, Reply, Request};
+use rk_types::{Answer, Call, Held, NoMemory, Node, Value};
+
+/// The call that a request of a client asks.
+pub(crate) fn call_of(client: u32, request: &Request) -> Result<Call, NoMemory>
+    ensures { IfOk result (λ call. call ≡ requests.call_of client request.now) }
+{
+    Ok(Call {
+        client,
+        seq: request.seq,
+        table: request.table,
+        key: request.key.duplicate()?,
+        op: request.op.duplicate()?,
+    })
+}
+
+/// An answer of the master of this number to the client of a call; stamp and place are filled in where the call's record
+/// is made.
+pub(crate) fn answering(number: u8, call: &Call, answer: Answer) -> Message
+    ensures { (master : Master) → master.number ≡ number → result ≡ requests.answering master call.now answer }
+{
+    Message {
+        from: Node::Master(number),
+        to: Node::Client(call.client),
+        body: Body::Reply(Reply {
+            seq: call.seq,
+            stamp: 0,
+            place: 0,
+            answer,
+        }),
+    }
+}
 
 /// The item that a mutation leaves.
 pub(crate) fn item_of(call: &Call, version: u64, value: Option<Value>) -> Result<Held, NoMemory>
@@ -36,25 +63,4 @@ pub(crate) fn refusal_of(call: &Call, found: u64, absent: bool) -> Result<Entry,
         absent,
         key: call.key.duplicate()?,
     }))
-}
-
-/// What is answered at once to a client that asked this tablet, if anything is.
-pub(crate) fn answered(
-    master: &MasterLane,
-    asked: u32,
-    call: &Call,
-    choice: &Choice,
-) -> Result<Option<Message>, NoMemory>
-    ensures { IfOk result (λ message. listed message ≡ (requests.chosen master.now asked call.now choice.now).sends) }
-{
-    match choice {
-        Choice::Redirects => Ok(Some(master.answering(call, Answer::Moved(asked)))),
-        Choice::Repeats(end) => Ok(Some(master.answering(call, Answer::Done(outcome_of(*end))))),
-        Choice::Wants(_) => Ok(Some(master.answering(call, Answer::NotYet(call.key.duplicate()?)))),
-        Choice::Reads(outcome) => Ok(Some(master.answering(
-            call,
-            Answer::Done(outcome.duplicate()?),
-        ))),
-        Choice::Ignores | Choice::Writes(_, _) | Choice::Refuses(_, _) => Ok(None),
-    }
 }

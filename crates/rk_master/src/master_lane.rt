@@ -1,185 +1,113 @@
-ghost use Rattle.std.specs.Prelude.{◌≡◌, ◌≤◌, ◌<◌, List, Option, true, length, replicate, IfOk, OnOk, OnErr};
+ghost use Rattle.std.specs.Prelude.{◌≡◌, ◌≤◌, length, Some, None, replicate, IfSome, IsSomeAnd, IfOk, OnOk, OnErr};
 ghost use Rattle.rk_log.specs.Known.{nothing};
-ghost use Rattle.std.specs.List.{find};
-ghost use Rattle.std.specs.Option.{option_copied, option_map, option_or};
-ghost use Rattle.rk_types.specs.declared.held.Held.{Held as Item};
-ghost use Rattle.rk_model.specs.Merged.{is_mutation as is_mutation_lem};
-ghost use Rattle.rk_overlay.specs.Newest.{newest};
-ghost use Rattle.rk_table.specs.Items.{found};
-ghost use Rattle.rk_table.specs.Sorted.{items_of as records_of};
-ghost use Rattle.rk_done.specs.Completions.{look as look_lem};
-ghost use Rattle.rk_world.specs.Commits.{with_applied};
-ghost use Rattle.rk_world.specs.Master.{new_master, serves_key};
-ghost use Rattle.rk_world.specs.Requests as requests;
-ghost use Rattle.rk_master.specs.Kept.{IsKept};
-ghost use Rattle.rk_master.specs.Parts.{seen_of, tablet_of, tablets_of};
+ghost use Rattle.rk_world.specs.Master.{new_master};
+ghost use Rattle.rk_world.specs.Premises.{IsLawfulCall};
+ghost use Rattle.rk_log.specs.Log.{IsBackup, overreach};
+ghost use Rattle.rk_world.specs.Commits.{stored_taken};
+ghost use Rattle.rk_world.specs.Requests.{call_of, request_taken};
+ghost use Rattle.rk_world.specs.Step.{with_added};
 
-use crate::choice::{Seen, fresh_mutation, fresh_read, is_mutation};
-use crate::commit::{next_place, pass};
-use crate::staged_calls::StagedCalls;
-use crate::staged_items::StagedItems;
-use crate::tablet_lane::TabletLane;
-use rk_done::Look;
-use rk_log::{MOST_BACKUPS, MasterLog};
-use rk_message::{Body, Message, Reply};
-use rk_table::{RecordTable, SortedTable};
-use rk_types::{Answer, Call, Key, NoMemory, Node};
-use rk_world::Choice;
+use crate::requests::take_request;
+use crate::state::MasterState;
+use crate::stored::take_stored;
+use crate::tablets::serve;
+use crate::work::Worked;
+use rk_log::MOST_BACKUPS;
+use rk_message::{Request, Stored};
+use rk_types::{NoMemory, Range};
 use std::alloc::Global;
 use std::marker::Model;
 
 /// A master in one lane. Contracts see the master that the definitions speak of, with nothing pulled, gathered or
-/// merged.
+/// merged; or none where it is spent: it ran out of memory within a change, and answers `NoMemory` from then on.
 #[derive(Drop)]
 pub struct MasterLane {
-    number: u8,
-    log: MasterLog,
-    applied: u64,
-    calls: StagedCalls,
-    items: StagedItems,
-    records: SortedTable,
-    tablets: Vec<(u32, TabletLane)>,
+    state: MasterState,
+    spent: bool,
 }
 
 impl Model for MasterLane {
+    ghost use Rattle.std.specs.Prelude.{Option};
     ghost use Rattle.rk_world.specs.Master.{Master};
 
-    ghost Value = { Master };
+    ghost Value = { Option Master };
 
-    ghost use Rattle.rk_master.specs.Lane.{master_of, IsLane};
+    ghost use Rattle.rk_master.specs.Lane.{lane_of, IsLane};
 
-    ghost view = { master_of };
+    ghost view = { lane_of };
 
     ghost invariant = { IsLane };
 }
 
 impl MasterLane {
+    ghost use Rattle.rk_master.specs.Lane.{IsWork};
+
     /// A master that knows nothing yet, with so many backups, which are numbered from 1.
     pub fn new(alloc: Global, number: u8, backups: u8) -> Result<MasterLane, NoMemory>
         requires first { 1 ≤ backups }
         requires last { backups ≤ MOST_BACKUPS }
-        ensures { IfOk result (λ master. master ≡ new_master number (replicate backups nothing)) }
+        ensures { IfOk result (λ lane. lane ≡ Some (new_master number (replicate backups nothing))) }
     {
         Ok(MasterLane {
-            number,
-            log: MasterLog::new(alloc, backups)?,
-            applied: 0,
-            calls: StagedCalls::new(alloc),
-            items: StagedItems::new(alloc),
-            records: SortedTable::new(alloc),
-            tablets: Vec::new(alloc),
+            state: MasterState::new(alloc, number, backups)?,
+            spent: false,
         })
     }
 
-    /// An answer to the client of a call; stamp and place are filled in where the call's record is made.
-    pub fn answering(&self, call: &Call, answer: Answer) -> Message
-        ensures { result ≡ requests.answering self.now call.now answer }
+    /// How many backups there are.
+    pub fn backups(&self) -> u8
+        ensures { IfSome self.now (λ master. result ≡ length master.log.known) }
     {
-        Message {
-            from: Node::Master(self.number),
-            to: Node::Client(call.client),
-            body: Body::Reply(Reply {
-                seq: call.seq,
-                stamp: 0,
-                place: 0,
-                answer,
-            }),
-        }
+        self.state.backups
     }
 
-    /// What is done with a call; nothing is changed. A look at each tablet, and a few searches.
-    pub fn choice_of(&self, call: &Call) -> Result<Choice, NoMemory>
-        ensures { IfOk result (λ choice. choice ≡ requests.choice_of self.now call.now) }
+    /// Takes a client's request: answers it at once, or stages it. After `NoMemory` the master is spent; it also comes
+    /// where no version of the tablet is left, or the log is full. A look at each tablet, a few searches, and the time to
+    /// copy the key and the value and to spell the entry.
+    pub fn handle(&mut self, client: u32, request: &Request) -> Result<Worked, NoMemory>
+        requires { IsLawfulCall (call_of client request.now) }
+        ensures ok { IfOk result (λ work. IsSomeAnd self.old (λ master. IsWork (request_taken master client request.now) self.new work)) }
+        ensures err { OnErr result (self.new ≡ None) }
     {
-        let tablets = self.tablets.as_slice();
-        let Some(entry) = serving(tablets, call.table, &call.key) else {
-            return Ok(Choice::Redirects);
-        };
-        if is_mutation(&call.op) {
-            return self.mutation_choice(entry.0, &entry.1, call);
+        if self.spent {
+            return Err(NoMemory);
         }
-        let there = self.records.get(call.table, &call.key);
-        fresh_read(entry.0, &entry.1, call, there)
+        self.spent = true;
+        let work = take_request(&mut self.state, client, request)?;
+        self.spent = false;
+        Ok(work)
     }
 
-    /// One more entry counts as applied, and its item is staged no more. After `NoMemory` nothing has changed.
-    pub fn apply_next(&mut self) -> Result<(), NoMemory>
-        requires { self.old.applied < length self.old.log.entries }
-        ensures ok { OnOk result (self.new ≡ with_applied self.old) }
+    /// Takes a backup's word that it holds so much of a segment; more than the segment has is ignored. What every backup
+    /// holds by then is applied, and what waited for it goes on. After `NoMemory` the master is spent; it also comes where
+    /// the log is full. A step for each entry that is committed and each segment that the backup is now known to hold
+    /// whole, a few searches for each entry and a look at each tablet where a call ends; a step for each staged entry
+    /// only where a tablet closes.
+    pub fn take_stored(&mut self, backup: u8, stored: Stored) -> Result<Worked, NoMemory>
+        requires { IfSome self.old (λ master. IsBackup master.log backup) }
+        ensures ok { IfOk result (λ work. IsSomeAnd self.old (λ master.
+            IsWork (stored_taken master backup stored (overreach master.log stored.segment stored.length)) self.new work)) }
+        ensures err { OnErr result (self.new ≡ None) }
+    {
+        if self.spent {
+            return Err(NoMemory);
+        }
+        self.spent = true;
+        let work = take_stored(&mut self.state, backup, stored)?;
+        self.spent = false;
+        Ok(work)
+    }
+
+    /// Adds a tablet, which is served from now on. `NoMemory` also where the master is spent; nothing has changed then. A
+    /// binary search, and what an insertion takes.
+    pub fn add(&mut self, tablet: u32, range: Range) -> Result<(), NoMemory>
+        ensures ok { OnOk result (IsSomeAnd self.old (λ master. self.new ≡ Some (with_added master tablet range))) }
         ensures err { OnErr result (self.new ≡ self.old) }
     {
-        pass(&mut self.items, &self.log, self.applied)?;
-        self.applied = next_place(&self.log, self.applied);
+        if self.spent {
+            return Err(NoMemory);
+        }
+        serve(&mut self.state.tablets, tablet, range)?;
         Ok(())
-    }
-
-    // What is done with a mutation at a tablet.
-    fn mutation_choice(
-        &self,
-        number: u32,
-        tablet: &TabletLane,
-        call: &Call,
-    ) -> Result<Choice, NoMemory>
-        ensures { IfOk result (λ choice. is_mutation_lem call.now.op ≡ true
-            → choice ≡ requests.mutation_choice self.now number (tablet_of tablet.now) call.now
-            (look_lem (tablet_of tablet.now).completions call.now.client call.now.seq)) }
-    {
-        match tablet.completions.look(call.client, call.seq) {
-            Look::Same(end) => Ok(Choice::Repeats(end)),
-            Look::Old(_) => Ok(Choice::Ignores),
-            Look::New => self.new_mutation(number, tablet, call),
-        }
-    }
-
-    // What is done with a mutation that has not ended.
-    fn new_mutation(
-        &self,
-        number: u32,
-        tablet: &TabletLane,
-        call: &Call,
-    ) -> Result<Choice, NoMemory>
-        ensures { IfOk result (λ choice. is_mutation_lem call.now.op ≡ true
-            → choice ≡ requests.mutation_choice self.now number (tablet_of tablet.now) call.now Look.New) }
-    {
-        if self.calls.is_staged(call.client, call.seq) {
-            return Ok(Choice::Ignores);
-        }
-        let name = (call.table, call.key.duplicate()?);
-        let seen = seen(&self.items, &self.records, &name);
-        fresh_mutation(number, tablet, call, seen)
-    }
-}
-
-// The tablet that is served here and has the key, with its number. A look at each tablet.
-fn serving<'a>(
-    tablets: &'a [(u32, TabletLane)],
-    table: u64,
-    key: &Key,
-) -> Option<&'a (u32, TabletLane)>
-    ensures { option_map (λ entry. (entry.0, tablet_of entry.1)) (option_copied result)
-        ≡ find (λ entry. serves_key table key.now entry.1) (tablets_of tablets.now) }
-{
-    for entry in tablets {
-        if entry.1.serves(table, key) {
-            return Some(entry);
-        }
-    }
-    None
-}
-
-// What a mutation sees of a record: the newest staged item, else that of the records.
-fn seen(items: &StagedItems, records: &SortedTable, name: &(u64, Key)) -> Option<Seen>
-    ensures { (staged : List Item) → IsKept items.now.newest staged
-        → result ≡ seen_of (option_or (newest staged name.now.0 name.now.1) (found name.now.0 name.now.1 (records_of records.now))) }
-{
-    if let Some(kept) = items.look(name) {
-        return Some(Seen {
-            version: kept.version,
-            is_live: kept.is_live,
-        });
-    }
-    match records.get(name.0, &name.1) {
-        Some(held) => Some(Seen::new(held)),
-        None => None,
     }
 }

@@ -1,4 +1,4 @@
-ghost use Rattle.std.specs.Prelude.{◌≡◌, ℕ, ◌-◌, [], OnOk, OnErr};
+ghost use Rattle.std.specs.Prelude.{◌≡◌, ℕ, ◌-◌, [], IfNone, OnOk, OnErr};
 ghost use Rattle.std.specs.Option.{option_copied};
 ghost use Rattle.rk_types.specs.NumberMap as map;
 ghost use Rattle.rk_master.specs.Counts.{IsCounted, counted, has_call, name_of, weight};
@@ -69,6 +69,7 @@ impl StagedCalls {
     pub fn take(&mut self, place: u64) -> Option<Call>
         ensures value { result ≡ map.get self.old place }
         ensures removed { self.new ≡ map.remove self.old place }
+        ensures unchanged { IfNone result (self.new ≡ self.old) }
     {
         remove(&mut self.calls, &mut self.counts, place)
     }
@@ -120,6 +121,7 @@ fn remove(calls: &mut Numbered<Call>, counts: &mut CallCounts, place: u64) -> Op
     ensures counted { IsCounted counts.new calls.new }
     ensures value { result ≡ map.get calls.old place }
     ensures removed { calls.new ≡ map.remove calls.old place }
+    ensures unchanged { IfNone result (calls.new ≡ calls.old) }
 {
     let call = calls.remove(place)?;
     counts.subtract(call.client, call.seq);

@@ -3,7 +3,7 @@ ghost use Rattle.std.specs.BTreeMap.{get as found_in, Updates};
 ghost use Rattle.rk_types.specs.declared.held.Held.{Held as Item};
 ghost use Rattle.std.specs.Option.{option_copied};
 ghost use Rattle.rk_overlay.specs.Newest.{newest};
-ghost use Rattle.rk_world.specs.Ends.{items_of};
+ghost use Rattle.rk_world.specs.Ends.{items_in, items_of};
 ghost use Rattle.rk_master.specs.Kept.{IsKept, kept, kept_with, name_cmp, newer_in};
 
 use rk_entry::Entry;
@@ -54,6 +54,20 @@ impl StagedItems {
         let kept = one_more(self.look(&name), item)?;
         self.newest.insert(name, kept)?;
         Ok(())
+    }
+
+    /// Takes in the entry that is staged last, where it is an item. Two searches.
+    pub(crate) fn take_in(&mut self, entry: &Entry) -> Result<(), NoMemory>
+        ensures { OnOk result ((items : List Item)
+            → IsKept self.old.newest items → IsKept self.new.newest (items ++ items_in entry.now)) }
+    {
+        match entry {
+            Entry::Held(held) => {
+                self.add(held)?;
+                Ok(())
+            }
+            _ => Ok(()),
+        }
     }
 
     /// Takes out the item of this table, key and version that was staged first, where `rest` was staged after it. A few

@@ -1,17 +1,28 @@
-ghost use Rattle.std.specs.Prelude.{◌≡◌, ◌<◌, ◌^◌, Option, is_some, OnOk, OnErr};
+ghost use Rattle.std.specs.Prelude.{◌≡◌, Option, Some, None, is_some, IfOk, OnOk, OnErr};
+ghost use Rattle.std.specs.Int.{w64};
+ghost use Rattle.rk_entry.specs.Numbers.{IsNumber};
 ghost use Rattle.rk_types.specs.Hashing.{hash_of};
 ghost use Rattle.rk_types.specs.declared.held.Held.{Held as Item};
 ghost use Rattle.rk_world.specs.Ranges.{has_key};
 ghost use Rattle.rk_world.specs.Master.{serves_key};
 ghost use Rattle.rk_world.specs.RoleTests.{is_absent as is_absent_lem};
 ghost use Rattle.rk_world.specs.Requests.{counted_up, is_known as is_known_lem, with_wanted};
+ghost use Rattle.rk_transfer.specs.Handover.{frozen, joined};
+ghost use Rattle.rk_world.specs.Tablet.{no_tablet, with_handover};
+ghost use Rattle.rk_world.specs.Waiting.{joined_entry};
 ghost use Rattle.rk_master.specs.Parts.{tablet_of};
 
 use crate::choice::is_receiving;
 use rk_done::Completions;
+use rk_entry::{Entry, Joined};
 use rk_priority::Wanted;
+use rk_table::FIRST;
 use rk_transfer::{Handover, Role};
-use rk_types::{Key, NoMemory, Token, bucket_of, hash};
+use rk_types::{Key, Listed, NoMemory, Token, bucket_of, hash};
+use std::alloc::Global;
+
+/// Versions count from 1, and this one and those above it are never given.
+pub const MOST_VERSIONS: u64 = 1 << 60;
 
 /// What a master has of a tablet, as far as calls need it.
 #[derive(Drop)]
@@ -20,6 +31,8 @@ pub struct TabletLane {
     pub completions: Completions,
     pub wanted: Wanted,
     pub token: Token,
+    /// The numbers of the side segments that were sealed.
+    pub sealed: Listed<u32>,
 }
 
 impl TabletLane {
@@ -63,14 +76,64 @@ impl TabletLane {
         Ok(())
     }
 
-    /// Gives the next version: the counter rises by one.
-    pub(crate) fn next_version(&mut self) -> u64
-        requires { self.old.handover.counter < 2 ^ 63 }
-        ensures version { result ≡ (tablet_of self.old).handover.counter }
-        ensures counter { tablet_of self.new ≡ counted_up (tablet_of self.old) }
+    /// Gives the next version: the counter rises by one. `NoMemory` where no version is left, and then nothing has
+    /// changed.
+    pub(crate) fn next_version(&mut self) -> Result<u64, NoMemory>
+        ensures version { IfOk result (λ version. version ≡ (tablet_of self.old).handover.counter) }
+        ensures lawful { IfOk result (IsNumber w64 1) }
+        ensures counter { OnOk result (tablet_of self.new ≡ counted_up (tablet_of self.old)) }
     {
         let version = self.handover.counter;
+        if version == 0 || version >= MOST_VERSIONS {
+            return Err(NoMemory);
+        }
         self.handover.counter = version + 1;
-        version
+        Ok(version)
+    }
+
+    /// A tablet with this handover, of which nothing else is known. Takes no memory.
+    pub(crate) fn new(alloc: Global, handover: Handover) -> TabletLane
+        ensures { tablet_of result ≡ with_handover no_tablet handover }
+    {
+        TabletLane {
+            handover,
+            completions: Completions::new(alloc),
+            wanted: Wanted::new(alloc),
+            token: FIRST,
+            sealed: Listed::new(alloc),
+        }
+    }
+
+    /// A tablet that closes freezes.
+    pub(crate) fn freeze(&mut self)
+        requires { self.old.handover.role ≡ Role.Closing }
+        ensures role { self.new.handover.role ≡ Role.Frozen }
+        ensures moved { frozen self.old.handover self.old.handover.term ≡ Some self.new.handover }
+        ensures tablet { tablet_of self.new ≡ with_handover (tablet_of self.old) self.new.handover }
+    {
+        let term = self.handover.term;
+        let _ = self.handover.freeze(term);
+    }
+
+    /// A target that has all takes the place of the entry that closes its role.
+    pub(crate) fn join(&mut self, place: u64)
+        requires { self.old.handover.role ≡ Role.Joining None }
+        ensures role { self.new.handover.role ≡ Role.Joining (Some place) }
+        ensures moved { joined self.old.handover self.old.handover.term (Some place) ≡ Some self.new.handover }
+        ensures tablet { tablet_of self.new ≡ with_handover (tablet_of self.old) self.new.handover }
+    {
+        let term = self.handover.term;
+        let _ = self.handover.join(term, Some(place));
+    }
+
+    /// The entry that closes the role of a target that has all.
+    pub(crate) fn joined_entry(&self) -> Result<Entry, NoMemory>
+        ensures { IfOk result (λ entry. entry ≡ joined_entry (tablet_of self.now)) }
+    {
+        Ok(Entry::Joined(Joined {
+            range: self.handover.range,
+            term: self.handover.term,
+            segments: self.sealed.duplicate()?,
+        }))
     }
 }

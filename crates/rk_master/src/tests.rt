@@ -1,8 +1,17 @@
+ghost use Rattle.std.specs.Prelude.{◌≤◌, IfOk};
+ghost use Rattle.rk_message.specs.Calls.{IsLawfulOp};
+ghost use Rattle.rk_world.specs.Premises.{IsLawfulCall};
+ghost use Rattle.rk_world.specs.Requests.{call_of};
+
 use crate::choice::{Seen, mutation};
+use crate::master_lane::MasterLane;
 use crate::staged_calls::StagedCalls;
-use rk_types::{Call, Key, Op, Value};
+use crate::work::Worked;
+use rk_message::{Body, Message, Reply, Request, Stored};
+use rk_types::{Answer, Call, Key, Node, Op, Outcome, Range, Value};
 use rk_world::Choice;
 use std::alloc::Global;
+use std::process::Abort;
 use std::test::Fail;
 
 fn put(alloc: Global, client: u32, seq: u64) -> Result<Call, Fail> {
@@ -55,5 +64,73 @@ fn a_conditional_put_is_refused_at_another_version(rt: HostRuntime) -> Result<()
     );
     assert_eq!(rt; mutation(4, &op, Some(removed))?, Choice::Refuses(0, false));
     assert_eq!(rt; mutation(4, &Op::Delete, None)?, Choice::Refuses(0, true));
+    Ok(())
+}
+
+// A request for the key `a`, at tablet 7.
+fn asked(alloc: Global, seq: u64, op: Op) -> Result<Request, Fail>
+    requires seq { 1 ≤ seq }
+    requires op { IsLawfulOp op }
+    ensures { IfOk result (λ request. IsLawfulCall (call_of 1 request) × IsLawfulCall (call_of 2 request)) }
+{
+    Ok(Request {
+        tablet: 7,
+        seq,
+        seen: 0,
+        table: 1,
+        key: Key::new(alloc, b"a")?,
+        op,
+    })
+}
+
+// What the only backup tells of segment 1.
+fn told<R: Abort>(rt: &R, master: &mut MasterLane, length: u32) -> Result<Worked, Fail> {
+    assert!(rt; master.backups() > 0);
+    Ok(master.take_stored(1, Stored { segment: 1, length })?)
+}
+
+// What master 1 answers to the first call of a client.
+fn reply(client: u32, seq: u64, outcome: Outcome) -> Message {
+    Message {
+        from: Node::Master(1),
+        to: Node::Client(client),
+        body: Body::Reply(Reply {
+            seq,
+            stamp: 0,
+            place: 0,
+            answer: Answer::Done(outcome),
+        }),
+    }
+}
+
+// A put takes 40 bytes of the log, and a refusal 36. The put comes again while it is staged and once it is applied.
+#[test]
+fn clients_are_told_once_the_backup_holds_their_entries(rt: HostRuntime) -> Result<(), Fail> {
+    let mut master = MasterLane::new(rt.alloc(), 1, 1)?;
+    let range = Range {
+        table: 1,
+        first: 0,
+        last: u64::MAX,
+    };
+    master.add(7, range)?;
+    let put = asked(rt.alloc(), 1, Op::Put(Value::new(rt.alloc(), b"x")?))?;
+    let other = asked(rt.alloc(), 1, Op::CondPut(9, Value::new(rt.alloc(), b"y")?))?;
+    assert_eq!(rt; master.handle(1, &put)?.sends.len(), 0);
+    assert_eq!(rt; master.handle(1, &put)?.sends.len(), 0);
+    assert_eq!(rt; master.handle(2, &other)?.sends.len(), 0);
+    assert_eq!(rt; told(&rt, &mut master, 77)?.sends.len(), 0);
+    let work = told(&rt, &mut master, 76)?;
+    assert_eq!(rt; work.sends.len(), 2);
+    assert_eq!(rt; work.sends[0], reply(1, 1, Outcome::Written(1)));
+    assert_eq!(rt; work.sends[1], reply(2, 1, Outcome::Mismatch(1)));
+    assert_eq!(rt; work.served.len(), 2);
+    let again = master.handle(1, &put)?;
+    assert_eq!(rt; again.sends.len(), 1);
+    assert_eq!(rt; again.sends[0], reply(1, 1, Outcome::Written(1)));
+    let get = asked(rt.alloc(), 2, Op::Get)?;
+    let read = master.handle(2, &get)?;
+    assert_eq!(rt; read.sends.len(), 1);
+    let value = Value::new(rt.alloc(), b"x")?;
+    assert_eq!(rt; read.sends[0], reply(2, 2, Outcome::Found(1, value)));
     Ok(())
 }

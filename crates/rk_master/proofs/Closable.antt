@@ -1,0 +1,66 @@
+-- What closes the roles of tablets can be spelled, also after one of them changed.
+use Rattle.std.proofs.Common.{◌≡◌, ℕ, zero, suc, ◌<◌, Bool, true, false, cond, not, ◌&&◌, List, [], ◌∷◌, length, get_or, set, sym, subst, arith}
+use Rattle.std.specs.Ordering.{nat_cmp}
+use Rattle.std.specs.declared.cmp.Ordering.{Ordering}
+use Rattle.std.specs.declared.cmp.Ordering.TheVariants.{Less, Equal, Greater}
+use Rattle.std.specs.FinMap.Entries.{by_order}
+use Rattle.rk_types.specs.NumberMap.{NumberMap, insert}
+use Rattle.rk_types.specs.declared.call.Call.{Call}
+use Rattle.rk_types.specs.declared.call.Ended.{Ended}
+use Rattle.rk_done.specs.Completions.{noted}
+use Rattle.rk_world.specs.Commits.{noting}
+use Rattle.rk_world.specs.Ranges.{has_key}
+use Rattle.rk_world.specs.RoleTests.{is_absent}
+use Rattle.rk_world.specs.Tablet.{Tablet}
+use Rattle.rk_master.specs.Parts.{AreTablets, IsClosable, AreClosable, tablet_of, tablets_of}
+use Rattle.rk_master.specs.declared.tablet_lane.TabletLane.{TabletLane}
+use Rattle.rk_master.specs.Places.{Row}
+use Rattle.rk_master.proofs.Places.{at_itself, order_there}
+
+-- it can at each place
+pub closable_at : (rows : List Row) (i : ℕ) (d : Row) → i < length rows → AreClosable (tablets_of rows) → IsClosable (tablet_of (get_or rows i d).1)
+closable_at [] i d within lawful = absurd (omega (arith, within))
+closable_at (row ∷ rows) zero d within lawful = lawful.0
+closable_at (row ∷ rows) (suc i) d within lawful = closable_at rows i d (omega (arith, within)) lawful.1
+
+-- after one was changed at its place
+pub closable_set : (rows : List Row) (i : ℕ) (row : Row) → AreClosable (tablets_of rows) → IsClosable (tablet_of row.1) → AreClosable (tablets_of (set rows i row))
+closable_set [] i row lawful new = tt
+closable_set (first ∷ rows) zero row lawful new = (new, lawful.1)
+closable_set (first ∷ rows) (suc i) row lawful new = (lawful.0, closable_set rows i row lawful.1 new)
+
+-- and after one was put under a number
+pub closable_insert : (tablets : NumberMap Tablet) (number : ℕ) (tablet : Tablet) → AreClosable tablets → IsClosable tablet → AreClosable (insert tablets number tablet)
+closable_insert [] number tablet lawful new = (new, tt)
+closable_insert (entry ∷ tablets) number tablet lawful new = go (nat_cmp number entry.0) (closable_insert tablets number tablet lawful.1 new)
+  where
+    go : (o : Ordering) → AreClosable (insert tablets number tablet)
+        → AreClosable (by_order o ((number, tablet) ∷ entry ∷ tablets) ((entry.0, tablet) ∷ tablets) (entry ∷ insert tablets number tablet))
+    go Less rest = (new, lawful)
+    go Equal rest = (new, lawful.1)
+    go Greater rest = (lawful.0, rest)
+
+-- an end that is noted leaves it as it is
+pub noted_closable : (call : Call) (end : Ended) (tablet : Tablet) → IsClosable tablet → IsClosable (noting call end tablet)
+noted_closable call end tablet lawful =
+    go (not (is_absent tablet.handover.role) && has_key tablet.handover.range call.table call.key)
+  where
+    go : (b : Bool) → IsClosable (cond b (record tablet { completions = noted tablet.completions end }) tablet)
+    go true = lawful
+    go false = lawful
+
+-- ---- the tablets of a master
+
+-- they stay lawful where one is changed at its place and what closes its role can be spelled
+pub lawful_set : (rows : List Row) (i : ℕ) (d : Row) (lane : TabletLane) → i < length rows → AreTablets rows → IsClosable (tablet_of lane)
+    → AreTablets (set rows i ((get_or rows i d).0, lane))
+lawful_set rows i d lane within old new = record {
+  order = order_there rows (get_or rows i d).0 i d lane old.order (at_itself rows i d within);
+  closable = closable_set rows i ((get_or rows i d).0, lane) old.closable new;
+}
+
+-- so they do where it was read there
+pub lawful_read : (rows : List Row) (i : ℕ) (read : Row) (lane : TabletLane) → i < length rows → read ≡ get_or rows i read → AreTablets rows → IsClosable (tablet_of lane)
+    → AreTablets (set rows i (read.0, lane))
+lawful_read rows i read lane within is old new =
+    subst (λ (r : Row). AreTablets (set rows i (r.0, lane))) (sym is) (lawful_set rows i read lane within old new)

@@ -1,0 +1,94 @@
+-- What a master chooses for a lawful call can be carried out.
+use Rattle.std.proofs.Common.{◌≡◌, ℕ, Bool, true, false, cond, eqb, ◌&&◌, not, List, [], ◌∷◌, Option, Some, None, is_some, refl, sym, ap, ◌∙◌}
+use Rattle.std.specs.Prelude.{IsSome}
+use Rattle.std.specs.List.{find}
+use Rattle.std.specs.Ordering.{nat_cmp, is_eq}
+use Rattle.std.specs.Cmp.{unsigned_tied}
+use Rattle.std.proofs.lemmas.Bool.{false≢true, eq-eqb}
+use Rattle.rk_types.specs.NumberMap.{NumberMap, get}
+use Rattle.rk_types.specs.declared.call.Call.{Call}
+use Rattle.rk_types.specs.declared.call.Op.{Op}
+use Rattle.rk_types.specs.declared.call.Op.TheVariants as ops
+use Rattle.rk_types.specs.declared.held.Held.{Held}
+use Rattle.rk_done.specs.Completions.{look}
+use Rattle.rk_done.specs.declared.completion.Look.{Look}
+use Rattle.rk_done.specs.declared.completion.Look.TheVariants as looks
+use Rattle.rk_model.specs.Merged.{is_mutation}
+use Rattle.rk_overlay.specs.Live.{record_of}
+use Rattle.rk_message.specs.Calls.{IsLawfulOp}
+use Rattle.rk_world.specs.declared.choice.Choice.TheVariants.{Ignores, Wants, Writes, Refuses}
+use Rattle.rk_world.specs.Tablet.{Tablet}
+use Rattle.rk_world.specs.Premises.{IsLawfulCall}
+use Rattle.rk_world.specs.Master.{Master, is_staged, serving, serves_key}
+use Rattle.rk_world.specs.Requests.{choice_of, choice_at, mutation_choice, fresh_choice, operation, is_known, needs_state, state_of, version_of}
+use Rattle.rk_types.specs.Hashing.{hash_of}
+use Rattle.rk_master.specs.Choices.{IsFit}
+
+-- the tablet that serves a key is there
+found_there : (tablets : NumberMap Tablet) (table : ℕ) (key : List ℕ) (number : ℕ) (tablet : Tablet)
+    → find (λ entry. serves_key table key entry.1) tablets ≡ Some (number, tablet) → IsSome (get tablets number)
+found_there [] table key number tablet found = cc found
+found_there (entry ∷ tablets) table key number tablet found =
+    go (serves_key table key entry.1) (is_eq (nat_cmp number entry.0)) refl (found_there tablets table key number tablet) found
+  where
+    go : (b same : Bool) → is_eq (nat_cmp number entry.0) ≡ same
+        → (find (λ other. serves_key table key other.1) tablets ≡ Some (number, tablet) → IsSome (get tablets number))
+        → cond b (Some entry) (find (λ other. serves_key table key other.1) tablets) ≡ Some (number, tablet)
+        → IsSome (cond same (Some entry.1) (get tablets number))
+    go b true is later at = refl
+    go true false other later at =
+        let first : entry ≡ (number, tablet) = cc at in
+        let named : number ≡ entry.0 = sym (ap (λ (e : ℕ × Tablet). e.0) first) in
+        absurd (false≢true (sym other ∙ unsigned_tied number entry.0 ∙ eq-eqb number entry.0 named))
+    go false false other later at = later at
+
+-- what an operation does at a tablet that is there
+operation_fits : (tablets : NumberMap Tablet) (number : ℕ) (op : Op) (live : Option (ℕ × List ℕ)) → IsSome (get tablets number) → IsLawfulOp op
+    → IsFit tablets (operation number op live)
+operation_fits tablets number ops.Get live there lawful = tt
+operation_fits tablets number (ops.Put value) live there lawful = (there, lawful)
+operation_fits tablets number (ops.CondPut expected value) live there lawful = go (eqb expected (version_of live))
+  where
+    go : (b : Bool) → IsFit tablets (cond b (Writes number (Some value)) (Refuses (version_of live) false))
+    go true = (there, lawful.1)
+    go false = λ removal. absurd (false≢true removal)
+operation_fits tablets number ops.Delete live there lawful = go (is_some live)
+  where
+    go : (b : Bool) → IsFit tablets (cond b (Writes number None) (Refuses 0 true))
+    go true = (there, tt)
+    go false = λ removal. refl
+
+-- what is done with a call that has not ended and is not staged
+fresh_fits : (tablets : NumberMap Tablet) (number : ℕ) (tablet : Tablet) (call : Call) (state : Option Held) → IsSome (get tablets number) → IsLawfulOp call.op
+    → IsFit tablets (fresh_choice number tablet call state)
+fresh_fits tablets number tablet call state there lawful = go (needs_state call.op && not (is_known tablet (hash_of call.key) state))
+  where
+    go : (b : Bool) → IsFit tablets (cond b (Wants number) (operation number call.op (record_of state)))
+    go true = there
+    go false = operation_fits tablets number call.op (record_of state) there lawful
+
+-- what is done with a mutation
+mutation_fits : (master : Master) (number : ℕ) (tablet : Tablet) (call : Call) (known : Look) → IsSome (get master.tablets number) → IsLawfulOp call.op
+    → IsFit master.tablets (mutation_choice master number tablet call known)
+mutation_fits master number tablet call looks.New there lawful = go (is_staged master call.client call.seq)
+  where
+    go : (b : Bool) → IsFit master.tablets (cond b Ignores (fresh_choice number tablet call (state_of master call)))
+    go true = tt
+    go false = fresh_fits master.tablets number tablet call (state_of master call) there lawful
+mutation_fits master number tablet call (looks.Same end) there lawful = tt
+mutation_fits master number tablet call (looks.Old seq) there lawful = tt
+
+-- what a master does with a lawful call
+pub choice_fits : (master : Master) (call : Call) → IsLawfulCall call → IsFit master.tablets (choice_of master call)
+choice_fits master call lawful = at (serving master call.table call.key) refl
+  where
+    at : (o : Option (ℕ × Tablet)) → serving master call.table call.key ≡ o → IsFit master.tablets (choice_at master call o)
+    at None is = tt
+    at (Some (number, tablet)) is = go (is_mutation call.op)
+      where
+        there : IsSome (get master.tablets number)
+        there = found_there master.tablets call.table call.key number tablet is
+
+        go : (b : Bool) → IsFit master.tablets (cond b (mutation_choice master number tablet call (look tablet.completions call.client call.seq)) (fresh_choice number tablet call (state_of master call)))
+        go true = mutation_fits master number tablet call (look tablet.completions call.client call.seq) there lawful.op
+        go false = fresh_fits master.tablets number tablet call (state_of master call) there lawful.op

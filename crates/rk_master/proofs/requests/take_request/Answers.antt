@@ -1,0 +1,13 @@
+use Rattle.std.proofs.Common.{subst, sym, ◌∙◌, ap}
+use Rattle.rk_types.specs.declared.call.Call.{Call}
+use Rattle.rk_world.specs.Requests.{call_of, choice_of}
+use Rattle.rk_master.specs.Choices.{IsFit}
+use Rattle.rk_master.specs.State.{master_of}
+use Rattle.rk_master.proofs.Fitting.{choice_fits}
+use Rattle.rk_master.proofs.requests.take_request.Goals as goal
+
+pub carry_out-requires-clause-fit : goal.carry_out-requires-clause-fit
+carry_out-requires-clause-fit c =
+    let master = master_of c.args.state.now in
+    subst (IsFit master.tablets) (sym (c.in_ok-choice.ensures ∙ ap (λ (call : Call). choice_of master call) c.in_ok-call.ensures))
+    (choice_fits master (call_of c.args.client c.args.request.now) c.requires.lawful)

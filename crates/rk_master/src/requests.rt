@@ -1,0 +1,90 @@
+// What a master makes of a request: a choice, and what the choice changes, tells and serves.
+ghost use Rattle.std.specs.Prelude.{◌≡◌, ℕ, IfOk, OnOk};
+ghost use Rattle.rk_world.specs.Premises.{IsLawfulCall};
+ghost use Rattle.rk_world.specs.Requests as requests;
+ghost use Rattle.rk_world.specs.Worked.{sending};
+ghost use Rattle.rk_master.specs.Parts.{worked_of};
+ghost use Rattle.rk_master.specs.Choices.{IsFit};
+ghost use Rattle.rk_master.specs.State.{IsState, master_of};
+
+use crate::choice::outcome_of;
+use crate::effects::{answering, call_of};
+use crate::staging::{stage_refusal, stage_write};
+use crate::state::MasterState;
+use crate::tablets::want;
+use crate::work::Worked;
+use rk_message::Request;
+use rk_types::{Answer, Call, NoMemory, Outcome, hash};
+use rk_world::Choice;
+
+/// A master takes a client's request. A look at each tablet, a few searches, and the time to spell the entry of a
+/// mutation.
+pub(crate) fn take_request(
+    state: &mut MasterState,
+    client: u32,
+    request: &Request,
+) -> Result<Worked, NoMemory>
+    requires state { IsState state.old }
+    requires lawful { IsLawfulCall (requests.call_of client request.now) }
+    ensures state { OnOk result (IsState state.new) }
+    ensures ok { IfOk result (λ work. worked_of (master_of state.new) work ≡ requests.request_taken (master_of state.old) client request.now) }
+{
+    let call = call_of(client, request)?;
+    let choice = state.choice_of(&call)?;
+    let work = carry_out(state, request.tablet, call, choice)?;
+    Ok(work)
+}
+
+// Carries out what is to be done with a call of a client that asked this tablet.
+fn carry_out(
+    state: &mut MasterState,
+    asked: u32,
+    call: Call,
+    choice: Choice,
+) -> Result<Worked, NoMemory>
+    requires state { IsState state.old }
+    requires lawful { IsLawfulCall call }
+    requires fit { IsFit (master_of state.old).tablets choice }
+    ensures state { OnOk result (IsState state.new) }
+    ensures ok { IfOk result (λ work. worked_of (master_of state.new) work ≡ requests.chosen (master_of state.old) asked call choice) }
+{
+    match choice {
+        Choice::Redirects => state.tell(&call, Answer::Moved(asked)),
+        Choice::Repeats(end) => state.tell(&call, Answer::Done(outcome_of(end))),
+        Choice::Ignores => Ok(state.nothing()),
+        Choice::Wants(number) => {
+            want(state.tablets.as_mut_slice(), number, hash(call.key.bytes()))?;
+            state.tell(&call, Answer::NotYet(call.key.duplicate()?))
+        }
+        Choice::Reads(outcome) => state.tell_read(call, outcome),
+        Choice::Writes(number, value) => {
+            stage_write(state, number, call, value)?;
+            Ok(state.nothing())
+        }
+        Choice::Refuses(found, absent) => {
+            stage_refusal(state, call, found, absent)?;
+            Ok(state.nothing())
+        }
+    }
+}
+
+impl MasterState {
+    // The client of a call is answered.
+    fn tell(&self, call: &Call, answer: Answer) -> Result<Worked, NoMemory>
+        ensures { IfOk result (λ work. worked_of (master_of self.now) work
+            ≡ sending (master_of self.now) (requests.answering (master_of self.now) call.now answer)) }
+    {
+        let mut work = self.nothing();
+        work.send(answering(self.number, call, answer))?;
+        Ok(work)
+    }
+
+    // A read is answered, and served with that.
+    fn tell_read(&self, call: Call, outcome: Outcome) -> Result<Worked, NoMemory>
+        ensures { IfOk result (λ work. (asked : ℕ) → worked_of (master_of self.now) work ≡ requests.chosen (master_of self.now) asked call (Choice.Reads outcome)) }
+    {
+        let mut work = self.tell(&call, Answer::Done(outcome.duplicate()?))?;
+        work.serve(call, outcome)?;
+        Ok(work)
+    }
+}

@@ -1,0 +1,93 @@
+// Staging: an entry is put at the end of the log, and the call that it ends waits for it.
+ghost use Rattle.std.specs.Prelude.{◌≡◌, ◌≤◌, ℕ, true, length, IfSome, IsSome, None, OnOk};
+ghost use Rattle.rk_types.specs.NumberMap.{get, insert};
+ghost use Rattle.rk_types.specs.Text.{value_fault};
+ghost use Rattle.rk_entry.specs.Lawful.{IsLawfulEntry};
+ghost use Rattle.rk_log.specs.Log.{with_entry};
+ghost use Rattle.rk_world.specs.Premises.{IsLawfulCall};
+ghost use Rattle.rk_world.specs.Requests as requests;
+ghost use Rattle.rk_master.specs.Kept.{IsKeptFrom};
+ghost use Rattle.rk_master.specs.State.{IsState, master_of};
+
+use crate::effects::{item_of, refusal_of};
+use crate::staged_items::StagedItems;
+use crate::state::MasterState;
+use crate::tablets::next_version;
+use rk_entry::{Entry, entry_len};
+use rk_log::MasterLog;
+use rk_types::{Call, NoMemory, SEGMENT_BYTES, Value};
+
+/// A log with so many bytes takes no more entries.
+pub const MOST_LOG_BYTES: u64 = 1 << 31;
+
+/// Puts an entry at the end of the log, and takes its item in where it is one. `NoMemory` also where the log has
+/// [`MOST_LOG_BYTES`], or the entry has no room in a segment. The time to spell the entry, and two searches.
+pub(crate) fn append(
+    log: &mut MasterLog,
+    items: &mut StagedItems,
+    entry: Entry,
+) -> Result<(), NoMemory>
+    requires { IsLawfulEntry entry }
+    ensures log { OnOk result (log.new ≡ with_entry log.old entry) }
+    ensures kept { OnOk result ((applied : ℕ) → applied ≤ length log.old.entries
+        → IsKeptFrom applied items.old.newest log.old.entries → IsKeptFrom applied items.new.newest log.new.entries) }
+{
+    if entry_len(&entry) > SEGMENT_BYTES || log.size() >= MOST_LOG_BYTES {
+        return Err(NoMemory);
+    }
+    items.take_in(&entry)?;
+    log.append(entry)?;
+    Ok(())
+}
+
+// Stages a call with its entry.
+fn stage(state: &mut MasterState, call: Call, entry: Entry) -> Result<(), NoMemory>
+    requires state { IsState state.old }
+    requires lawful { IsLawfulEntry entry }
+    ensures state { OnOk result (IsState state.new) }
+    ensures ok { OnOk result (master_of state.new ≡ requests.with_staged (master_of state.old) call entry) }
+{
+    let place = state.log.length();
+    append(&mut state.log, &mut state.items, entry)?;
+    state.calls.insert(place, call)?;
+    Ok(())
+}
+
+/// Stages a write or a removal at the tablet of this number, whose counter rises. `NoMemory` also where no version is
+/// left, or the log is full. The time to spell the entry, and a few searches.
+pub(crate) fn stage_write(
+    state: &mut MasterState,
+    number: u32,
+    call: Call,
+    value: Option<Value>,
+) -> Result<(), NoMemory>
+    requires state { IsState state.old }
+    requires there { IsSome (get state.old.tablets.items number) }
+    requires lawful { IsLawfulCall call }
+    requires value { IfSome value (λ it. value_fault it ≡ None) }
+    ensures state { OnOk result (IsState state.new) }
+    ensures ok { OnOk result (master_of state.new ≡ requests.write_staged (master_of state.old) number call value) }
+{
+    let version = next_version(state.tablets.as_mut_slice(), number)?;
+    let item = item_of(&call, version, value)?;
+    stage(state, call, Entry::Held(item))?;
+    Ok(())
+}
+
+/// Stages a refusal. `NoMemory` also where the log is full. The time to spell the entry, and a search.
+pub(crate) fn stage_refusal(
+    state: &mut MasterState,
+    call: Call,
+    found: u64,
+    absent: bool,
+) -> Result<(), NoMemory>
+    requires state { IsState state.old }
+    requires lawful { IsLawfulCall call }
+    requires none { absent ≡ true → found ≡ 0 }
+    ensures state { OnOk result (IsState state.new) }
+    ensures ok { OnOk result (master_of state.new ≡ requests.refusal_staged (master_of state.old) call found absent) }
+{
+    let refusal = refusal_of(&call, found, absent)?;
+    stage(state, call, refusal)?;
+    Ok(())
+}
