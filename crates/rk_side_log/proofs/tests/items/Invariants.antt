@@ -1,4 +1,4 @@
-use Rattle.std.proofs.Common.{◌≡◌, length, vec_len}
+use Rattle.std.proofs.Common.{◌≡◌, vec_len}
 use Rattle.std.specs.List.{All}
 use Rattle.rk_entry.specs.Lawful.{IsLawfulHeld}
 use Rattle.rk_side_log.proofs.tests.items.Given as goal
