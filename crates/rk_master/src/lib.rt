@@ -5,7 +5,8 @@
 //! it sends, and which calls it served. Neither walks over the log, the staged calls or the clients: tablets are looked at,
 //! and all else is found by searches. After want of memory within a change a master is spent, and answers no more.
 //!
-//! It is a master that serves, closes and joins tablets; nothing pulls, hands over or rebuilds one yet.
+//! It serves tablets, and goes on with those that close or join; nothing turns a tablet to those roles yet, nor pulls or
+//! rebuilds one.
 #![tactic(auto)]
 
 pub use choice::Seen;
