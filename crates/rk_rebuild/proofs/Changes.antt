@@ -1,5 +1,5 @@
 -- What a segment that was read changes: of its master's log, of what was read of each member, and of what readers know.
-use Rattle.std.proofs.Common.{◌≡◌, ℕ, ◌+◌, ◌<◌, Bool, true, false, cond, eqb, List, [], ◌∷◌, ◌++◌, map, drop, set, zero, suc, length, get_or, Option, Some, None, Result, Ok, Err, refl, sym, ap, ◌∙◌, subst, arith, length-append}
+use Rattle.std.proofs.Common.{◌≡◌, ℕ, ◌+◌, ◌<◌, Bool, true, false, cond, eqb, List, [], ◌∷◌, ◌++◌, map, drop, set, zero, suc, length, get_or, Option, Some, None, Result, Ok, Err, refl, sym, ap, ◌∙◌, subst, arith, length-append, not, is_some}
 use Rattle.std.specs.Prelude.{OnOk, OnErr}
 use Rattle.std.specs.List.{AllByRecursion, find, flat_map, position_or_len, slice_get}
 use Rattle.std.proofs.lemmas.Bool.{eqb-true, eq-eqb, ne_eqb, false≢true}
@@ -7,18 +7,19 @@ use Rattle.std.proofs.lemmas.List.{set-get_or}
 use Rattle.std.proofs.lemmas.List.Folds.{find_at, find-set}
 use Rattle.std.proofs.lemmas.List.Sums.{passes_at_first}
 use Rattle.std.proofs.lemmas.Option.{slice_get-get_or}
-use Rattle.rk_types.specs.NumberMap.{insert}
+use Rattle.rk_types.specs.NumberMap.{NumberMap, get, insert}
 use Rattle.rk_types.specs.declared.lineage.Member.{Member}
 use Rattle.rk_types.specs.declared.range.Range.{Range}
 use Rattle.rk_outside.specs.Segments.{bytes_of}
 use Rattle.rk_entry.specs.Entries.{entries_of}
 use Rattle.rk_entry.specs.declared.entry.Entry.{Entry}
 use Rattle.rk_world.specs.Material.{named}
-use Rattle.rk_world.specs.Gather.{Gathered, main_entries, with_main, with_segment, with_read, LAST_MAIN_SEGMENT}
+use Rattle.rk_world.specs.Gather.{Gathered, with_main, with_segment, with_read, LAST_MAIN_SEGMENT}
 use Rattle.rk_rebuild.specs.declared.member.ReadLog.{ReadLog}
 use Rattle.rk_rebuild.specs.declared.member.Reader.{Reader}
-use Rattle.rk_rebuild.specs.Logs.{is_by, log_of, gathered_of, gathered_at, members_of, KnowsNamed, IsShort, IsGathered, passed}
-use Rattle.rk_rebuild.proofs.Logs.{gathered_member, stands_has}
+use Rattle.rk_rebuild.specs.Logs.{advanced, is_by, is_unread, log_of, gathered_of, gathered_at, members_of, IsUpTo, KnowsNamed, IsShort, IsGathered, passed}
+use Rattle.rk_rebuild.proofs.Logs.{gathered_member, none_up_to, stands_has}
+use Rattle.rk_types.proofs.NumberMaps.{get_insert}
 
 -- ---- logs
 
@@ -113,17 +114,30 @@ members_same before logs same [] = refl
 members_same before logs same (reader ∷ readers) = λ i. same reader.member i ∷ members_same before logs same readers i
 
 -- readers of the same members
-pub members_passed : (range : Range) (log : ReadLog) (logs : List ReadLog) (readers : List Reader) → members_of logs (map (passed range log) readers) ≡ members_of logs readers
-members_passed range log logs [] = refl
-members_passed range log logs (reader ∷ readers) =
-    λ i. gathered_at logs (one (eqb reader.member.master log.master) i) ∷ members_passed range log logs readers i
-  where
-    now : Reader
-    now = record reader { named = named range (drop reader.member.from (flat_map (λ entries. entries) log.main)) }
+members_mapped : (change : Reader → Reader) → ((reader : Reader) → (change reader).member ≡ reader.member) → (logs : List ReadLog) (readers : List Reader)
+    → members_of logs (map change readers) ≡ members_of logs readers
+members_mapped change same logs [] = refl
+members_mapped change same logs (reader ∷ readers) = λ i. gathered_at logs (same reader i) ∷ members_mapped change same logs readers i
 
-    one : (b : Bool) → (cond b now reader).member ≡ reader.member
-    one true = refl
-    one false = refl
+member_passed : (range : Range) (log : ReadLog) (reader : Reader) → (passed range log reader).member ≡ reader.member
+member_passed range log reader = go (eqb reader.member.master log.master)
+  where
+    go : (b : Bool) → (cond b (record reader { named = named range (drop reader.member.from (flat_map (λ entries. entries) log.main)); done = 0 }) reader).member ≡ reader.member
+    go true = refl
+    go false = refl
+
+member_advanced : (log : ReadLog) (reader : Reader) → (advanced log reader).member ≡ reader.member
+member_advanced log reader = go (eqb reader.member.master log.master)
+  where
+    go : (b : Bool) → (cond b (record reader { done = reader.done + position_or_len (is_unread log.sides) (drop reader.done reader.named) }) reader).member ≡ reader.member
+    go true = refl
+    go false = refl
+
+pub members_passed : (range : Range) (log : ReadLog) (logs : List ReadLog) (readers : List Reader) → members_of logs (map (passed range log) readers) ≡ members_of logs readers
+members_passed range log logs readers = members_mapped (passed range log) (member_passed range log) logs readers
+
+pub members_advanced : (log : ReadLog) (logs : List ReadLog) (readers : List Reader) → members_of logs (map (advanced log) readers) ≡ members_of logs readers
+members_advanced log logs readers = members_mapped (advanced log) (member_advanced log) logs readers
 
 -- ---- the segments
 
@@ -169,11 +183,11 @@ all_set P (x ∷ xs) zero new has all = (has, all.1)
 all_set P (x ∷ xs) (suc i) new has all = (all.0, all_set P xs i new has all.1)
 
 -- what is known stays where what was read stays
-pub knows_same : (range : Range) (before logs : List ReadLog) → ((member : Member) → gathered_at logs member ≡ gathered_at before member)
+knows_same : (range : Range) (before logs : List ReadLog) → ((member : Member) → gathered_at logs member ≡ gathered_at before member)
     → (readers : List Reader) → AllByRecursion (KnowsNamed range before) readers → AllByRecursion (KnowsNamed range logs) readers
 knows_same range before logs same readers all =
     all_weaker (KnowsNamed range before) (KnowsNamed range logs)
-    (λ reader knows. subst (λ (g : Gathered). g.main_read ≡ true → reader.named ≡ named range (main_entries g)) (sym (same reader.member)) knows)
+    (λ reader knows. subst (λ (g : Gathered). g.main_read ≡ true → IsUpTo range g reader.named reader.done) (sym (same reader.member)) knows)
     readers all
 
 pub gathered_same : (range : Range) (before logs : List ReadLog) (readers : List Reader) → ((member : Member) → gathered_at logs member ≡ gathered_at before member)
@@ -186,39 +200,72 @@ gathered_same range before logs readers same short was = record {
 -- a reader knows what is named once the log of a master was changed
 knows_set : (range : Range) (logs : List ReadLog) (place master : ℕ) (old new : ReadLog) → StandsAt logs place master old → new.master ≡ master
     → (reader now : Reader) → now.member ≡ reader.member
-    → (eqb reader.member.master master ≡ true → KnowsNamed range logs reader → new.main_read ≡ true → now.named ≡ named range (main_entries (gathered_of (Some new) reader.member)))
-    → (eqb reader.member.master master ≡ false → now.named ≡ reader.named)
+    → (eqb reader.member.master master ≡ true → (old.main_read ≡ true → IsUpTo range (gathered_of (Some old) reader.member) reader.named reader.done)
+    → new.main_read ≡ true → IsUpTo range (gathered_of (Some new) reader.member) now.named now.done)
+    → (eqb reader.member.master master ≡ false → now ≡ reader)
     → KnowsNamed range logs reader → KnowsNamed range (set logs place new) now
 knows_set range logs place master old new at new_master reader now same_member if_own if_other knows =
-    subst (λ (m : Member). (gathered_at (set logs place new) m).main_read ≡ true → now.named ≡ named range (main_entries (gathered_at (set logs place new) m))) (sym same_member)
+    subst (λ (m : Member). (gathered_at (set logs place new) m).main_read ≡ true → IsUpTo range (gathered_at (set logs place new) m) now.named now.done) (sym same_member)
     (go (eqb member.master master) refl)
   where
     member : Member
     member = reader.member
 
-    go : (own : Bool) → eqb member.master master ≡ own → (gathered_at (set logs place new) member).main_read ≡ true → now.named ≡ named range (main_entries (gathered_at (set logs place new) member))
+    go : (own : Bool) → eqb member.master master ≡ own → (gathered_at (set logs place new) member).main_read ≡ true → IsUpTo range (gathered_at (set logs place new) member) now.named now.done
     go true own =
-        subst (λ (g : Gathered). g.main_read ≡ true → now.named ≡ named range (main_entries g))
-        (sym (same_gathered logs place master old new at new_master member own)) (if_own own knows)
+        subst (λ (g : Gathered). g.main_read ≡ true → IsUpTo range g now.named now.done)
+        (sym (same_gathered logs place master old new at new_master member own))
+        (if_own own (subst (λ (g : Gathered). g.main_read ≡ true → IsUpTo range g reader.named reader.done) (old_gathered logs place master old at member own) knows))
     go false other =
-        subst (λ (g : Gathered). g.main_read ≡ true → now.named ≡ named range (main_entries g))
+        subst (λ (g : Gathered). g.main_read ≡ true → IsUpTo range g now.named now.done)
         (sym (other_gathered logs place master old new at new_master member other))
-        (λ is. if_other other ∙ knows is)
+        (subst (λ (r : Reader). (gathered_at logs member).main_read ≡ true → IsUpTo range (gathered_at logs member) r.named r.done) (sym (if_other other)) knows)
+
+-- a log as short as before
+same_short : (logs : List ReadLog) (place master : ℕ) (old new : ReadLog) → StandsAt logs place master old → new.main ≡ old.main → AllByRecursion IsShort logs → IsShort new
+same_short logs place master old new at same_main short =
+    subst (λ (segments : List (List Entry)). length segments < LAST_MAIN_SEGMENT) (sym same_main) (stands_has IsShort logs place old short at.within at.log_is)
+
+-- with one more side segment no more are unread
+fewer_unread : (sides : NumberMap (List Entry)) (segment : ℕ) (entries : List Entry) (q : ℕ) → is_unread sides q ≡ false → is_unread (insert sides segment entries) q ≡ false
+fewer_unread sides segment entries q read =
+    ap (λ (o : Option (List Entry)). not (is_some o)) (get_insert sides segment entries q) ∙ go (eqb q segment)
+  where
+    go : (b : Bool) → not (is_some (cond b (Some entries) (get sides q))) ≡ false
+    go true = refl
+    go false = read
 
 -- after a side segment
-pub gathered_side : (range : Range) (logs : List ReadLog) (place master : ℕ) (old new : ReadLog) (readers : List Reader) → StandsAt logs place master old
-    → new.master ≡ old.master → new.main ≡ old.main → old.main_read ≡ true → IsGathered range logs readers → IsGathered range (set logs place new) readers
-gathered_side range logs place master old new readers at same_master same_main old_read was = record {
-  short = all_set IsShort logs place new
-      (subst (λ (segments : List (List Entry)). length segments < LAST_MAIN_SEGMENT) (sym same_main) (stands_has IsShort logs place old was.short at.within at.log_is)) was.short;
-  named = all_weaker (KnowsNamed range logs) (KnowsNamed range (set logs place new))
-      (λ reader. knows_set range logs place master old new at (same_master ∙ log_master logs place master old at) reader reader refl
-      (λ own knows is.
-      subst (λ (g : Gathered). g.main_read ≡ true → reader.named ≡ named range (main_entries g)) (old_gathered logs place master old at reader.member own) knows old_read
-      ∙ ap (λ (segments : List (List Entry)). named range (drop reader.member.from (flat_map (λ entries. entries) segments))) (sym same_main))
-      (λ other. refl))
-      readers was.named;
-}
+pub gathered_side : (range : Range) (logs : List ReadLog) (place master segment : ℕ) (entries : List Entry) (old new : ReadLog) (readers : List Reader) → StandsAt logs place master old
+    → new ≡ record old { sides = insert old.sides segment entries } → old.main_read ≡ true → IsGathered range logs readers
+    → IsGathered range (set logs place new) (map (advanced new) readers)
+gathered_side range logs place master segment entries old new readers at new_is old_read was =
+    subst (λ (log : ReadLog). IsGathered range (set logs place log) (map (advanced log) readers)) (sym new_is) (record {
+      short = all_set IsShort logs place then (same_short logs place master old then at refl was.short) was.short;
+      named = all_mapped (KnowsNamed range logs) (KnowsNamed range (set logs place then)) (advanced then)
+          (λ reader. knows_set range logs place master old then at its_master reader (advanced then reader) (member_advanced then reader)
+          (λ own knows is. own_up_to reader (ap (eqb reader.member.master) its_master ∙ own) (knows old_read))
+          (λ other. ap (λ (b : Bool). cond b (moved reader) reader) (ap (eqb reader.member.master) its_master ∙ other)))
+          readers was.named;
+    })
+  where
+    then : ReadLog
+    then = record old { sides = insert old.sides segment entries }
+
+    its_master : old.master ≡ master
+    its_master = log_master logs place master old at
+
+    moved : Reader → Reader
+    moved reader = record reader { done = reader.done + position_or_len (is_unread then.sides) (drop reader.done reader.named) }
+
+    own_up_to : (reader : Reader) → eqb reader.member.master old.master ≡ true → IsUpTo range (gathered_of (Some old) reader.member) reader.named reader.done
+        → IsUpTo range (gathered_of (Some then) reader.member) (advanced then reader).named (advanced then reader).done
+    own_up_to reader own up =
+        subst (λ (r : Reader). IsUpTo range (gathered_of (Some then) reader.member) r.named r.done)
+        (sym (ap (λ (b : Bool). cond b (moved reader) reader) own)) (record {
+          named = up.named;
+          before = none_up_to (is_unread old.sides) (is_unread then.sides) (fewer_unread old.sides segment entries) reader.named reader.done up.before;
+        })
 
 -- after a main segment
 pub gathered_main : (range : Range) (logs : List ReadLog) (place master : ℕ) (old new : ReadLog) (readers : List Reader) → StandsAt logs place master old
@@ -236,32 +283,28 @@ gathered_main range logs place master old new readers at same_master not_read sh
 pub gathered_pass : (range : Range) (logs : List ReadLog) (place master : ℕ) (old new : ReadLog) (readers : List Reader) → StandsAt logs place master old
     → new.master ≡ old.master → new.main ≡ old.main → IsGathered range logs readers → IsGathered range (set logs place new) (map (passed range old) readers)
 gathered_pass range logs place master old new readers at same_master same_main was = record {
-  short = all_set IsShort logs place new
-      (subst (λ (segments : List (List Entry)). length segments < LAST_MAIN_SEGMENT) (sym same_main) (stands_has IsShort logs place old was.short at.within at.log_is)) was.short;
+  short = all_set IsShort logs place new (same_short logs place master old new at same_main was.short) was.short;
   named = all_mapped (KnowsNamed range logs) (KnowsNamed range (set logs place new)) (passed range old)
-      (λ reader. knows_set range logs place master old new at (same_master ∙ log_master logs place master old at) reader (passed range old reader) (member_is reader)
-      (λ own knows is. named_own reader (ap (eqb reader.member.master) (log_master logs place master old at) ∙ own))
-      (λ other. named_other reader (ap (eqb reader.member.master) (log_master logs place master old at) ∙ other)))
+      (λ reader. knows_set range logs place master old new at (same_master ∙ its_master) reader (passed range old reader) (member_passed range old reader)
+      (λ own knows is. own_up_to reader (ap (eqb reader.member.master) its_master ∙ own))
+      (λ other. ap (λ (b : Bool). cond b (now reader) reader) (ap (eqb reader.member.master) its_master ∙ other)))
       readers was.named;
 }
   where
+    its_master : old.master ≡ master
+    its_master = log_master logs place master old at
+
     now : Reader → Reader
-    now reader = record reader { named = named range (drop reader.member.from (flat_map (λ entries. entries) old.main)) }
+    now reader = record reader { named = named range (drop reader.member.from (flat_map (λ entries. entries) old.main)); done = 0 }
 
-    member_is : (reader : Reader) → (passed range old reader).member ≡ reader.member
-    member_is reader = go (eqb reader.member.master old.master)
-      where
-        go : (b : Bool) → (cond b (now reader) reader).member ≡ reader.member
-        go true = refl
-        go false = refl
-
-    named_own : (reader : Reader) → eqb reader.member.master old.master ≡ true → (passed range old reader).named ≡ named range (main_entries (gathered_of (Some new) reader.member))
-    named_own reader own =
-        ap (λ (b : Bool). (cond b (now reader) reader).named) own
-        ∙ ap (λ (segments : List (List Entry)). named range (drop reader.member.from (flat_map (λ entries. entries) segments))) (sym same_main)
-
-    named_other : (reader : Reader) → eqb reader.member.master old.master ≡ false → (passed range old reader).named ≡ reader.named
-    named_other reader other = ap (λ (b : Bool). (cond b (now reader) reader).named) other
+    own_up_to : (reader : Reader) → eqb reader.member.master old.master ≡ true
+        → IsUpTo range (gathered_of (Some new) reader.member) (passed range old reader).named (passed range old reader).done
+    own_up_to reader own =
+        subst (λ (r : Reader). IsUpTo range (gathered_of (Some new) reader.member) r.named r.done)
+        (sym (ap (λ (b : Bool). cond b (now reader) reader) own)) (record {
+          named = ap (λ (segments : List (List Entry)). named range (drop reader.member.from (flat_map (λ entries. entries) segments))) (sym same_main);
+          before = refl;
+        })
 
 -- ---- a log of which nothing was read
 
@@ -336,3 +379,8 @@ both P Q (Err e) p q = tt
 pub both_err : {T E : Type 0} (P Q : Type 0) (r : Result T E) → OnErr r P → OnErr r Q → OnErr r (P × Q)
 both_err P Q (Ok x) p q = tt
 both_err P Q (Err e) p q = (p, q)
+
+-- what holds anyway, it holds on an error
+pub on_err : {T E : Type 0} {X : Type 0} (r : Result T E) → X → OnErr r X
+on_err (Ok x) holds = tt
+on_err (Err e) holds = holds

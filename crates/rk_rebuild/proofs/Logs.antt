@@ -1,6 +1,7 @@
 -- What is read next, as the code looks for it, and what a change of one log leaves of the others.
-use Rattle.std.proofs.Common.{◌≡◌, ℕ, ◌+◌, ◌<◌, Bool, true, false, cond, List, [], ◌∷◌, map, drop, length, get_or, Option, Some, None, refl, sym, ap, ◌∙◌, subst}
-use Rattle.std.specs.List.{AllByRecursion, find}
+use Rattle.std.proofs.Common.{◌≡◌, ℕ, ◌+◌, ◌<◌, Bool, true, false, cond, List, [], ◌∷◌, map, drop, length, get_or, Option, Some, None, refl, sym, ap, ◌∙◌, subst, ◌++◌, take, zero, suc, not, arith}
+use Rattle.std.proofs.Math.Seq.{take-add}
+use Rattle.std.specs.List.{position_or_len, AllByRecursion, find}
 use Rattle.std.specs.Option.{option_map, option_or}
 use Rattle.std.proofs.lemmas.List.{at_drop_more}
 use Rattle.std.proofs.lemmas.List.Elements.{All-from_recursion}
@@ -70,3 +71,53 @@ next_behind range logs readers i reader within is next =
 pub members_unread : (readers : List Reader) → members_of [] readers ≡ map unread (map (λ reader. reader.member) readers)
 members_unread [] = refl
 members_unread (reader ∷ readers) = ap (λ rest. unread reader.member ∷ rest) (members_unread readers)
+
+-- ---- the first ones of a list
+
+-- what is found behind some first ones that do not pass is what is found
+pub find_behind : {X : Type 0} (p : X → Bool) (xs : List X) (n : ℕ) → find p (take n xs) ≡ None → find p (drop n xs) ≡ find p xs
+find_behind p [] zero none = refl
+find_behind p [] (suc n) none = refl
+find_behind p (x ∷ xs) zero none = refl
+find_behind {X} p (x ∷ xs) (suc n) none = go (p x) none (find_behind p xs n)
+  where
+    go : (b : Bool) → cond b (Some x) (find p (take n xs)) ≡ None → (find p (take n xs) ≡ None → find p (drop n xs) ≡ find p xs) → find p (drop n xs) ≡ cond b (Some x) (find p xs)
+    go true here rest = absurd (cc here)
+    go false behind rest = rest behind
+
+-- where none passes, none passes a test that is passed less
+find_fewer : {X : Type 0} (p q : X → Bool) → ((x : X) → p x ≡ false → q x ≡ false) → (xs : List X) → find p xs ≡ None → find q xs ≡ None
+find_fewer p q fewer [] none = refl
+find_fewer {X} p q fewer (x ∷ xs) none = go (p x) refl none (find_fewer p q fewer xs)
+  where
+    go : (b : Bool) → p x ≡ b → cond b (Some x) (find p xs) ≡ None → (find p xs ≡ None → find q xs ≡ None) → cond (q x) (Some x) (find q xs) ≡ None
+    go true passes here rest = absurd (cc here)
+    go false fails behind rest = ap (λ (b : Bool). cond b (Some x) (find q xs)) (fewer x fails) ∙ rest behind
+
+-- none passes in two lists
+find_in_both : {X : Type 0} (p : X → Bool) (xs ys : List X) → find p xs ≡ None → find p ys ≡ None → find p (xs ++ ys) ≡ None
+find_in_both p [] ys none none_behind = none_behind
+find_in_both {X} p (x ∷ xs) ys none none_behind = go (p x) none (λ rest. find_in_both p xs ys rest none_behind)
+  where
+    go : (b : Bool) → cond b (Some x) (find p xs) ≡ None → (find p xs ≡ None → find p (xs ++ ys) ≡ None) → cond b (Some x) (find p (xs ++ ys)) ≡ None
+    go true here rest = absurd (cc here)
+    go false behind rest = rest behind
+
+-- none passes before the first that does
+none_before : {X : Type 0} (p : X → Bool) (xs : List X) → find p (take (position_or_len p xs) xs) ≡ None
+none_before p [] = refl
+none_before {X} p (x ∷ xs) = go (p x) refl (none_before p xs)
+  where
+    go : (b : Bool) → p x ≡ b → find p (take (position_or_len p xs) xs) ≡ None → find p (take (cond (not b) (1 + position_or_len p xs) 0) (x ∷ xs)) ≡ None
+    go true passes rest = refl
+    go false fails rest =
+        let one_more : 1 + position_or_len p xs ≡ suc (position_or_len p xs) = omega arith in
+        ap (λ (n : ℕ). find p (take n (x ∷ xs))) one_more
+        ∙ ap (λ (b : Bool). cond b (Some x) (find p (take (position_or_len p xs) xs))) fails ∙ rest
+
+-- none passes before the first that does behind these
+pub none_up_to : {X : Type 0} (p q : X → Bool) → ((x : X) → p x ≡ false → q x ≡ false) → (xs : List X) (n : ℕ) → find p (take n xs) ≡ None
+    → find q (take (n + position_or_len q (drop n xs)) xs) ≡ None
+none_up_to p q fewer xs n none =
+    ap (find q) (take-add n (position_or_len q (drop n xs)) xs)
+    ∙ find_in_both q (take n xs) (take (position_or_len q (drop n xs)) (drop n xs)) (find_fewer p q fewer (take n xs) none) (none_before q (drop n xs))

@@ -58,8 +58,7 @@ impl Gather {
         })
     }
 
-    /// What is read next; none where all is gathered. A look at each member, and of one whose main segments are passed a
-    /// search for each side segment that was read.
+    /// What is read next; none where all is gathered. A look at each member, and a search for a side segment.
     pub fn next(&self) -> Option<Reading>
         ensures { result ≡ gathers.next_reading self.now }
     {
@@ -67,9 +66,9 @@ impl Gather {
     }
 
     /// Takes what was read of a segment of a master, none where it was never written. False where it is not the one that
-    /// is read next: then nothing changes. After `NoMemory` nothing has changed; it comes too where a log has 2^31 main
-    /// segments. A step for each entry of the segment; for each entry of the log where its main segments are passed by
-    /// this; and what [`Gather::next`] takes.
+    /// is read next: then nothing changes. After `NoMemory` nothing has changed; it comes too for the main segment of number
+    /// 2^31. What [`Gather::next`] takes, and a step for each entry of the segment, or for each entry of the log where its
+    /// main segments are passed by this.
     pub fn take(&mut self, master: u8, segment: u32, bytes: Option<&[u8]>) -> Result<bool, NoMemory>
         ensures awaited { IfOk result (λ taken. taken ≡ gathers.is_awaited (gathers.next_reading self.old) master segment) }
         ensures taken { IfOk result (λ taken. OnTrue taken
@@ -182,6 +181,7 @@ fn readers_of(alloc: Global, lineage: &[Member], own: u8) -> Result<Vec<Reader>,
             readers.push(Reader {
                 member: *member,
                 named: Listed::new(alloc),
+                done: 0,
             })?;
         }
     }

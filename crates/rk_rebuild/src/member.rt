@@ -1,10 +1,10 @@
-ghost use Rattle.std.specs.Prelude.{◌≡◌, find, is_some, not, [], false, true};
+ghost use Rattle.std.specs.Prelude.{◌≡◌, find, is_some, not, [], false, true, drop};
 ghost use Rattle.std.specs.List.{AllByRecursion};
 ghost use Rattle.std.specs.Option.{option_copied};
 ghost use Rattle.rk_types.specs.NumberMap.{get};
 ghost use Rattle.rk_types.specs.declared.range.Range.{Range as Hashes};
 ghost use Rattle.rk_world.specs.Gather as gathers;
-ghost use Rattle.rk_rebuild.specs.Logs.{IsGathered, IsShort, KnowsNamed, gathered_at, log_of as log_of_lem, members_of};
+ghost use Rattle.rk_rebuild.specs.Logs.{IsGathered, IsShort, KnowsNamed, gathered_at, is_unread as is_unread_lem, log_of as log_of_lem, members_of};
 
 use rk_entry::Entry;
 use rk_types::{Listed, Member, Numbered};
@@ -20,12 +20,13 @@ pub(crate) struct ReadLog {
     pub sides: Numbered<Listed<Entry>>,
 }
 
-/// A member of a lineage, with the side segments that its entries name, each once. These are known once the last main
-/// segment of its master was passed.
+/// A member of a lineage, with the side segments that its entries name, each once, and how many first ones of them were
+/// read. These are known once the last main segment of its master was passed.
 #[derive(Drop)]
 pub(crate) struct Reader {
     pub member: Member,
     pub named: Listed<u32>,
+    pub done: usize,
 }
 
 impl ReadLog {
@@ -84,19 +85,33 @@ fn next_segment(logs: &[ReadLog], reader: &Reader) -> Option<u32>
         return Some(1);
     };
     if log.main_read {
-        return next_side(reader.named.as_slice(), &log.sides);
+        return next_side(left_of(reader.named.as_slice(), reader.done), &log.sides);
     }
     Some(log.main.as_slice().len() as u32 + 1)
 }
 
+/// The numbers behind the first ones of these.
+pub(crate) fn left_of(numbers: &[u32], done: usize) -> &[u32]
+    ensures { result.now ≡ drop done numbers.now }
+{
+    numbers.split_at(done.min(numbers.len())).1
+}
+
 // The first of these side segments that was not read. A search for each of them up to that one.
 fn next_side(named: &[u32], sides: &Numbered<Listed<Entry>>) -> Option<u32>
-    ensures { result ≡ find (λ segment. not (is_some (get sides.now segment))) named.now }
+    ensures { result ≡ find (is_unread_lem sides.now) named.now }
 {
     for segment in named {
-        if sides.get(u64::from(*segment)).is_none() {
+        if is_unread(sides, *segment) {
             return Some(*segment);
         }
     }
     None
+}
+
+/// Whether a side segment was not read. One search.
+pub(crate) fn is_unread(sides: &Numbered<Listed<Entry>>, segment: u32) -> bool
+    ensures { result ≡ is_unread_lem sides.now segment }
+{
+    sides.get(u64::from(segment)).is_none()
 }

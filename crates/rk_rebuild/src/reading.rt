@@ -9,12 +9,12 @@ ghost use Rattle.rk_entry.specs.Entries.{entries_of};
 ghost use Rattle.rk_world.specs.Gather.{LAST_MAIN_SEGMENT as LAST, with_read};
 ghost use Rattle.rk_rebuild.specs.Lent.{lent};
 ghost use Rattle.rk_rebuild.specs.declared.member.ReadLog.{ReadLog as Log};
-ghost use Rattle.rk_rebuild.specs.Logs.{IsGathered, IsShort, gathered_at, is_by, members_of, passed};
+ghost use Rattle.rk_rebuild.specs.Logs.{IsGathered, IsShort, advanced, gathered_at, is_by, is_unread as is_unread_lem, members_of, passed};
 
 use crate::material::{lend_all, named};
-use crate::member::{ReadLog, Reader};
+use crate::member::{ReadLog, Reader, is_unread, left_of};
 use rk_entry::{Entry, entries};
-use rk_types::{Listed, NoMemory, Range};
+use rk_types::{Listed, NoMemory, Numbered, Range};
 use std::alloc::Global;
 
 /// The last main segment that there can be.
@@ -41,7 +41,9 @@ pub(crate) fn read(
     let place = opened(alloc, logs, master)?;
     let log = &mut logs[place];
     if log.main_read {
-        return read_side(alloc, log, segment, bytes);
+        read_side(alloc, log, segment, bytes)?;
+        advance(readers, log);
+        return Ok(());
     }
     match bytes {
         Some(bytes) => read_main(alloc, log, bytes),
@@ -89,6 +91,38 @@ fn read_side(
 {
     let (side, _) = entries(alloc, bytes.unwrap_or(&[]))?;
     log.sides.insert(u64::from(segment), Listed::from_vec(side))
+}
+
+// The readers of a master are moved on to the first side segment that was not read. A search for each that they pass.
+fn advance(readers: &mut Vec<Reader>, log: &ReadLog)
+    ensures { readers.new.items ≡ map_list (advanced log.now) readers.old.items }
+{
+    for reader in readers.iter_mut() {
+        advance_one(reader, log);
+    }
+}
+
+// A reader is moved on, where it is one of the master.
+fn advance_one(reader: &mut Reader, log: &ReadLog)
+    ensures { reader.new ≡ advanced log.now reader.old }
+{
+    if reader.member.master != log.master {
+        return;
+    }
+    let passed = read_first(left_of(reader.named.as_slice(), reader.done), &log.sides);
+    reader.done += passed;
+}
+
+// How many first ones of these side segments were read. A search for each of them.
+fn read_first(segments: &[u32], sides: &Numbered<Listed<Entry>>) -> usize
+    ensures { result ≡ position_or_len (is_unread_lem sides.now) segments.now }
+{
+    for (place, segment) in segments.iter().enumerate() {
+        if is_unread(sides, *segment) {
+            return place;
+        }
+    }
+    segments.len()
 }
 
 // A main segment was read.
@@ -153,11 +187,13 @@ fn one_passed(
         return Ok(Reader {
             member: reader.member,
             named: reader.named.duplicate()?,
+            done: reader.done,
         });
     }
     Ok(Reader {
         member: reader.member,
         named: named(alloc, range, behind(entries, reader.member.from))?,
+        done: 0,
     })
 }
 

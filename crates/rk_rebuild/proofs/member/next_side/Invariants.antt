@@ -1,9 +1,7 @@
-use Rattle.std.proofs.Common.{◌≡◌, drop, not, is_some}
+use Rattle.std.proofs.Common.{◌≡◌, drop}
 use Rattle.std.specs.List.{find}
-use Rattle.rk_types.specs.NumberMap.{get}
+use Rattle.rk_rebuild.specs.Logs.{is_unread}
 use Rattle.rk_rebuild.proofs.member.next_side.Given as goal
 
 abbrev pub invariant-loop-segment : goal.invariant-loop-segment
-invariant-loop-segment l =
-    find (λ segment. not (is_some (get l.sides segment))) l.named
-    ≡ find (λ segment. not (is_some (get l.sides segment))) (drop l.segment-index l.named)
+invariant-loop-segment l = find (is_unread l.sides) l.named ≡ find (is_unread l.sides) (drop l.segment-index l.named)

@@ -18,6 +18,6 @@ returns c = λ log its main_is.
     ∙ ap (λ (es : List (Bor Entry)). named c.args.range.now (lent es)) c.behind.ensures
     ∙ ap (named c.args.range.now) (sym (drop-map (λ (entry : Bor Entry). entry.now) reader.member.from entries))
     ∙ ap (λ (es : List Entry). named c.args.range.now (drop reader.member.from es)) (sym main_is) in
-    let now : Reader = record reader { named = named c.args.range.now (drop reader.member.from (flat_map (λ segment. segment) log.main)) } in
-    (λ i. record reader { named = known i })
+    let now : Reader = record reader { named = named c.args.range.now (drop reader.member.from (flat_map (λ segment. segment) log.main)); done = 0 } in
+    (λ i. record reader { named = known i; done = 0 })
     ∙ sym (ap (λ (b : Bool). cond b now reader) (eq-eqb reader.member.master log.master (c.if-reader-master.false ∙ sym its)))

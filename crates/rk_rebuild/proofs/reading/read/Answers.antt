@@ -8,7 +8,7 @@ use Rattle.rk_world.specs.Gather.{with_read, LAST_MAIN_SEGMENT}
 use Rattle.rk_rebuild.specs.declared.member.ReadLog.{ReadLog}
 use Rattle.rk_rebuild.specs.declared.member.Reader.{Reader}
 use Rattle.rk_rebuild.specs.Logs.{IsGathered, gathered_of, members_of, passed}
-use Rattle.rk_rebuild.proofs.Changes.{StandsAt, log_master, members_read, members_same, members_passed, side_reads, main_reads, pass_reads, gathered_same, gathered_side, gathered_main, gathered_pass, put_back, short_main, either, both, both_err, ok_gives, err_gives}
+use Rattle.rk_rebuild.proofs.Changes.{StandsAt, log_master, members_read, members_same, members_advanced, members_passed, side_reads, main_reads, pass_reads, gathered_same, gathered_side, gathered_main, gathered_pass, put_back, short_main, either, both, both_err, ok_gives, err_gives, on_err}
 use Rattle.rk_rebuild.proofs.reading.read.Goals as goal
 
 -- a side segment was read
@@ -23,27 +23,13 @@ returns-then-log-clause-ok c =
     let at : StandsAt opened place c.args.master old =
     record { place_is = c.in_ok-place.ensures.place; within = omega (arith, c.in_ok-place.ensures.within, c.opened.new.logs.ok.0); log_is = c.index_mut-log.ensures.value } in
     let bytes : Option (List ℕ) = option_map (λ (b : Bor (List ℕ)). b.now) c.args.bytes in
-    ok_gives c.read_side.result c.read_side.ensures.ok
-    (λ (is : new ≡ record old { sides = insert old.sides c.args.segment (entries_of (bytes_of bytes)) }).
-    members_read before opened place c.args.master old new c.args.segment bytes c.in_ok-place.ensures.same at
+    let is : new ≡ record old { sides = insert old.sides c.args.segment (entries_of (bytes_of bytes)) } = c.in_ok-read_side.ensures.ok in
+    ap (members_of (set opened place new)) c.advance.ensures
+    ∙ members_advanced new (set opened place new) readers
+    ∙ members_read before opened place c.args.master old new c.args.segment bytes c.in_ok-place.ensures.same at
     (ap (λ (log : ReadLog). log.master) is ∙ log_master opened place c.args.master old at)
     (λ member. ap (λ (log : ReadLog). gathered_of (Some log) member) is ∙ side_reads old c.args.segment bytes c.if-log.true member)
-    readers)
-
-pub returns-then-log-clause-err : goal.returns-then-log-clause-err
-returns-then-log-clause-err c =
-    let before : List ReadLog = c.args.logs.now.items in
-    let opened : List ReadLog = c.opened.new.logs.items in
-    let place : ℕ = c.in_ok-place.place in
-    let old : ReadLog = c.index_mut-log.result.now in
-    let new : ReadLog = c.read_side.new.log in
-    let readers : List Reader = c.args.readers.now.items in
-    let at : StandsAt opened place c.args.master old =
-    record { place_is = c.in_ok-place.ensures.place; within = omega (arith, c.in_ok-place.ensures.within, c.opened.new.logs.ok.0); log_is = c.index_mut-log.ensures.value } in
-    err_gives c.read_side.result c.read_side.ensures.err
-    (λ (is : new ≡ old).
-    ap (λ (logs : List ReadLog). members_of logs readers) (put_back opened place c.args.master old new at is)
-    ∙ members_same before opened c.in_ok-place.ensures.same readers)
+    readers
 
 pub returns-then-log-clause-kept : goal.returns-then-log-clause-kept
 returns-then-log-clause-kept c =
@@ -57,11 +43,37 @@ returns-then-log-clause-kept c =
     record { place_is = c.in_ok-place.ensures.place; within = omega (arith, c.in_ok-place.ensures.within, c.opened.new.logs.ok.0); log_is = c.index_mut-log.ensures.value } in
     let bytes : Option (List ℕ) = option_map (λ (b : Bor (List ℕ)). b.now) c.args.bytes in
     let was : IsGathered c.args.range.now opened readers = gathered_same c.args.range.now before opened readers c.in_ok-place.ensures.same (c.in_ok-place.ensures.short c.requires.short) c.requires in
-    either c.read_side.result c.read_side.ensures.ok c.read_side.ensures.err
-    (λ (is : new ≡ record old { sides = insert old.sides c.args.segment (entries_of (bytes_of bytes)) }).
-    gathered_side c.args.range.now opened place c.args.master old new readers at
-    (ap (λ (log : ReadLog). log.master) is) (ap (λ (log : ReadLog). log.main) is) c.if-log.true was)
-    (λ (is : new ≡ old). subst (λ (logs : List ReadLog). IsGathered c.args.range.now logs readers) (sym (put_back opened place c.args.master old new at is)) was)
+    let is : new ≡ record old { sides = insert old.sides c.args.segment (entries_of (bytes_of bytes)) } = c.in_ok-read_side.ensures.ok in
+    subst (IsGathered c.args.range.now (set opened place new)) (sym c.advance.ensures)
+    (gathered_side c.args.range.now opened place c.args.master c.args.segment (entries_of (bytes_of bytes)) old new readers at is c.if-log.true was)
+
+-- none was read for want of memory
+pub returns-in_err-read_side-clause-err : goal.returns-in_err-read_side-clause-err
+returns-in_err-read_side-clause-err c =
+    let before : List ReadLog = c.args.logs.now.items in
+    let opened : List ReadLog = c.opened.new.logs.items in
+    let place : ℕ = c.in_ok-place.place in
+    let old : ReadLog = c.index_mut-log.result.now in
+    let new : ReadLog = c.read_side.new.log in
+    let readers : List Reader = c.args.readers.now.items in
+    let at : StandsAt opened place c.args.master old =
+    record { place_is = c.in_ok-place.ensures.place; within = omega (arith, c.in_ok-place.ensures.within, c.opened.new.logs.ok.0); log_is = c.index_mut-log.ensures.value } in
+    on_err c.from_residual-in_err-read_side.result
+    (ap (λ (logs : List ReadLog). members_of logs readers) (put_back opened place c.args.master old new at c.in_err-read_side.ensures.err)
+    ∙ members_same before opened c.in_ok-place.ensures.same readers)
+
+pub returns-in_err-read_side-clause-kept : goal.returns-in_err-read_side-clause-kept
+returns-in_err-read_side-clause-kept c =
+    let before : List ReadLog = c.args.logs.now.items in
+    let opened : List ReadLog = c.opened.new.logs.items in
+    let place : ℕ = c.in_ok-place.place in
+    let old : ReadLog = c.index_mut-log.result.now in
+    let new : ReadLog = c.read_side.new.log in
+    let readers : List Reader = c.args.readers.now.items in
+    let at : StandsAt opened place c.args.master old =
+    record { place_is = c.in_ok-place.ensures.place; within = omega (arith, c.in_ok-place.ensures.within, c.opened.new.logs.ok.0); log_is = c.index_mut-log.ensures.value } in
+    let was : IsGathered c.args.range.now opened readers = gathered_same c.args.range.now before opened readers c.in_ok-place.ensures.same (c.in_ok-place.ensures.short c.requires.short) c.requires in
+    subst (λ (logs : List ReadLog). IsGathered c.args.range.now logs readers) (sym (put_back opened place c.args.master old new at c.in_err-read_side.ensures.err)) was
 
 -- a main segment was read
 pub returns-in-Some-clause-ok : goal.returns-in-Some-clause-ok

@@ -1,0 +1,9 @@
+use Rattle.std.proofs.Common.{◌≡◌, ◌++◌, drop, map, take}
+use Rattle.rk_rebuild.specs.Logs.{advanced}
+use Rattle.rk_rebuild.proofs.reading.advance.Given as goal
+
+-- the readers so far are moved on
+abbrev pub invariant-loop-reader : goal.invariant-loop-reader
+invariant-loop-reader l =
+    l.reader-items
+    ≡ map (advanced l.log) (take l.reader-index l.initial.reader-items) ++ drop l.reader-index l.initial.reader-items
