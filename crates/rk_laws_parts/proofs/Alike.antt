@@ -13,9 +13,9 @@ use Rattle.rk_world.specs.Tablet.{Tablet}
 use Rattle.rk_world.specs.RoleTests.{is_rebuilding}
 use Rattle.rk_world.specs.Requests.{counted_up}
 use Rattle.rk_world.specs.Coordinator.{Handed}
-use Rattle.rk_world.specs.Sound.Posts.{Post, Owner, OpeningSource, InvitedTarget, ReadyTarget, MovingSource, MovingTarget, OnlyRebuilder, FirstRebuilder, LastRebuilder, OutsideRebuilder, FormerMember, Bystander, speaks}
-use Rattle.rk_world.specs.Sound.Handing.{is_wanting, second_has, is_waiting, is_waiting_at, handed_for_grant, handed_by}
-use Rattle.rk_world.specs.Sound.Small.{as_frozen}
+use Rattle.rk_sound.specs.Posts.{Post, Owner, OpeningSource, InvitedTarget, ReadyTarget, MovingSource, MovingTarget, OnlyRebuilder, FirstRebuilder, LastRebuilder, OutsideRebuilder, FormerMember, Bystander, speaks}
+use Rattle.rk_sound.specs.Handing.{is_wanting, second_has, is_waiting, is_waiting_at, handed_for_grant, handed_by}
+use Rattle.rk_sound.specs.Small.{as_frozen}
 use Rattle.rk_laws_parts.proofs.Changing.{KeepsNow}
 use Rattle.rk_laws_parts.proofs.Differs.{keeps_each}
 

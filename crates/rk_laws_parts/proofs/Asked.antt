@@ -5,7 +5,7 @@ use Rattle.rk_types.specs.NumberMap.{NumberMap, insert}
 use Rattle.rk_types.specs.declared.history.Placed.{Placed}
 use Rattle.rk_message.specs.declared.message.Message.{Message}
 use Rattle.rk_world.specs.Ledger.{LastCall}
-use Rattle.rk_world.specs.Sound.Asked.{Asked, RequestSays, IsRequest}
+use Rattle.rk_sound.specs.Asked.{Asked, RequestSays, IsRequest}
 
 -- a message is sent that is no request, or one of a call that was asked
 pub asked_sent : (lane : ℕ) (asked : ℕ → Option LastCall) (requests : NumberMap Message) (journal : List Placed) (wire : NumberMap Message) (number : ℕ) (message : Message) → Asked lane asked requests journal wire → RequestSays asked journal message.from message.body → Asked lane asked requests journal (insert wire number message)

@@ -21,9 +21,9 @@ use Rattle.rk_world.specs.Ends.{told, told_by}
 use Rattle.rk_world.specs.Base.{Base}
 use Rattle.rk_world.specs.Tablet.{Tablet}
 use Rattle.rk_world.specs.Coordinator.{Handed}
-use Rattle.rk_world.specs.Sound.Posts.{post_of, speaks, StillCounts}
-use Rattle.rk_world.specs.Sound.Handing.{handed_by, handed_for_grant}
-use Rattle.rk_world.specs.Sound.Calls.{Calls, IsKnown, IsStagedEnd, ReachAll}
+use Rattle.rk_sound.specs.Posts.{post_of, speaks, StillCounts}
+use Rattle.rk_sound.specs.Handing.{handed_by, handed_for_grant}
+use Rattle.rk_sound.specs.Calls.{Calls, IsKnown, IsStagedEnd, ReachAll}
 use Rattle.rk_laws_parts.proofs.Changing.{Lane, Freezes, Stages}
 use Rattle.rk_laws_parts.proofs.Differs.{still_counts}
 use Rattle.rk_laws_parts.proofs.Alike.{AreAlike, alike_all, alike_frozen, speaks_alike, handed_for_grant_alike, handed_by_alike}

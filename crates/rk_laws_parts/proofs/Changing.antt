@@ -14,7 +14,7 @@ use Rattle.rk_world.specs.Ranges.{has_key}
 use Rattle.rk_world.specs.Tablet.{Tablet}
 use Rattle.rk_world.specs.Requests.{counted_up}
 use Rattle.rk_world.specs.Written.{Written, member_truth, member_rest, member_material}
-use Rattle.rk_world.specs.Sound.Small.{as_frozen}
+use Rattle.rk_sound.specs.Small.{as_frozen}
 
 -- what is kept for a number is this now, and what is kept for each other one is what it was
 pub record DiffersAt {X : Type 0} (number : ℕ) (thing : X) (old new : ℕ → X) : Type 0 where

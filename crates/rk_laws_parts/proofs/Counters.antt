@@ -20,13 +20,13 @@ use Rattle.rk_world.specs.Base.{Base}
 use Rattle.rk_world.specs.Tablet.{Tablet}
 use Rattle.rk_world.specs.Coordinator.{Handed}
 use Rattle.rk_world.specs.Written.{Written}
-use Rattle.rk_world.specs.Sound.Rows.{Rows, IsFormed}
-use Rattle.rk_world.specs.Sound.Posts.{post_of, speaks, StillCounts}
-use Rattle.rk_world.specs.Sound.Roles.{Roles, RoleFits}
-use Rattle.rk_world.specs.Sound.Handing.{handed_by, handed_for_grant}
-use Rattle.rk_world.specs.Sound.Counters.{Counters, IsFloor, IsNext}
-use Rattle.rk_world.specs.Sound.Messages.{Messages, SaysOf}
-use Rattle.rk_world.specs.Sound.Changes.{IsServed}
+use Rattle.rk_sound.specs.Rows.{Rows, IsFormed}
+use Rattle.rk_sound.specs.Posts.{post_of, speaks, StillCounts}
+use Rattle.rk_sound.specs.Roles.{Roles, RoleFits}
+use Rattle.rk_sound.specs.Handing.{handed_by, handed_for_grant}
+use Rattle.rk_sound.specs.Counters.{Counters, IsFloor, IsNext}
+use Rattle.rk_sound.specs.Messages.{Messages, SaysOf}
+use Rattle.rk_sound.specs.Changes.{IsServed}
 use Rattle.rk_laws_parts.proofs.Changing.{Lane, Freezes, Stages, with_one_more}
 use Rattle.rk_laws_parts.proofs.Differs.{keeps_each, still_counts}
 use Rattle.rk_laws_parts.proofs.Lists.{all_in}

@@ -17,9 +17,9 @@ use Rattle.rk_message.specs.declared.message.Message.{Message}
 use Rattle.rk_world.specs.Marks.{Mark}
 use Rattle.rk_world.specs.Tablet.{Tablet}
 use Rattle.rk_world.specs.Written.{Written}
-use Rattle.rk_world.specs.Sound.Terms.{tenure_in, range_in}
-use Rattle.rk_world.specs.Sound.Cover.{Cover, IsWithinRows, IsItemWithin, IsEntryWithin, IsOfWholeRows}
-use Rattle.rk_world.specs.Sound.Changes.{IsServed}
+use Rattle.rk_sound.specs.Terms.{tenure_in, range_in}
+use Rattle.rk_sound.specs.Cover.{Cover, IsWithinRows, IsItemWithin, IsEntryWithin, IsOfWholeRows}
+use Rattle.rk_sound.specs.Changes.{IsServed}
 use Rattle.rk_laws_parts.proofs.Changing.{Lane, Freezes, Stages, with_one_more}
 use Rattle.rk_laws_parts.proofs.Differs.{differs_each}
 use Rattle.rk_laws_parts.proofs.Seen.{LooksAs, each_looks_frozen}

@@ -3,7 +3,7 @@ use Rattle.std.proofs.Common.{sym, subst, ◌∙◌, ⊎_elim, ◌≡◌, ℕ, �
 use Rattle.std.specs.Prelude.{◌≡◌, ℕ, Bool, true}
 use Rattle.std.proofs.lemmas.Bool.{cases_eq}
 use Rattle.rk_world.specs.Tablet.{Tablet}
-use Rattle.rk_world.specs.Sound.Posts.{StillCounts}
+use Rattle.rk_sound.specs.Posts.{StillCounts}
 use Rattle.rk_laws_parts.proofs.Changing.{DiffersAt, KeepsNow}
 
 -- what is kept for each number goes on as what was, where the one that differs does

@@ -16,21 +16,21 @@ use Rattle.rk_world.specs.RoleTests.{is_absent}
 use Rattle.rk_world.specs.Master.{Master, new_master, tablet_at}
 use Rattle.rk_world.specs.Written.{written_by, truth_of, rest_of}
 use Rattle.rk_world.specs.World.{new_world, master_at, backup_at, tablet_in, written_in, log_in, records_in, calls_in, lives}
-use Rattle.rk_world.specs.Sound.Nodes.{Nodes}
-use Rattle.rk_world.specs.Sound.Terms.{Terms}
-use Rattle.rk_world.specs.Sound.Cover.{Cover, IsEntryWithin, IsItemWithin, IsOfWholeRows}
-use Rattle.rk_world.specs.Sound.Roles.{Roles}
-use Rattle.rk_world.specs.Sound.Logs.{Logs, IsLog, stored_of}
-use Rattle.rk_world.specs.Sound.Truth.{Truth}
-use Rattle.rk_world.specs.Sound.Order.{Order}
-use Rattle.rk_world.specs.Sound.Calls.{Calls, IsKnown, IsStagedEnd}
-use Rattle.rk_world.specs.Sound.Counters.{Counters}
-use Rattle.rk_world.specs.Sound.Rest.{Rest, Waits, IsLast}
-use Rattle.rk_world.specs.Sound.Tables.{Tables}
-use Rattle.rk_world.specs.Sound.Receives.{IsBare, wanted_place}
-use Rattle.rk_world.specs.Sound.Rebuilds.{Rebuilds}
-use Rattle.rk_world.specs.Sound.Asked.{Asked}
-use Rattle.rk_world.specs.Sound.Whole.{IsSound}
+use Rattle.rk_sound.specs.Nodes.{Nodes}
+use Rattle.rk_sound.specs.Terms.{Terms}
+use Rattle.rk_sound.specs.Cover.{Cover, IsEntryWithin, IsItemWithin, IsOfWholeRows}
+use Rattle.rk_sound.specs.Roles.{Roles}
+use Rattle.rk_sound.specs.Logs.{Logs, IsLog, stored_of}
+use Rattle.rk_sound.specs.Truth.{Truth}
+use Rattle.rk_sound.specs.Order.{Order}
+use Rattle.rk_sound.specs.Calls.{Calls, IsKnown, IsStagedEnd}
+use Rattle.rk_sound.specs.Counters.{Counters}
+use Rattle.rk_sound.specs.Rest.{Rest, Waits, IsLast}
+use Rattle.rk_sound.specs.Tables.{Tables}
+use Rattle.rk_sound.specs.Receives.{IsBare, wanted_place}
+use Rattle.rk_sound.specs.Rebuilds.{Rebuilds}
+use Rattle.rk_sound.specs.Asked.{Asked}
+use Rattle.rk_sound.specs.Whole.{IsSound}
 use Rattle.rk_laws_parts.proofs.Fresh.{each_fresh, there_fresh, each_backup_fresh}
 
 -- nothing is kept

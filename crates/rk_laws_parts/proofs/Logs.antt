@@ -22,8 +22,8 @@ use Rattle.rk_message.specs.declared.message.Message.{Message}
 use Rattle.rk_message.specs.declared.replication.Append.{Append}
 use Rattle.rk_world.specs.Marks.{Mark}
 use Rattle.rk_world.specs.Written.{Written}
-use Rattle.rk_world.specs.Sound.Logs.{IsFirstPart, IsCopy, IsKnownBefore, IsLog, IsFromLog, Logs, LogSays, segments_in, stored_of}
-use Rattle.rk_world.specs.Sound.Changes.{HasSegmentLeft}
+use Rattle.rk_sound.specs.Logs.{IsFirstPart, IsCopy, IsKnownBefore, IsLog, IsFromLog, Logs, LogSays, segments_in, stored_of}
+use Rattle.rk_sound.specs.Changes.{HasSegmentLeft}
 use Rattle.rk_laws_parts.proofs.Changing.{Lane, Stages, DiffersAt, with_one_more}
 use Rattle.rk_laws_parts.proofs.Segments.{Grows, grows_entry}
 

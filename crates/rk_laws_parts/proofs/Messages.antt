@@ -40,12 +40,12 @@ use Rattle.rk_world.specs.Material.{as_entries}
 use Rattle.rk_world.specs.Tablet.{Tablet}
 use Rattle.rk_world.specs.Coordinator.{Handed}
 use Rattle.rk_world.specs.Written.{Written}
-use Rattle.rk_world.specs.Sound.Posts.{post_of}
-use Rattle.rk_world.specs.Sound.Logs.{stored_of}
-use Rattle.rk_world.specs.Sound.Receives.{scan_items}
-use Rattle.rk_world.specs.Sound.Rebuilds.{READ_BACKUP, IsReadPart}
-use Rattle.rk_world.specs.Sound.Messages.{Messages, SaysOf, Says, IfMaster, ByMaster, IsOf, IsOfTarget, PrepareFits, CloseFits, RebuildFits, OwnFits, IsOwner, ReleaseFits, ReadyIn, TransferIn, IsFrozenSource, JoinedIn, RebuiltIn, GrantAgrees, AskAgrees, IsFromSource, PulledAgrees, GotAgrees, CopyIn}
-use Rattle.rk_world.specs.Sound.Changes.{IsServed}
+use Rattle.rk_sound.specs.Posts.{post_of}
+use Rattle.rk_sound.specs.Logs.{stored_of}
+use Rattle.rk_sound.specs.Receives.{scan_items}
+use Rattle.rk_sound.specs.Rebuilds.{READ_BACKUP, IsReadPart}
+use Rattle.rk_sound.specs.Messages.{Messages, SaysOf, Says, IfMaster, ByMaster, IsOf, IsOfTarget, PrepareFits, CloseFits, RebuildFits, OwnFits, IsOwner, ReleaseFits, ReadyIn, TransferIn, IsFrozenSource, JoinedIn, RebuiltIn, GrantAgrees, AskAgrees, IsFromSource, PulledAgrees, GotAgrees, CopyIn}
+use Rattle.rk_sound.specs.Changes.{IsServed}
 use Rattle.rk_laws_parts.proofs.Changing.{Lane, Freezes, Stages}
 use Rattle.rk_laws_parts.proofs.Seen.{LooksAs, AllLook, each_looks_frozen}
 use Rattle.rk_laws_parts.proofs.Staged.{staged_looks, staged_known}

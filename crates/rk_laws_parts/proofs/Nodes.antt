@@ -4,7 +4,7 @@ use Rattle.std.specs.Prelude.{◌≡◌, ℕ, Bool, List, length}
 use Rattle.rk_log.specs.Known.{Known}
 use Rattle.rk_tablet_map.specs.declared.row.Row.{Row}
 use Rattle.rk_world.specs.Master.{Master}
-use Rattle.rk_world.specs.Sound.Nodes.{Nodes}
+use Rattle.rk_sound.specs.Nodes.{Nodes}
 
 -- each master is of its old number and knows of as many backups
 pub nodes_staged : (masters masters' : ℕ → Master) (count backups : ℕ) (rows : List Row) (noticed : List ℕ) (live : ℕ → Bool) → Nodes masters count backups rows noticed live → ((q : ℕ) → (masters' q).number ≡ (masters q).number) → ((q : ℕ) → (masters' q).log.known ≡ (masters q).log.known) → Nodes masters' count backups rows noticed live

@@ -28,9 +28,9 @@ use Rattle.rk_world.specs.Master.{touches}
 use Rattle.rk_world.specs.Requests.{counted_up}
 use Rattle.rk_world.specs.Rebuilds.{own_place}
 use Rattle.rk_world.specs.Written.{Written, applied_entries}
-use Rattle.rk_world.specs.Sound.Receives.{IsFound}
-use Rattle.rk_world.specs.Sound.Rebuilds.{IsMergedOf, merged_place, IsPieceOf, IsRebuilder, IsRebuildTable, named_items, applied_from}
-use Rattle.rk_world.specs.Sound.Small.{as_frozen}
+use Rattle.rk_sound.specs.Receives.{IsFound}
+use Rattle.rk_sound.specs.Rebuilds.{IsMergedOf, merged_place, IsPieceOf, IsRebuilder, IsRebuildTable, named_items, applied_from}
+use Rattle.rk_sound.specs.Small.{as_frozen}
 use Rattle.rk_laws_parts.proofs.Changing.{with_one_more}
 use Rattle.rk_laws_parts.proofs.Shares.{named_same, unmarked_from_last}
 use Rattle.rk_laws_parts.proofs.Places.{behind_none}

@@ -30,11 +30,11 @@ use Rattle.rk_world.specs.Tablet.{Tablet}
 use Rattle.rk_world.specs.Requests.{counted_up}
 use Rattle.rk_world.specs.Rebuilds.{own_place}
 use Rattle.rk_world.specs.Written.{Written, member_material}
-use Rattle.rk_world.specs.Sound.Rows.{Rows, AreApart}
-use Rattle.rk_world.specs.Sound.Logs.{Logs, stored_of}
-use Rattle.rk_world.specs.Sound.Rebuilds.{Rebuilds, HasOwnRange, IsOfRange, IsRebuilder, MarkFits, MarkedFit, READ_BACKUP, TellNoMore, has_merged, marked_entries, member_marked, member_stored, stored_count, RowIsRebuilt}
-use Rattle.rk_world.specs.Sound.Changes.{IsServed}
-use Rattle.rk_world.specs.Sound.Small.{as_frozen}
+use Rattle.rk_sound.specs.Rows.{Rows, AreApart}
+use Rattle.rk_sound.specs.Logs.{Logs, stored_of}
+use Rattle.rk_sound.specs.Rebuilds.{Rebuilds, HasOwnRange, IsOfRange, IsRebuilder, MarkFits, MarkedFit, READ_BACKUP, TellNoMore, has_merged, marked_entries, member_marked, member_stored, stored_count, RowIsRebuilt}
+use Rattle.rk_sound.specs.Changes.{IsServed}
+use Rattle.rk_sound.specs.Small.{as_frozen}
 use Rattle.rk_laws_parts.proofs.Changing.{Lane, Freezes, Stages, with_one_more}
 use Rattle.rk_laws_parts.proofs.Differs.{differs_same}
 use Rattle.rk_laws_parts.proofs.Staged.{counted_same, first_apart, formed_apart, row_cases, written_cases, written_grown}

@@ -31,16 +31,16 @@ use Rattle.rk_world.specs.RoleTests.{is_absent}
 use Rattle.rk_world.specs.Requests.{counted_up}
 use Rattle.rk_world.specs.Coordinator.{Handed}
 use Rattle.rk_world.specs.Written.{Written, lineage_truth, member_material, member_truth, truth_of}
-use Rattle.rk_world.specs.Sound.Rows.{Rows, AreApart, IsPlaced}
-use Rattle.rk_world.specs.Sound.Terms.{Terms}
-use Rattle.rk_world.specs.Sound.Posts.{StillCounts}
-use Rattle.rk_world.specs.Sound.Roles.{Roles}
-use Rattle.rk_world.specs.Sound.Logs.{Logs, stored_of}
-use Rattle.rk_world.specs.Sound.Counters.{Counters}
-use Rattle.rk_world.specs.Sound.Rest.{FirstIsDone}
-use Rattle.rk_world.specs.Sound.Receives.{Receives, IsBare, IsTarget, MembersFit, HandedFits, is_granted, wanted_place}
-use Rattle.rk_world.specs.Sound.Changes.{IsServed}
-use Rattle.rk_world.specs.Sound.Small.{as_frozen}
+use Rattle.rk_sound.specs.Rows.{Rows, AreApart, IsPlaced}
+use Rattle.rk_sound.specs.Terms.{Terms}
+use Rattle.rk_sound.specs.Posts.{StillCounts}
+use Rattle.rk_sound.specs.Roles.{Roles}
+use Rattle.rk_sound.specs.Logs.{Logs, stored_of}
+use Rattle.rk_sound.specs.Counters.{Counters}
+use Rattle.rk_sound.specs.Rest.{FirstIsDone}
+use Rattle.rk_sound.specs.Receives.{Receives, IsBare, IsTarget, MembersFit, HandedFits, is_granted, wanted_place}
+use Rattle.rk_sound.specs.Changes.{IsServed}
+use Rattle.rk_sound.specs.Small.{as_frozen}
 use Rattle.rk_laws_parts.proofs.Changing.{Lane, Freezes, Stages, with_one_more}
 use Rattle.rk_laws_parts.proofs.Differs.{now_cases}
 use Rattle.rk_laws_parts.proofs.Apart.{key_outside}

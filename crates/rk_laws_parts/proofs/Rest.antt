@@ -28,15 +28,15 @@ use Rattle.rk_world.specs.Requests.{item_of}
 use Rattle.rk_world.specs.Coordinator.{Handed}
 use Rattle.rk_world.specs.Ledger.{LastCall}
 use Rattle.rk_world.specs.Written.{Written}
-use Rattle.rk_world.specs.Sound.Rows.{Rows}
-use Rattle.rk_world.specs.Sound.Posts.{post_of, bond_of, Holds, StillCounts}
-use Rattle.rk_world.specs.Sound.Roles.{Roles, RoleFits}
-use Rattle.rk_world.specs.Sound.Logs.{Logs, stored_of}
-use Rattle.rk_world.specs.Sound.Counters.{Counters}
-use Rattle.rk_world.specs.Sound.Rest.{Rest, IsRest, IsEntryOf, IsLast, IsLastAsked}
-use Rattle.rk_world.specs.Sound.Changes.{MayBeStaged}
-use Rattle.rk_world.specs.Sound.Moves.{IsSettledIn}
-use Rattle.rk_world.specs.Sound.Small.{as_frozen}
+use Rattle.rk_sound.specs.Rows.{Rows}
+use Rattle.rk_sound.specs.Posts.{post_of, bond_of, Holds, StillCounts}
+use Rattle.rk_sound.specs.Roles.{Roles, RoleFits}
+use Rattle.rk_sound.specs.Logs.{Logs, stored_of}
+use Rattle.rk_sound.specs.Counters.{Counters}
+use Rattle.rk_sound.specs.Rest.{Rest, IsRest, IsEntryOf, IsLast, IsLastAsked}
+use Rattle.rk_sound.specs.Changes.{MayBeStaged}
+use Rattle.rk_sound.specs.Moves.{IsSettledIn}
+use Rattle.rk_sound.specs.Small.{as_frozen}
 use Rattle.rk_laws_parts.proofs.Changing.{Lane, Freezes, Stages}
 use Rattle.rk_laws_parts.proofs.Differs.{still_counts}
 use Rattle.rk_laws_parts.proofs.Shares.{marked_none}

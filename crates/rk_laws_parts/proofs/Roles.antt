@@ -12,9 +12,9 @@ use Rattle.rk_tablet_map.specs.declared.row.Row.{Row}
 use Rattle.rk_world.specs.Lineage.{is_member}
 use Rattle.rk_world.specs.Tablet.{Tablet}
 use Rattle.rk_world.specs.Written.{Written}
-use Rattle.rk_world.specs.Sound.Posts.{post_of, bond_of, Holds, StillCounts}
-use Rattle.rk_world.specs.Sound.Roles.{Roles, RoleFits, KeepTerm}
-use Rattle.rk_world.specs.Sound.Changes.{IsServed}
+use Rattle.rk_sound.specs.Posts.{post_of, bond_of, Holds, StillCounts}
+use Rattle.rk_sound.specs.Roles.{Roles, RoleFits, KeepTerm}
+use Rattle.rk_sound.specs.Changes.{IsServed}
 use Rattle.rk_laws_parts.proofs.Changing.{Lane, Freezes, Stages}
 use Rattle.rk_laws_parts.proofs.Differs.{still_counts}
 use Rattle.rk_laws_parts.proofs.Seen.{LooksAs, each_looks_frozen}

@@ -11,11 +11,11 @@ use Rattle.rk_world.specs.Tablet.{Tablet}
 use Rattle.rk_world.specs.RoleTests.{is_absent}
 use Rattle.rk_world.specs.Requests.{counted_up}
 use Rattle.rk_world.specs.Written.{Written, member_truth}
-use Rattle.rk_world.specs.Sound.Posts.{Post, bond_of, Holds}
-use Rattle.rk_world.specs.Sound.Posts.Post.{Owner, OpeningSource, InvitedTarget, ReadyTarget, MovingSource, MovingTarget, OnlyRebuilder, FirstRebuilder, LastRebuilder, OutsideRebuilder, FormerMember, Bystander}
-use Rattle.rk_world.specs.Sound.Handing.{is_wanting}
-use Rattle.rk_world.specs.Sound.Messages.{HasJoined, HasRebuilt}
-use Rattle.rk_world.specs.Sound.Small.{as_frozen}
+use Rattle.rk_sound.specs.Posts.{Post, bond_of, Holds}
+use Rattle.rk_sound.specs.Posts.Post.{Owner, OpeningSource, InvitedTarget, ReadyTarget, MovingSource, MovingTarget, OnlyRebuilder, FirstRebuilder, LastRebuilder, OutsideRebuilder, FormerMember, Bystander}
+use Rattle.rk_sound.specs.Handing.{is_wanting}
+use Rattle.rk_sound.specs.Messages.{HasJoined, HasRebuilt}
+use Rattle.rk_sound.specs.Small.{as_frozen}
 use Rattle.rk_laws_parts.proofs.Changing.{Freezes}
 use Rattle.rk_laws_parts.proofs.Differs.{keeps_each}
 

@@ -21,9 +21,9 @@ use Rattle.rk_world.specs.Lineage.{is_member}
 use Rattle.rk_world.specs.Tablet.{Tablet}
 use Rattle.rk_world.specs.RoleTests.{is_absent}
 use Rattle.rk_world.specs.Written.{Written}
-use Rattle.rk_world.specs.Sound.Rows.{Rows}
-use Rattle.rk_world.specs.Sound.Posts.{OnlyRebuilder, FirstRebuilder, LastRebuilder, OutsideRebuilder, FormerMember, Bystander, rebuilder_post, post_of, bond_of, Holds, StillCounts}
-use Rattle.rk_world.specs.Sound.Roles.{Roles, RoleFits}
+use Rattle.rk_sound.specs.Rows.{Rows}
+use Rattle.rk_sound.specs.Posts.{OnlyRebuilder, FirstRebuilder, LastRebuilder, OutsideRebuilder, FormerMember, Bystander, rebuilder_post, post_of, bond_of, Holds, StillCounts}
+use Rattle.rk_sound.specs.Roles.{Roles, RoleFits}
 use Rattle.rk_laws_parts.proofs.Apart.{one_precedes}
 use Rattle.rk_laws_parts.proofs.Speakers.{speaks_serving, speaker_of, speaker_is}
 

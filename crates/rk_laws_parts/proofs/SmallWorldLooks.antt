@@ -15,8 +15,8 @@ use Rattle.rk_world.specs.Coordinator.{Handed}
 use Rattle.rk_world.specs.Backup.{no_segments}
 use Rattle.rk_world.specs.Ledger.{LastCall, asked_by}
 use Rattle.rk_world.specs.World.{master_at, backup_at, tablet_in, lives}
-use Rattle.rk_world.specs.Sound.Posts.{Post, Owner, Bystander, post_of, speaks, StillCounts}
-use Rattle.rk_world.specs.Sound.Handing.{handed_by, handed_for_grant}
+use Rattle.rk_sound.specs.Posts.{Post, Owner, Bystander, post_of, speaks, StillCounts}
+use Rattle.rk_sound.specs.Handing.{handed_by, handed_for_grant}
 use Rattle.rk_laws_parts.proofs.SmallWorld.{small_world, small_master, small_tablet, small_stored, small_last, small_wire, small_request, small_append, small_told, small_reply, small_ledger, small_row, small_map}
 
 -- what is found in a table of one thing

@@ -16,12 +16,12 @@ use Rattle.rk_world.specs.Master.{tablet_at}
 use Rattle.rk_world.specs.Notices.{names}
 use Rattle.rk_world.specs.World.{master_at, tablet_in, records_in, written_in, lives}
 use Rattle.rk_world.specs.Premises.{IsMaster}
-use Rattle.rk_world.specs.Sound.Nodes.{Nodes}
-use Rattle.rk_world.specs.Sound.Rows.{Rows, IsFormed, IsPlaced}
-use Rattle.rk_world.specs.Sound.Terms.{Terms, HandoverFits, SentFits, IsWithinTerm, IsBelowOthers, tenure_in, range_in}
-use Rattle.rk_world.specs.Sound.Cover.{Cover, IsWithinRows, IsItemWithin, IsEntryWithin, IsOfWholeRows}
-use Rattle.rk_world.specs.Sound.Posts.{Post, Holds, bond_of, StillCounts}
-use Rattle.rk_world.specs.Sound.Roles.{Roles, RoleFits, KeepTerm}
+use Rattle.rk_sound.specs.Nodes.{Nodes}
+use Rattle.rk_sound.specs.Rows.{Rows, IsFormed, IsPlaced}
+use Rattle.rk_sound.specs.Terms.{Terms, HandoverFits, SentFits, IsWithinTerm, IsBelowOthers, tenure_in, range_in}
+use Rattle.rk_sound.specs.Cover.{Cover, IsWithinRows, IsItemWithin, IsEntryWithin, IsOfWholeRows}
+use Rattle.rk_sound.specs.Posts.{Post, Holds, bond_of, StillCounts}
+use Rattle.rk_sound.specs.Roles.{Roles, RoleFits, KeepTerm}
 use Rattle.rk_laws_parts.proofs.SmallWorld.{small_world, small_entry, small_item, small_key, small_master, small_range, small_tablet, small_row, small_map, small_journal, small_placed, small_wire, small_request, small_append, small_told, small_reply}
 use Rattle.rk_laws_parts.proofs.SmallWorldLooks.{each_master, each_message, each_tablet, each_sent, all_one, not_owner, post_elsewhere}
 

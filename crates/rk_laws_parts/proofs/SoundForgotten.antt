@@ -2,8 +2,8 @@
 use Rattle.std.proofs.Common.{ℕ}
 use Rattle.rk_types.proofs.NumberMaps.{remove_less}
 use Rattle.rk_world.specs.World.{World}
-use Rattle.rk_world.specs.Sound.Whole.{IsSound}
-use Rattle.rk_world.specs.Sound.Small.{message_forgotten}
+use Rattle.rk_sound.specs.Whole.{IsSound}
+use Rattle.rk_sound.specs.Small.{message_forgotten}
 use Rattle.rk_laws_parts.proofs.Terms.{terms_forgotten}
 use Rattle.rk_laws_parts.proofs.Cover.{cover_forgotten}
 use Rattle.rk_laws_parts.proofs.Logs.{logs_forgotten}

@@ -7,21 +7,21 @@ use Rattle.rk_log.specs.Log.{Log}
 use Rattle.rk_world.specs.Ledger.{asked_by}
 use Rattle.rk_world.specs.Written.{Written, truth_of, rest_of}
 use Rattle.rk_world.specs.World.{World, backup_at, lives, tablet_in, written_in, log_in, records_in, calls_in}
-use Rattle.rk_world.specs.Sound.Rows.{Rows}
-use Rattle.rk_world.specs.Sound.Cover.{Cover}
-use Rattle.rk_world.specs.Sound.Roles.{Roles}
-use Rattle.rk_world.specs.Sound.Logs.{Logs}
-use Rattle.rk_world.specs.Sound.Truth.{Truth}
-use Rattle.rk_world.specs.Sound.Order.{Order}
-use Rattle.rk_world.specs.Sound.Calls.{Calls}
-use Rattle.rk_world.specs.Sound.Counters.{Counters}
-use Rattle.rk_world.specs.Sound.Rest.{Rest}
-use Rattle.rk_world.specs.Sound.Tables.{Tables}
-use Rattle.rk_world.specs.Sound.Receives.{Receives}
-use Rattle.rk_world.specs.Sound.Rebuilds.{Rebuilds}
-use Rattle.rk_world.specs.Sound.Messages.{Messages}
-use Rattle.rk_world.specs.Sound.Whole.{IsSound}
-use Rattle.rk_world.specs.Sound.Small.{tablet_frozen_in, MayFreeze}
+use Rattle.rk_sound.specs.Rows.{Rows}
+use Rattle.rk_sound.specs.Cover.{Cover}
+use Rattle.rk_sound.specs.Roles.{Roles}
+use Rattle.rk_sound.specs.Logs.{Logs}
+use Rattle.rk_sound.specs.Truth.{Truth}
+use Rattle.rk_sound.specs.Order.{Order}
+use Rattle.rk_sound.specs.Calls.{Calls}
+use Rattle.rk_sound.specs.Counters.{Counters}
+use Rattle.rk_sound.specs.Rest.{Rest}
+use Rattle.rk_sound.specs.Tables.{Tables}
+use Rattle.rk_sound.specs.Receives.{Receives}
+use Rattle.rk_sound.specs.Rebuilds.{Rebuilds}
+use Rattle.rk_sound.specs.Messages.{Messages}
+use Rattle.rk_sound.specs.Whole.{IsSound}
+use Rattle.rk_sound.specs.Small.{tablet_frozen_in, MayFreeze}
 use Rattle.rk_laws_parts.proofs.Changing.{Freezes}
 use Rattle.rk_laws_parts.proofs.WorldFrozen.{written_frozen, logs_frozen, records_frozen, waiting_frozen, numbers_frozen, keeps_frozen}
 use Rattle.rk_laws_parts.proofs.Nodes.{nodes_staged}

@@ -8,11 +8,11 @@ use Rattle.rk_message.specs.declared.message.Message.{Message}
 use Rattle.rk_world.specs.Ledger.{Ledger, LastCall, asked_by, with_client}
 use Rattle.rk_world.specs.Written.{truth_of, rest_of}
 use Rattle.rk_world.specs.World.{World, tablet_in, written_in, calls_in, lives}
-use Rattle.rk_world.specs.Sound.Truth.{Truth}
-use Rattle.rk_world.specs.Sound.Rest.{Rest}
-use Rattle.rk_world.specs.Sound.Asked.{Asked}
-use Rattle.rk_world.specs.Sound.Whole.{IsSound}
-use Rattle.rk_world.specs.Sound.Small.{client_come, request_saved, MayComeTo, MaySave}
+use Rattle.rk_sound.specs.Truth.{Truth}
+use Rattle.rk_sound.specs.Rest.{Rest}
+use Rattle.rk_sound.specs.Asked.{Asked}
+use Rattle.rk_sound.specs.Whole.{IsSound}
+use Rattle.rk_sound.specs.Small.{client_come, request_saved, MayComeTo, MaySave}
 use Rattle.rk_laws_parts.proofs.Asked.{asked_kept}
 
 -- a client that comes has asked nothing, and so had one that was not there

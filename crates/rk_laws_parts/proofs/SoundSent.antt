@@ -2,8 +2,8 @@
 use Rattle.std.proofs.Common.{◌+◌}
 use Rattle.rk_message.specs.declared.message.Message.{Message}
 use Rattle.rk_world.specs.World.{World}
-use Rattle.rk_world.specs.Sound.Whole.{IsSound}
-use Rattle.rk_world.specs.Sound.Small.{message_sent, MaySend}
+use Rattle.rk_sound.specs.Whole.{IsSound}
+use Rattle.rk_sound.specs.Small.{message_sent, MaySend}
 use Rattle.rk_laws_parts.proofs.Terms.{terms_sent}
 use Rattle.rk_laws_parts.proofs.Cover.{cover_sent}
 use Rattle.rk_laws_parts.proofs.Logs.{logs_sent}

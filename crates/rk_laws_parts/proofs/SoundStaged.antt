@@ -10,17 +10,17 @@ use Rattle.rk_world.specs.Requests.{item_of}
 use Rattle.rk_world.specs.Ledger.{asked_by}
 use Rattle.rk_world.specs.Written.{truth_of, rest_of}
 use Rattle.rk_world.specs.World.{World, backup_at, lives, tablet_in, written_in, log_in, records_in, calls_in}
-use Rattle.rk_world.specs.Sound.Cover.{Cover}
-use Rattle.rk_world.specs.Sound.Truth.{Truth}
-use Rattle.rk_world.specs.Sound.Order.{Order}
-use Rattle.rk_world.specs.Sound.Calls.{Calls}
-use Rattle.rk_world.specs.Sound.Counters.{Counters}
-use Rattle.rk_world.specs.Sound.Rest.{Rest, FirstIsDone}
-use Rattle.rk_world.specs.Sound.Tables.{Tables}
-use Rattle.rk_world.specs.Sound.Receives.{Receives}
-use Rattle.rk_world.specs.Sound.Rebuilds.{Rebuilds}
-use Rattle.rk_world.specs.Sound.Whole.{IsSound}
-use Rattle.rk_world.specs.Sound.Small.{write_staged_in, MayStage}
+use Rattle.rk_sound.specs.Cover.{Cover}
+use Rattle.rk_sound.specs.Truth.{Truth}
+use Rattle.rk_sound.specs.Order.{Order}
+use Rattle.rk_sound.specs.Calls.{Calls}
+use Rattle.rk_sound.specs.Counters.{Counters}
+use Rattle.rk_sound.specs.Rest.{Rest, FirstIsDone}
+use Rattle.rk_sound.specs.Tables.{Tables}
+use Rattle.rk_sound.specs.Receives.{Receives}
+use Rattle.rk_sound.specs.Rebuilds.{Rebuilds}
+use Rattle.rk_sound.specs.Whole.{IsSound}
+use Rattle.rk_sound.specs.Small.{write_staged_in, MayStage}
 use Rattle.rk_laws_parts.proofs.Changing.{Stages}
 use Rattle.rk_laws_parts.proofs.WorldStaged.{lane_of, stages, truths_same, records_staged, numbers_staged, known_staged}
 use Rattle.rk_laws_parts.proofs.Nodes.{nodes_staged}

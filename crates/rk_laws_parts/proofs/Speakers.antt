@@ -24,11 +24,11 @@ use Rattle.rk_world.specs.Tablet.{Tablet}
 use Rattle.rk_world.specs.RoleTests.{is_rebuilding}
 use Rattle.rk_world.specs.Coordinator.{Handed}
 use Rattle.rk_world.specs.Written.{Written}
-use Rattle.rk_world.specs.Sound.Rows.{AreApart, IsFormed}
-use Rattle.rk_world.specs.Sound.Posts.{Post, Owner, OpeningSource, InvitedTarget, ReadyTarget, MovingSource, MovingTarget, OnlyRebuilder, FirstRebuilder, LastRebuilder, OutsideRebuilder, FormerMember, Bystander, target_post, rebuilder_post, post_of, bond_of, Holds, speaks}
-use Rattle.rk_world.specs.Sound.Roles.{RoleFits}
-use Rattle.rk_world.specs.Sound.Handing.{is_wanting, is_opening, second_has, is_waiting, is_waiting_at, handed_by}
-use Rattle.rk_world.specs.Sound.Messages.{SaysOf, TransferIn}
+use Rattle.rk_sound.specs.Rows.{AreApart, IsFormed}
+use Rattle.rk_sound.specs.Posts.{Post, Owner, OpeningSource, InvitedTarget, ReadyTarget, MovingSource, MovingTarget, OnlyRebuilder, FirstRebuilder, LastRebuilder, OutsideRebuilder, FormerMember, Bystander, target_post, rebuilder_post, post_of, bond_of, Holds, speaks}
+use Rattle.rk_sound.specs.Roles.{RoleFits}
+use Rattle.rk_sound.specs.Handing.{is_wanting, is_opening, second_has, is_waiting, is_waiting_at, handed_by}
+use Rattle.rk_sound.specs.Messages.{SaysOf, TransferIn}
 
 -- a master that serves speaks, whatever its post
 pub speaks_serving : (post : Post) (handover : Handover) (term : ℕ) → is_serving handover.role ≡ true → speaks post handover term ≡ true

@@ -27,11 +27,11 @@ use Rattle.rk_world.specs.Tablet.{Tablet}
 use Rattle.rk_world.specs.Requests.{counted_up}
 use Rattle.rk_world.specs.Coordinator.{Handed}
 use Rattle.rk_world.specs.Written.{Written}
-use Rattle.rk_world.specs.Sound.Rows.{AreApart, IsFormed}
-use Rattle.rk_world.specs.Sound.Posts.{post_of, speaks, StillCounts}
-use Rattle.rk_world.specs.Sound.Roles.{Roles, RoleFits}
-use Rattle.rk_world.specs.Sound.Counters.{Counters, IsNext}
-use Rattle.rk_world.specs.Sound.Changes.{IsServed}
+use Rattle.rk_sound.specs.Rows.{AreApart, IsFormed}
+use Rattle.rk_sound.specs.Posts.{post_of, speaks, StillCounts}
+use Rattle.rk_sound.specs.Roles.{Roles, RoleFits}
+use Rattle.rk_sound.specs.Counters.{Counters, IsNext}
+use Rattle.rk_sound.specs.Changes.{IsServed}
 use Rattle.rk_laws_parts.proofs.Changing.{Lane, Stages, with_one_more}
 use Rattle.rk_laws_parts.proofs.Differs.{differs_each, keeps_each, now_same, differs_cases}
 use Rattle.rk_laws_parts.proofs.Alike.{AreAlike, alike_all, alike_counted}

@@ -20,7 +20,7 @@ use Rattle.rk_world.specs.Requests.{counted_up}
 use Rattle.rk_world.specs.Waiting.{joined_entry}
 use Rattle.rk_world.specs.Coordinator.{Handed}
 use Rattle.rk_world.specs.Written.{Written}
-use Rattle.rk_world.specs.Sound.Receives.{IsTarget, IsReceived, IsBare, HasArrived, HasClosing, beginning_of, before_closing, copied_items, entries_from, scan_items, joined_place}
+use Rattle.rk_sound.specs.Receives.{IsTarget, IsReceived, IsBare, HasArrived, HasClosing, beginning_of, before_closing, copied_items, entries_from, scan_items, joined_place}
 use Rattle.rk_laws_parts.proofs.Changing.{with_one_more}
 use Rattle.rk_laws_parts.proofs.Shares.{joined_same}
 use Rattle.rk_laws_parts.proofs.Places.{behind_none}

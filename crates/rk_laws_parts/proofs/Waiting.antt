@@ -27,8 +27,8 @@ use Rattle.rk_world.specs.RoleTests.{is_idle, may_have_staged}
 use Rattle.rk_world.specs.Master.{touches}
 use Rattle.rk_world.specs.Ledger.{LastCall}
 use Rattle.rk_world.specs.Written.{Written}
-use Rattle.rk_world.specs.Sound.Rows.{AreApart, IsFormed}
-use Rattle.rk_world.specs.Sound.Rest.{Waits, IsEntryOf, FirstIsDone, EachHasCall, OnlyIsUnnamed, IsLast}
+use Rattle.rk_sound.specs.Rows.{AreApart, IsFormed}
+use Rattle.rk_sound.specs.Rest.{Waits, IsEntryOf, FirstIsDone, EachHasCall, OnlyIsUnnamed, IsLast}
 use Rattle.rk_laws_parts.proofs.Changing.{Lane, Stages, with_one_more}
 use Rattle.rk_laws_parts.proofs.Shares.{joined_same}
 use Rattle.rk_laws_parts.proofs.Staged.{HasGrown, row_cases, counted_same, written_cases, written_grown, first_apart, formed_apart}

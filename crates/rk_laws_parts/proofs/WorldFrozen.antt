@@ -7,7 +7,7 @@ use Rattle.rk_log.specs.Log.{Log}
 use Rattle.rk_world.specs.Ledger.{marks_of}
 use Rattle.rk_world.specs.Written.{Written, written_by}
 use Rattle.rk_world.specs.World.{World, master_at, tablet_in, written_in, log_in, records_in, calls_in}
-use Rattle.rk_world.specs.Sound.Small.{as_frozen, tablet_frozen_in}
+use Rattle.rk_sound.specs.Small.{as_frozen, tablet_frozen_in}
 use Rattle.rk_laws_parts.proofs.Masters.{same_of_each, same_of_all, tablet_here, tablet_apart, keeps_with}
 use Rattle.rk_laws_parts.proofs.Changing.{Freezes}
 

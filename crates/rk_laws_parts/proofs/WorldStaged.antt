@@ -24,9 +24,9 @@ use Rattle.rk_world.specs.Requests.{item_of, counted_up}
 use Rattle.rk_world.specs.Ledger.{marks_of}
 use Rattle.rk_world.specs.Written.{Written, written_by, applied_entries, member_truth, member_rest, member_material, lineage_truth, lineage_rest, truth_of, rest_of}
 use Rattle.rk_world.specs.World.{World, master_at, tablet_in, written_in, log_in, records_in, calls_in}
-use Rattle.rk_world.specs.Sound.Rows.{IsPlaced}
-use Rattle.rk_world.specs.Sound.Whole.{IsSound}
-use Rattle.rk_world.specs.Sound.Small.{write_staged_in, MayStage}
+use Rattle.rk_sound.specs.Rows.{IsPlaced}
+use Rattle.rk_sound.specs.Whole.{IsSound}
+use Rattle.rk_sound.specs.Small.{write_staged_in, MayStage}
 use Rattle.rk_laws_parts.proofs.Masters.{master_same, master_other, same_of_each, same_of_all, tablet_here, tablet_apart, keeps_with}
 use Rattle.rk_laws_parts.proofs.Changing.{DiffersAt, KeepsNow, Lane, Stages, with_one_more}
 use Rattle.rk_laws_parts.proofs.Shares.{material_outside, rest_outside, rest_inside}

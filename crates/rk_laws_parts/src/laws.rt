@@ -7,9 +7,9 @@ ghost use Rattle.rk_tablet_map.specs.declared.row.Row.{Row};
 ghost use Rattle.rk_transfer.specs.Handover.{is_serving};
 ghost use Rattle.rk_types.specs.declared.call.Call.{Call};
 ghost use Rattle.rk_types.specs.Range.{meets};
-ghost use Rattle.rk_world.specs.Sound.Logs.{stored_of};
-ghost use Rattle.rk_world.specs.Sound.Small.{MayComeTo, MayFreeze, MaySave, MaySend, MayStage, write_staged_in, client_come, message_forgotten, message_sent, request_saved, tablet_frozen_in};
-ghost use Rattle.rk_world.specs.Sound.Whole.{IsSound};
+ghost use Rattle.rk_sound.specs.Logs.{stored_of};
+ghost use Rattle.rk_sound.specs.Small.{MayComeTo, MayFreeze, MaySave, MaySend, MayStage, write_staged_in, client_come, message_forgotten, message_sent, request_saved, tablet_frozen_in};
+ghost use Rattle.rk_sound.specs.Whole.{IsSound};
 ghost use Rattle.rk_world.specs.World.{World, backup_at, tablet_in, lives, log_in, new_world, written_in};
 
 /// A lane where nothing has happened is sound, with any number of masters and one backup or more.

@@ -20,8 +20,8 @@ use Rattle.rk_world.specs.Material.{of_key}
 use Rattle.rk_world.specs.Base.{Base, ends_told}
 use Rattle.rk_world.specs.Tablet.{Tablet}
 use Rattle.rk_world.specs.Coordinator.{Handed}
-use Rattle.rk_world.specs.Sound.Posts.{post_of, speaks, StillCounts}
-use Rattle.rk_world.specs.Sound.Handing.{handed_by, handed_for_grant}
+use Rattle.rk_sound.specs.Posts.{post_of, speaks, StillCounts}
+use Rattle.rk_sound.specs.Handing.{handed_by, handed_for_grant}
 
 -- whether a record is of a key in a range
 abbrev pub is_record_in : Range → Placed → Bool

@@ -33,8 +33,8 @@ use Rattle.rk_world.specs.Tablet.{Tablet}
 use Rattle.rk_world.specs.Master.{touches}
 use Rattle.rk_world.specs.Rebuilds.{own_place, rebuilt_entry}
 use Rattle.rk_world.specs.Written.{Written, member_material, applied_entries}
-use Rattle.rk_world.specs.Sound.Logs.{IsFirstPart, is_main, stored_of}
-use Rattle.rk_world.specs.Sound.Receives.{IsFound}
+use Rattle.rk_sound.specs.Logs.{IsFirstPart, is_main, stored_of}
+use Rattle.rk_sound.specs.Receives.{IsFound}
 
 -- rebuilds read from this backup
 abbrev pub READ_BACKUP : ℕ

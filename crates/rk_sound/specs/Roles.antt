@@ -11,7 +11,7 @@ use Rattle.rk_world.specs.Lineage.{is_member}
 use Rattle.rk_world.specs.Tablet.{Tablet}
 use Rattle.rk_world.specs.RoleTests.{is_absent}
 use Rattle.rk_world.specs.Written.{Written}
-use Rattle.rk_world.specs.Sound.Posts.{post_of, bond_of, Holds, StillCounts}
+use Rattle.rk_sound.specs.Posts.{post_of, bond_of, Holds, StillCounts}
 
 -- what a master has of a tablet, while that counts, fits its post, where so many of its entries are applied
 abbrev pub RoleFits : Row → ℕ → Handover → ℕ → Type 0

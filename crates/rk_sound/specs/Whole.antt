@@ -5,23 +5,23 @@ use Rattle.rk_tablet_map.specs.declared.row.Row.{Row}
 use Rattle.rk_world.specs.Ledger.{asked_by}
 use Rattle.rk_world.specs.Written.{truth_of, rest_of}
 use Rattle.rk_world.specs.World.{World, master_at, backup_at, lives, log_in, records_in, calls_in, tablet_in, written_in, standing, bytes_of_logs}
-use Rattle.rk_world.specs.Sound.Nodes.{Nodes}
-use Rattle.rk_world.specs.Sound.Rows.{Rows}
-use Rattle.rk_world.specs.Sound.Terms.{Terms}
-use Rattle.rk_world.specs.Sound.Cover.{Cover}
-use Rattle.rk_world.specs.Sound.Roles.{Roles}
-use Rattle.rk_world.specs.Sound.Logs.{Logs}
-use Rattle.rk_world.specs.Sound.Truth.{Truth}
-use Rattle.rk_world.specs.Sound.Order.{Order}
-use Rattle.rk_world.specs.Sound.Calls.{Calls}
-use Rattle.rk_world.specs.Sound.Counters.{Counters}
-use Rattle.rk_world.specs.Sound.Rest.{Rest}
-use Rattle.rk_world.specs.Sound.Tables.{Tables}
-use Rattle.rk_world.specs.Sound.Receives.{Receives}
-use Rattle.rk_world.specs.Sound.Rebuilds.{Rebuilds}
-use Rattle.rk_world.specs.Sound.Messages.{Messages}
-use Rattle.rk_world.specs.Sound.Asked.{Asked}
-use Rattle.rk_world.specs.Sound.Room.{Room}
+use Rattle.rk_sound.specs.Nodes.{Nodes}
+use Rattle.rk_sound.specs.Rows.{Rows}
+use Rattle.rk_sound.specs.Terms.{Terms}
+use Rattle.rk_sound.specs.Cover.{Cover}
+use Rattle.rk_sound.specs.Roles.{Roles}
+use Rattle.rk_sound.specs.Logs.{Logs}
+use Rattle.rk_sound.specs.Truth.{Truth}
+use Rattle.rk_sound.specs.Order.{Order}
+use Rattle.rk_sound.specs.Calls.{Calls}
+use Rattle.rk_sound.specs.Counters.{Counters}
+use Rattle.rk_sound.specs.Rest.{Rest}
+use Rattle.rk_sound.specs.Tables.{Tables}
+use Rattle.rk_sound.specs.Receives.{Receives}
+use Rattle.rk_sound.specs.Rebuilds.{Rebuilds}
+use Rattle.rk_sound.specs.Messages.{Messages}
+use Rattle.rk_sound.specs.Asked.{Asked}
+use Rattle.rk_sound.specs.Room.{Room}
 
 -- the rest of a row
 abbrev pub rest_in : World → Row → List Entry

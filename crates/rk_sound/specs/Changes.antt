@@ -30,15 +30,15 @@ use Rattle.rk_world.specs.Coordinator.{Handed}
 use Rattle.rk_world.specs.Client.{call_lane}
 use Rattle.rk_world.specs.Ledger.{LastCall}
 use Rattle.rk_world.specs.Written.{Written}
-use Rattle.rk_world.specs.Sound.Terms.{SentFits, tenure_in, range_in}
-use Rattle.rk_world.specs.Sound.Cover.{IsWithinRows}
-use Rattle.rk_world.specs.Sound.Logs.{LogSays, IsFirstPart, IsKnownBefore}
-use Rattle.rk_world.specs.Sound.Handing.{handed_by}
-use Rattle.rk_world.specs.Sound.Calls.{ReachAll}
-use Rattle.rk_world.specs.Sound.Counters.{IsFloor}
-use Rattle.rk_world.specs.Sound.Rest.{IsLastAsked, call_ends, records_of}
-use Rattle.rk_world.specs.Sound.Messages.{SaysOf, Says}
-use Rattle.rk_world.specs.Sound.Asked.{RequestSays, IsAccepted, IsRequest, WasAsked, HasSeen}
+use Rattle.rk_sound.specs.Terms.{SentFits, tenure_in, range_in}
+use Rattle.rk_sound.specs.Cover.{IsWithinRows}
+use Rattle.rk_sound.specs.Logs.{LogSays, IsFirstPart, IsKnownBefore}
+use Rattle.rk_sound.specs.Handing.{handed_by}
+use Rattle.rk_sound.specs.Calls.{ReachAll}
+use Rattle.rk_sound.specs.Counters.{IsFloor}
+use Rattle.rk_sound.specs.Rest.{IsLastAsked, call_ends, records_of}
+use Rattle.rk_sound.specs.Messages.{SaysOf, Says}
+use Rattle.rk_sound.specs.Asked.{RequestSays, IsAccepted, IsRequest, WasAsked, HasSeen}
 
 -- ---- the wire
 

@@ -15,7 +15,7 @@ use Rattle.rk_world.specs.Ends.{items_of}
 use Rattle.rk_world.specs.Lineage.{first_of}
 use Rattle.rk_world.specs.Tablet.{Tablet}
 use Rattle.rk_world.specs.Written.{Written, member_truth}
-use Rattle.rk_world.specs.Sound.Posts.{Post, Owner, OpeningSource, MovingSource, OnlyRebuilder, FirstRebuilder, post_of}
+use Rattle.rk_sound.specs.Posts.{Post, Owner, OpeningSource, MovingSource, OnlyRebuilder, FirstRebuilder, post_of}
 
 -- records have, of a range, the newest item of each key of these entries
 abbrev pub IsTableOf : Range → List Entry → List Held → Type 0

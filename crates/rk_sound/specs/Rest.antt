@@ -27,8 +27,8 @@ use Rattle.rk_world.specs.Master.{touches}
 use Rattle.rk_world.specs.Journal.{has_record}
 use Rattle.rk_world.specs.Ledger.{LastCall}
 use Rattle.rk_world.specs.Written.{Written, member_rest, member_truth, member_material}
-use Rattle.rk_world.specs.Sound.Posts.{StillCounts}
-use Rattle.rk_world.specs.Sound.Calls.{IsKnown}
+use Rattle.rk_sound.specs.Posts.{StillCounts}
+use Rattle.rk_sound.specs.Calls.{IsKnown}
 
 -- the end of the call that left an entry, if one did
 abbrev pub call_end : Entry → List Ended

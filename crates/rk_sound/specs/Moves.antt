@@ -39,12 +39,12 @@ use Rattle.rk_world.specs.Handovers.{is_above}
 use Rattle.rk_world.specs.Coordinator.{Handed}
 use Rattle.rk_world.specs.Written.{Written, applied_entries, member_truth}
 use Rattle.rk_world.specs.Premises.{IsMaster}
-use Rattle.rk_world.specs.Sound.Cover.{IsWithinRows}
-use Rattle.rk_world.specs.Sound.Posts.{InvitedTarget, post_of}
-use Rattle.rk_world.specs.Sound.Receives.{scan_items, IsOutdone, IsFound, entries_from, copied_items}
-use Rattle.rk_world.specs.Sound.Rebuilds.{IsReadPart}
-use Rattle.rk_world.specs.Sound.Messages.{HasJoined, HasRebuilt, MayFollowClose, IsOwner}
-use Rattle.rk_world.specs.Sound.Changes.{HasSegmentLeft}
+use Rattle.rk_sound.specs.Cover.{IsWithinRows}
+use Rattle.rk_sound.specs.Posts.{InvitedTarget, post_of}
+use Rattle.rk_sound.specs.Receives.{scan_items, IsOutdone, IsFound, entries_from, copied_items}
+use Rattle.rk_sound.specs.Rebuilds.{IsReadPart}
+use Rattle.rk_sound.specs.Messages.{HasJoined, HasRebuilt, MayFollowClose, IsOwner}
+use Rattle.rk_sound.specs.Changes.{HasSegmentLeft}
 
 -- nothing of a range that is not applied stands in a log
 abbrev pub IsSettledIn : Range → Written → Type 0

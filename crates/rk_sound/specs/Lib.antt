@@ -1,4 +1,3 @@
--- Sound: what holds of a lane between any two small changes, part by part.
 pub mod Nodes
 pub mod Rows
 pub mod Terms

@@ -22,8 +22,8 @@ use Rattle.rk_world.specs.Merge.{floor_of}
 use Rattle.rk_world.specs.Tablet.{Tablet}
 use Rattle.rk_world.specs.Coordinator.{Handed}
 use Rattle.rk_world.specs.Written.{Written}
-use Rattle.rk_world.specs.Sound.Posts.{post_of, speaks, StillCounts}
-use Rattle.rk_world.specs.Sound.Handing.{handed_by, handed_for_grant}
+use Rattle.rk_sound.specs.Posts.{post_of, speaks, StillCounts}
+use Rattle.rk_sound.specs.Handing.{handed_by, handed_for_grant}
 
 -- the floor of what entries tell of a key is above the version that a map has of it, for each key in a range
 abbrev pub AreAboveMap : Range → Map → List Entry → Type 0

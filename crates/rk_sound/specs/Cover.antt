@@ -15,7 +15,7 @@ use Rattle.rk_message.specs.declared.message.Message.{Message}
 use Rattle.rk_world.specs.Ranges.{has_all}
 use Rattle.rk_world.specs.Tablet.{Tablet}
 use Rattle.rk_world.specs.Written.{Written}
-use Rattle.rk_world.specs.Sound.Terms.{tenure_in, range_in}
+use Rattle.rk_sound.specs.Terms.{tenure_in, range_in}
 
 -- each hash of a range lies in a row
 abbrev pub IsWithinRows : List Row → Range → Type 0

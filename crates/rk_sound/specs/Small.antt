@@ -10,8 +10,8 @@ use Rattle.rk_world.specs.Requests.{write_staged}
 use Rattle.rk_world.specs.Ledger.{asked_by, with_client, with_request}
 use Rattle.rk_world.specs.Written.{truth_of, rest_of}
 use Rattle.rk_world.specs.World.{World, master_at, backup_at, lives, log_in, tablet_in, written_in, with_master, with_ledger, with_wire}
-use Rattle.rk_world.specs.Sound.Changes.{MayBeSent, MayBeSentAgain, MayBeStaged, MayCome}
-use Rattle.rk_world.specs.Sound.Moves.{MayBeFrozen}
+use Rattle.rk_sound.specs.Changes.{MayBeSent, MayBeSentAgain, MayBeStaged, MayCome}
+use Rattle.rk_sound.specs.Moves.{MayBeFrozen}
 
 -- a message is sent
 abbrev pub message_sent : World → Message → World

@@ -45,11 +45,11 @@ use Rattle.rk_world.specs.Lineage.{is_member}
 use Rattle.rk_world.specs.Tablet.{Tablet}
 use Rattle.rk_world.specs.Coordinator.{Handed}
 use Rattle.rk_world.specs.Written.{Written, member_truth}
-use Rattle.rk_world.specs.Sound.Posts.{InvitedTarget, post_of, Post, Owner, OpeningSource, OnlyRebuilder}
-use Rattle.rk_world.specs.Sound.Logs.{stored_of}
-use Rattle.rk_world.specs.Sound.Handing.{is_wanting}
-use Rattle.rk_world.specs.Sound.Receives.{scan_items}
-use Rattle.rk_world.specs.Sound.Rebuilds.{READ_BACKUP, IsReadPart}
+use Rattle.rk_sound.specs.Posts.{InvitedTarget, post_of, Post, Owner, OpeningSource, OnlyRebuilder}
+use Rattle.rk_sound.specs.Logs.{stored_of}
+use Rattle.rk_sound.specs.Handing.{is_wanting}
+use Rattle.rk_sound.specs.Receives.{scan_items}
+use Rattle.rk_sound.specs.Rebuilds.{READ_BACKUP, IsReadPart}
 
 -- the row is the one that a message speaks of, at its term
 pub record IsOf (row : Row) (tenure : Tenure) : Type 0 where
