@@ -64,7 +64,7 @@ module _ (lane masters backups : ℕ) where
   nothing_of : (master tablet : ℕ) → tablet_in (new_world lane masters backups) master tablet ≡ no_tablet
   nothing_of master tablet = ap (λ (m : Master). tablet_at m tablet) (each_fresh lane masters backups master).is_new
 
-  nodes_empty : 1 ≤ backups → Nodes (master_at (new_world lane masters backups)) masters backups [] [] (lives (new_world lane masters backups))
+  nodes_empty : 1 ≤ backups → Nodes (λ q. (master_at (new_world lane masters backups) q).number) (log_in (new_world lane masters backups)) masters backups [] [] (lives (new_world lane masters backups))
   nodes_empty some = record {
     numbered = λ master. ap (λ (m : Master). m.number) (each_fresh lane masters backups master).is_new;
     backed = some;

@@ -14,7 +14,7 @@ use Rattle.rk_world.specs.Tablet.{no_tablet}
 use Rattle.rk_world.specs.RoleTests.{is_absent}
 use Rattle.rk_world.specs.Master.{tablet_at}
 use Rattle.rk_world.specs.Notices.{names}
-use Rattle.rk_world.specs.World.{master_at, tablet_in, records_in, written_in, lives}
+use Rattle.rk_world.specs.World.{master_at, tablet_in, records_in, written_in, log_in, lives}
 use Rattle.rk_world.specs.Premises.{IsMaster}
 use Rattle.rk_sound.specs.Nodes.{Nodes}
 use Rattle.rk_sound.specs.Rows.{Rows, IsFormed, IsPlaced}
@@ -32,7 +32,7 @@ named_is_there q named =
     subst (λ (n : ℕ). IsMaster 1 n) is (record { first = omega arith; last = omega arith })
 
 -- one master with one backup, and nobody was noticed dead
-pub small_nodes : Nodes (master_at small_world) 1 1 small_map [] (lives small_world)
+pub small_nodes : Nodes (λ q. (master_at small_world q).number) (log_in small_world) 1 1 small_map [] (lives small_world)
 small_nodes = record {
   numbered = each_master (λ q m. m.number ≡ q) refl (λ q apart. refl);
   backed = omega arith;

@@ -56,7 +56,7 @@ module _ (w : World) (master number : ℕ) (sound : IsSound w) (may : MayFreeze 
   pub sound_frozen : IsSound (tablet_frozen_in w master number)
   sound_frozen = record {
     nodes =
-        nodes_staged _ _ _ _ _ _ _ sound.nodes (numbers_frozen w master number)
+        nodes_staged _ _ _ _ _ _ _ _ _ sound.nodes (numbers_frozen w master number)
         (λ q. ap (λ (logs : ℕ → Log). (logs q).known) (logs_frozen w master number));
     rows = of_written (λ ws. Rows w.coordinator.rows ws w.ledger.journal) sound.rows;
     terms = terms_frozen _ _ _ _ master number sound.terms may.closing freezes;

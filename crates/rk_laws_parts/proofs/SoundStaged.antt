@@ -60,7 +60,7 @@ module _ (w : World) (master : ℕ) (call : Call) (value : Option (List ℕ)) (s
   pub sound_staged : IsSound (write_staged_in w master may.served.row.tablet call value)
   sound_staged = record {
     nodes =
-        nodes_staged _ _ _ _ _ _ _ sound.nodes (numbers_staged w master may.served.row.tablet call value)
+        nodes_staged _ _ _ _ _ _ _ _ _ sound.nodes (numbers_staged w master may.served.row.tablet call value)
         (known_staged w master may.served.row.tablet call value);
     rows = rows_staged _ (lane_of w) (lane_of now) _ master may.served.row call item sound.rows staged;
     terms =

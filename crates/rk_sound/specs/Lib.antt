@@ -1,3 +1,4 @@
+pub mod View
 pub mod Nodes
 pub mod Rows
 pub mod Terms

@@ -1,10 +1,10 @@
--- The whole invariant: each part, of the data of a world that it names.
+-- The whole invariant: each part, of the data of a view that it names.
 use Rattle.std.specs.Prelude.{List}
 use Rattle.rk_entry.specs.declared.entry.Entry.{Entry}
 use Rattle.rk_tablet_map.specs.declared.row.Row.{Row}
-use Rattle.rk_world.specs.Ledger.{asked_by}
-use Rattle.rk_world.specs.Written.{truth_of, rest_of}
-use Rattle.rk_world.specs.World.{World, master_at, backup_at, lives, log_in, records_in, calls_in, tablet_in, written_in, standing, bytes_of_logs}
+use Rattle.rk_world.specs.Written.{rest_of}
+use Rattle.rk_world.specs.World.{World, written_in, standing, bytes_of_logs}
+use Rattle.rk_sound.specs.View.{View, view, truths, rests, keeps}
 use Rattle.rk_sound.specs.Nodes.{Nodes}
 use Rattle.rk_sound.specs.Rows.{Rows}
 use Rattle.rk_sound.specs.Terms.{Terms}
@@ -27,36 +27,84 @@ use Rattle.rk_sound.specs.Room.{Room}
 abbrev pub rest_in : World → Row → List Entry
 rest_in w row = rest_of (written_in w) row
 
--- a lane is sound: each part holds of its data
-pub record IsSound (w : World) : Type 0 where
-  pub nodes :
-      Nodes (master_at w) w.coordinator.masters w.backup_count w.coordinator.rows w.coordinator.noticed (lives w)
-  pub rows : Rows w.coordinator.rows (written_in w) w.ledger.journal
-  pub terms : Terms w.coordinator.rows (tablet_in w) w.wire.messages
-  pub cover : Cover w.coordinator.rows (written_in w) (tablet_in w) (records_in w) w.wire.messages
-  pub roles : Roles w.coordinator.rows (tablet_in w) (written_in w) (lives w)
-  pub logs : Logs (log_in w) (written_in w) (backup_at w) w.wire.messages
-  pub truth : Truth w.base w.coordinator.rows (truth_of w.base (written_in w)) w.ledger.journal (asked_by w.ledger)
-  pub order : Order w.coordinator.rows (truth_of w.base (written_in w)) (rest_of (written_in w))
-  pub calls :
-      Calls w.base w.coordinator.rows (truth_of w.base (written_in w)) (rest_of (written_in w)) (tablet_in w) (lives w)
-      w.coordinator.handed w.ledger.journal w.wire.messages
-  pub counters :
-      Counters w.base w.coordinator.rows (truth_of w.base (written_in w)) (rest_of (written_in w)) (written_in w) (tablet_in w)
-      (lives w) w.coordinator.handed w.ledger.journal w.wire.messages
-  pub rest :
-      Rest w.base w.coordinator.rows (truth_of w.base (written_in w)) (rest_of (written_in w)) (written_in w) (tablet_in w)
-      (calls_in w) (lives w) w.ledger.journal (asked_by w.ledger)
-  pub records : Tables w.coordinator.rows (written_in w) (tablet_in w) (records_in w) (lives w)
-  pub receives :
-      Receives w.coordinator.rows (written_in w) (tablet_in w) (records_in w) w.coordinator.handed
-  pub rebuilds :
-      Rebuilds w.coordinator.rows (truth_of w.base (written_in w)) (log_in w) (written_in w) (backup_at w) (tablet_in w) (records_in w)
-      (lives w)
-  pub messages :
-      Messages w.coordinator.rows (log_in w) (written_in w) (backup_at w) (tablet_in w) (lives w) w.coordinator.handed w.ledger.journal
-      w.wire.messages
-  pub asked : Asked w.lane (asked_by w.ledger) w.ledger.requests w.ledger.journal w.wire.messages
+-- ---- each part, of a view
+
+abbrev pub NodesOf : View → Type 0
+NodesOf v = Nodes v.numbers v.logs v.masters v.backups v.rows v.noticed v.live
+
+abbrev pub RowsOf : View → Type 0
+RowsOf v = Rows v.rows v.written v.journal
+
+abbrev pub TermsOf : View → Type 0
+TermsOf v = Terms v.rows (keeps v) v.wire
+
+abbrev pub CoverOf : View → Type 0
+CoverOf v = Cover v.rows v.written (keeps v) v.records v.wire
+
+abbrev pub RolesOf : View → Type 0
+RolesOf v = Roles v.rows (keeps v) v.written v.live
+
+abbrev pub LogsOf : View → Type 0
+LogsOf v = Logs v.logs v.written v.stored v.wire
+
+abbrev pub TruthOf : View → (Row → List Entry) → Type 0
+TruthOf v truths = Truth v.base v.rows truths v.journal v.asked
+
+abbrev pub OrderOf : View → (Row → List Entry) → (Row → List Entry) → Type 0
+OrderOf v truths rests = Order v.rows truths rests
+
+abbrev pub CallsOf : View → (Row → List Entry) → (Row → List Entry) → Type 0
+CallsOf v truths rests = Calls v.base v.rows truths rests (keeps v) v.live v.handed v.journal v.wire
+
+abbrev pub CountersOf : View → (Row → List Entry) → (Row → List Entry) → Type 0
+CountersOf v truths rests = Counters v.base v.rows truths rests v.written (keeps v) v.live v.handed v.journal v.wire
+
+abbrev pub RestOf : View → (Row → List Entry) → (Row → List Entry) → Type 0
+RestOf v truths rests = Rest v.base v.rows truths rests v.written (keeps v) v.calls v.live v.journal v.asked
+
+abbrev pub TablesOf : View → Type 0
+TablesOf v = Tables v.rows v.written (keeps v) v.records v.live
+
+abbrev pub ReceivesOf : View → Type 0
+ReceivesOf v = Receives v.rows v.written (keeps v) v.records v.handed
+
+abbrev pub RebuildsOf : View → (Row → List Entry) → Type 0
+RebuildsOf v truths = Rebuilds v.rows truths v.logs v.written v.stored (keeps v) v.records v.live
+
+abbrev pub MessagesOf : View → Type 0
+MessagesOf v = Messages v.rows v.logs v.written v.stored (keeps v) v.live v.handed v.journal v.wire
+
+abbrev pub AskedOf : View → Type 0
+AskedOf v = Asked v.lane v.asked v.requests v.journal v.wire
+
+-- ---- all parts
+
+-- each part holds of a view, where the rows have these truths and these rests
+pub record SoundParts (v : View) (truths rests : Row → List Entry) : Type 0 where
+  pub nodes : NodesOf v
+  pub rows : RowsOf v
+  pub terms : TermsOf v
+  pub cover : CoverOf v
+  pub roles : RolesOf v
+  pub logs : LogsOf v
+  pub truth : TruthOf v truths
+  pub order : OrderOf v truths rests
+  pub calls : CallsOf v truths rests
+  pub counters : CountersOf v truths rests
+  pub rest : RestOf v truths rests
+  pub records : TablesOf v
+  pub receives : ReceivesOf v
+  pub rebuilds : RebuildsOf v truths
+  pub messages : MessagesOf v
+  pub asked : AskedOf v
+
+-- a view is sound: each part holds, with the truths and the rests of its rows
+abbrev pub SoundView : View → Type 0
+SoundView v = SoundParts v (truths v) (rests v)
+
+-- a lane is sound: its view is
+abbrev pub IsSound : World → Type 0
+IsSound w = SoundView (view w)
 
 -- the numbers of a lane have room
 abbrev pub HasRoom : World → Type 0
