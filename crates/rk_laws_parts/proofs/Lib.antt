@@ -1,3 +1,4 @@
+pub mod Put
 pub mod Masters
 pub mod Changing
 pub mod Differs
@@ -5,9 +6,9 @@ pub mod Lists
 pub mod Fresh
 pub mod Empty
 pub mod Shares
-pub mod WorldFrozen
+pub mod Views
 pub mod Apart
-pub mod WorldStaged
+pub mod Staging
 pub mod Alike
 pub mod Speakers
 pub mod Seen
@@ -40,11 +41,12 @@ pub mod Tables
 pub mod Receives
 pub mod Rebuilds
 pub mod Rest
-pub mod SoundSent
-pub mod SoundForgotten
-pub mod SoundLedger
-pub mod SoundFrozen
-pub mod SoundStaged
+pub mod Sent
+pub mod Forgotten
+pub mod Come
+pub mod Saved
+pub mod Frozen
+pub mod WriteStaged
 pub mod SmallWorld
 pub mod SmallWorldLooks
 pub mod SmallWorldMap

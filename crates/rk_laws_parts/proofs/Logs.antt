@@ -24,7 +24,8 @@ use Rattle.rk_world.specs.Marks.{Mark}
 use Rattle.rk_world.specs.Written.{Written}
 use Rattle.rk_sound.specs.Logs.{IsFirstPart, IsCopy, IsKnownBefore, IsLog, IsFromLog, Logs, LogSays, segments_in, stored_of}
 use Rattle.rk_sound.specs.Changes.{HasSegmentLeft}
-use Rattle.rk_laws_parts.proofs.Changing.{Lane, Stages, DiffersAt, with_one_more}
+use Rattle.rk_sound.specs.Small.{with_one_more}
+use Rattle.rk_laws_parts.proofs.Changing.{Lane, Stages, DiffersAt}
 use Rattle.rk_laws_parts.proofs.Segments.{Grows, grows_entry}
 
 -- a message is put on the wire

@@ -9,7 +9,8 @@ use Rattle.rk_types.specs.declared.range.Range.{Range}
 use Rattle.rk_model.specs.Merged.{is_mutation}
 use Rattle.rk_model.specs.Ordered.{AreOneMutation}
 use Rattle.rk_entry.specs.declared.entry.Entry.{Entry}
-use Rattle.rk_done.specs.Completions.{ends_of}
+use Rattle.rk_done.specs.Completions.{Completions, ends_of}
+use Rattle.rk_transfer.specs.declared.handover.Handover.{Handover}
 use Rattle.rk_tablet_map.specs.Phase.{lineage_of}
 use Rattle.rk_tablet_map.specs.declared.phase.Phase.TheVariants.{Rebuilding}
 use Rattle.rk_tablet_map.specs.declared.row.Row.{Row}
@@ -18,7 +19,6 @@ use Rattle.rk_world.specs.Ranges.{has_key}
 use Rattle.rk_world.specs.Ends.{told, outcome_of}
 use Rattle.rk_world.specs.Material.{of_key}
 use Rattle.rk_world.specs.Base.{Base, ends_told}
-use Rattle.rk_world.specs.Tablet.{Tablet}
 use Rattle.rk_world.specs.Coordinator.{Handed}
 use Rattle.rk_sound.specs.Posts.{post_of, speaks, StillCounts}
 use Rattle.rk_sound.specs.Handing.{handed_by, handed_for_grant}
@@ -75,7 +75,7 @@ pub record IsStagedEnd (rows : List Row) (rests : Row → List Entry) (master ta
   pub rebuilt : row.phase ≡ Rebuilding (lineage_of row.phase) master
   pub at_term : term ≡ row.term
 
-pub record Calls (base : Base) (rows : List Row) (truths rests : Row → List Entry) (tablets : ℕ → ℕ → Tablet) (live : ℕ → Bool) (handed : NumberMap Handed) (journal : List Placed) (wire : NumberMap Message) : Type 0 where
+pub record Calls (base : Base) (rows : List Row) (truths rests : Row → List Entry) (handovers : ℕ → ℕ → Handover) (completions : ℕ → ℕ → Completions) (live : ℕ → Bool) (handed : NumberMap Handed) (journal : List Placed) (wire : NumberMap Message) : Type 0 where
   -- no mutation has two records
   pub once :
       (i j : ℕ) (a b : Placed) → slice_get journal i ≡ Some a → slice_get journal j ≡ Some b
@@ -87,17 +87,17 @@ pub record Calls (base : Base) (rows : List Row) (truths rests : Row → List En
   -- so do the completions of a master that answers calls, or will
   pub answering :
       (master : ℕ)
-      → All (λ row. StillCounts (live master) (tablets master row.tablet).handover.term row.term
-      → speaks (post_of row.phase master) (tablets master row.tablet).handover row.term ≡ true
-      → ReachAll row.range journal (ends_of (tablets master row.tablet).completions)) rows
+      → All (λ row. StillCounts (live master) (handovers master row.tablet).term row.term
+      → speaks (post_of row.phase master) (handovers master row.tablet) row.term ≡ true
+      → ReachAll row.range journal (ends_of (completions master row.tablet))) rows
   -- and those that are handed over with a floor
-  pub handed_on : All (λ row. IfSome (handed_for_grant row tablets handed) (λ h. ReachAll row.range journal h.ends)) rows
+  pub handed_on : All (λ row. IfSome (handed_for_grant row handovers handed) (λ h. ReachAll row.range journal h.ends)) rows
   pub sent :
       EachIn (λ number message.
-      All (λ row. IfSome (handed_by row tablets message.body) (λ h. ReachAll row.range journal h.ends)) rows) wire
+      All (λ row. IfSome (handed_by row handovers message.body) (λ h. ReachAll row.range journal h.ends)) rows) wire
   -- each end that a living master keeps is a record's, or one of the start, or one that its rebuild is to make a record of
   pub known :
       (master tablet : ℕ) → live master ≡ true
       → All (λ end. IsKnown base journal end
-      ⊎ IsStagedEnd rows rests master tablet (tablets master tablet).handover.term end)
-      (ends_of (tablets master tablet).completions)
+      ⊎ IsStagedEnd rows rests master tablet (handovers master tablet).term end)
+      (ends_of (completions master tablet))

@@ -10,6 +10,7 @@ use Rattle.rk_model.specs.History.{Map, map_after}
 use Rattle.rk_model.specs.Machine.{last_version}
 use Rattle.rk_entry.specs.declared.entry.Entry.{Entry}
 use Rattle.rk_table.specs.Items.{is_in}
+use Rattle.rk_transfer.specs.declared.handover.Handover.{Handover}
 use Rattle.rk_tablet_map.specs.Phase.{lineage_of}
 use Rattle.rk_tablet_map.specs.declared.row.Row.{Row}
 use Rattle.rk_message.specs.declared.message.Message.{Message}
@@ -19,7 +20,6 @@ use Rattle.rk_world.specs.Material.{of_key}
 use Rattle.rk_world.specs.Lineage.{first_of}
 use Rattle.rk_world.specs.Base.{Base, base_map}
 use Rattle.rk_world.specs.Merge.{floor_of}
-use Rattle.rk_world.specs.Tablet.{Tablet}
 use Rattle.rk_world.specs.Coordinator.{Handed}
 use Rattle.rk_world.specs.Written.{Written}
 use Rattle.rk_sound.specs.Posts.{post_of, speaks, StillCounts}
@@ -45,19 +45,19 @@ abbrev pub IsFloor : Row → List Entry → (ℕ → Written) → ℕ → Type 0
 IsFloor row material written floor =
     IfSome (first_of (lineage_of row.phase)) (λ source. IsNext row.range material (written source.master) floor)
 
-pub record Counters (base : Base) (rows : List Row) (truths rests : Row → List Entry) (written : ℕ → Written) (tablets : ℕ → ℕ → Tablet) (live : ℕ → Bool) (handed : NumberMap Handed) (journal : List Placed) (wire : NumberMap Message) : Type 0 where
+pub record Counters (base : Base) (rows : List Row) (truths rests : Row → List Entry) (written : ℕ → Written) (handovers : ℕ → ℕ → Handover) (live : ℕ → Bool) (handed : NumberMap Handed) (journal : List Placed) (wire : NumberMap Message) : Type 0 where
   -- what a rebuild takes from the truth of a row is above each version that was given there, key by key
   pub low : All (λ row. AreAboveMap row.range (map_after (base_map base) journal) (truths row)) rows
   -- so is the counter of a master that gives versions, or will, also with what is not applied
   pub counted :
       (master : ℕ)
-      → All (λ row. StillCounts (live master) (tablets master row.tablet).handover.term row.term
-      → speaks (post_of row.phase master) (tablets master row.tablet).handover row.term ≡ true
-      → IsNext row.range (truths row ++ rests row) (written master) (tablets master row.tablet).handover.counter) rows
+      → All (λ row. StillCounts (live master) (handovers master row.tablet).term row.term
+      → speaks (post_of row.phase master) (handovers master row.tablet) row.term ≡ true
+      → IsNext row.range (truths row ++ rests row) (written master) (handovers master row.tablet).counter) rows
   -- and each floor that is handed over
   pub handed_on :
-      All (λ row. IfSome (handed_for_grant row tablets handed) (λ h. IsFloor row (truths row ++ rests row) written h.floor)) rows
+      All (λ row. IfSome (handed_for_grant row handovers handed) (λ h. IsFloor row (truths row ++ rests row) written h.floor)) rows
   pub sent :
       EachIn (λ number message.
-      All (λ row. IfSome (handed_by row tablets message.body)
+      All (λ row. IfSome (handed_by row handovers message.body)
       (λ h. IsFloor row (truths row ++ rests row) written h.floor)) rows) wire

@@ -9,11 +9,11 @@ use Rattle.rk_types.specs.declared.held.Held.{Held}
 use Rattle.rk_types.specs.declared.range.Range.{Range}
 use Rattle.rk_entry.specs.declared.entry.Entry.{Entry}
 use Rattle.rk_entry.specs.declared.entry.Entry.TheVariants as entries
+use Rattle.rk_transfer.specs.declared.handover.Handover.{Handover}
 use Rattle.rk_tablet_map.specs.Rows.{row_of, is_covered}
 use Rattle.rk_tablet_map.specs.declared.row.Row.{Row}
 use Rattle.rk_message.specs.declared.message.Message.{Message}
 use Rattle.rk_world.specs.Ranges.{has_all}
-use Rattle.rk_world.specs.Tablet.{Tablet}
 use Rattle.rk_world.specs.Written.{Written}
 use Rattle.rk_sound.specs.Terms.{tenure_in, range_in}
 
@@ -42,15 +42,15 @@ IsOfWholeRows rows (entries.Carried carried) = HasWholeRows rows carried.range
 IsOfWholeRows rows (entries.Joined joined) = HasWholeRows rows joined.range
 IsOfWholeRows rows entry = ⊤
 
-pub record Cover (rows : List Row) (written : ℕ → Written) (tablets : ℕ → ℕ → Tablet) (records : ℕ → List Held) (wire : NumberMap Message) : Type 0 where
+pub record Cover (rows : List Row) (written : ℕ → Written) (handovers : ℕ → ℕ → Handover) (records : ℕ → List Held) (wire : NumberMap Message) : Type 0 where
   -- a tablet without a row is known to no master, no mark and no message
-  pub unknown : (master tablet : ℕ) → row_of rows tablet ≡ None → (tablets master tablet).handover.term ≡ 0
+  pub unknown : (master tablet : ℕ) → row_of rows tablet ≡ None → (handovers master tablet).term ≡ 0
   pub marks : (master : ℕ) → All (λ mark. is_some (row_of rows mark.tablet) ≡ true) (written master).marks
   pub sent :
       EachIn (λ number message. IfSome (tenure_in message.body) (λ tenure. is_some (row_of rows tenure.tablet) ≡ true)) wire
   -- ranges that masters have, or that orders bear, entries, side items and records lie in rows
   pub ranges :
-      (master tablet : ℕ) → 1 ≤ (tablets master tablet).handover.term → IsWithinRows rows (tablets master tablet).handover.range
+      (master tablet : ℕ) → 1 ≤ (handovers master tablet).term → IsWithinRows rows (handovers master tablet).range
   pub ordered : EachIn (λ number message. IfSome (range_in message.body) (IsWithinRows rows)) wire
   pub entries : (master : ℕ) → All (IsEntryWithin rows) (written master).entries
   pub sides : (master : ℕ) → All (IsItemWithin rows) (flat_map (λ items. items) (written master).sides)

@@ -12,7 +12,6 @@ use Rattle.rk_tablet_map.specs.declared.row.Row.{Row}
 use Rattle.rk_message.specs.declared.message.Body.{Body}
 use Rattle.rk_message.specs.declared.message.Body.TheVariants as bodies
 use Rattle.rk_world.specs.Lineage.{second_of}
-use Rattle.rk_world.specs.Tablet.{Tablet}
 use Rattle.rk_world.specs.Coordinator.{Handed}
 
 -- whether a row opens
@@ -26,9 +25,9 @@ is_wanting (roles.Wanting from) = true
 is_wanting _ = false
 
 -- what the second member of a row's lineage, if there is one, has of the tablet
-abbrev pub second_has : (ℕ → ℕ → Tablet) → Row → Option Member → Option Handover
-second_has tablets row None = None
-second_has tablets row (Some member) = Some (tablets member.master row.tablet).handover
+abbrev pub second_has : (ℕ → ℕ → Handover) → Row → Option Member → Option Handover
+second_has handovers row None = None
+second_has handovers row (Some member) = Some (handovers member.master row.tablet)
 
 -- whether the second member waits for its grant
 abbrev pub is_waiting : Option Handover → Bool
@@ -41,20 +40,20 @@ is_waiting_at None term = false
 is_waiting_at (Some handover) term = is_wanting handover.role && (handover.term == term)
 
 -- what the coordinator has noted for the grant, while the target waits for it
-abbrev pub handed_for_grant : Row → (ℕ → ℕ → Tablet) → NumberMap Handed → Option Handed
-handed_for_grant row tablets handed =
-    if is_waiting (second_has tablets row (second_of (lineage_of row.phase))) then get handed row.tablet else None
+abbrev pub handed_for_grant : Row → (ℕ → ℕ → Handover) → NumberMap Handed → Option Handed
+handed_for_grant row handovers handed =
+    if is_waiting (second_has handovers row (second_of (lineage_of row.phase))) then get handed row.tablet else None
 
 -- what a message hands over for a row: a Transfer of its term while it opens, and a Grant of the target's term while the
 -- target waits for it
-abbrev pub handed_by : Row → (ℕ → ℕ → Tablet) → Body → Option Handed
-handed_by row tablets (bodies.Transfer transfer) =
+abbrev pub handed_by : Row → (ℕ → ℕ → Handover) → Body → Option Handed
+handed_by row handovers (bodies.Transfer transfer) =
     if is_opening row.phase && (transfer.tenure.tablet == row.tablet) && (transfer.tenure.term == row.term)
     then Some (record { floor = transfer.floor; ends = transfer.ends })
     else None
-handed_by row tablets (bodies.Grant grant) =
+handed_by row handovers (bodies.Grant grant) =
     if (grant.tenure.tablet == row.tablet)
-    && is_waiting_at (second_has tablets row (second_of (lineage_of row.phase))) grant.tenure.term
+    && is_waiting_at (second_has handovers row (second_of (lineage_of row.phase))) grant.tenure.term
     then Some (record { floor = grant.floor; ends = grant.ends })
     else None
-handed_by row tablets _ = None
+handed_by row handovers _ = None

@@ -7,6 +7,7 @@ use Rattle.rk_types.specs.NumberMap.{NumberMap, EachIn, get}
 use Rattle.rk_types.specs.Range.{meets}
 use Rattle.rk_types.specs.declared.call.Answer.{Answer}
 use Rattle.rk_types.specs.declared.call.Answer.TheVariants as answers
+use Rattle.rk_types.specs.declared.call.Ended.{Ended}
 use Rattle.rk_types.specs.declared.call.Outcome.{Outcome}
 use Rattle.rk_types.specs.declared.history.Placed.{Placed}
 use Rattle.rk_types.specs.declared.lineage.Member.{Member}
@@ -17,7 +18,7 @@ use Rattle.rk_entry.specs.declared.entry.Entry.{Entry}
 use Rattle.rk_log.specs.Log.{Log, known_of}
 use Rattle.rk_table.specs.Items.{at_hash}
 use Rattle.rk_table.specs.Scans.{batch_at, next_token}
-use Rattle.rk_done.specs.Completions.{ends_of}
+use Rattle.rk_done.specs.Completions.{Completions, ends_of}
 use Rattle.rk_transfer.specs.declared.handover.Handover.{Handover}
 use Rattle.rk_transfer.specs.declared.role.Role.{Role}
 use Rattle.rk_transfer.specs.declared.role.Role.TheVariants as roles
@@ -42,7 +43,6 @@ use Rattle.rk_message.specs.declared.rebuilding.Rebuild.{Rebuild}
 use Rattle.rk_message.specs.declared.rebuilding.Rebuilt.{Rebuilt}
 use Rattle.rk_world.specs.Material.{as_entries}
 use Rattle.rk_world.specs.Lineage.{is_member}
-use Rattle.rk_world.specs.Tablet.{Tablet}
 use Rattle.rk_world.specs.Coordinator.{Handed}
 use Rattle.rk_world.specs.Written.{Written, member_truth}
 use Rattle.rk_sound.specs.Posts.{InvitedTarget, post_of, Post, Owner, OpeningSource, OnlyRebuilder}
@@ -162,17 +162,17 @@ ReadyIn (Opening source sfrom target None) handover term master place =
 ReadyIn phase handover term master place = ⊤
 
 -- a frozen source tells its counter and its ends
-pub record IsFrozenSource (tablet : Tablet) (term : ℕ) (transfer : Transfer) : Type 0 where
-  pub role_is : tablet.handover.role ≡ roles.Frozen
-  pub term_is : tablet.handover.term ≡ term
-  pub floor_is : transfer.floor ≡ tablet.handover.counter
-  pub ends_are : transfer.ends ≡ ends_of tablet.completions
+pub record IsFrozenSource (handover : Handover) (completions : Completions) (term : ℕ) (transfer : Transfer) : Type 0 where
+  pub role_is : handover.role ≡ roles.Frozen
+  pub term_is : handover.term ≡ term
+  pub floor_is : transfer.floor ≡ handover.counter
+  pub ends_are : transfer.ends ≡ ends_of completions
 
 -- a Transfer of a row that opens is of its source, which is frozen
-abbrev pub TransferIn : Phase → Tablet → ℕ → ℕ → Transfer → Type 0
-TransferIn (Opening source sfrom target dfrom) tablet term master transfer =
-    (source ≡ master) × IsFrozenSource tablet term transfer
-TransferIn phase tablet term master transfer = ⊤
+abbrev pub TransferIn : Phase → Handover → Completions → ℕ → ℕ → Transfer → Type 0
+TransferIn (Opening source sfrom target dfrom) handover completions term master transfer =
+    (source ≡ master) × IsFrozenSource handover completions term transfer
+TransferIn phase handover completions term master transfer = ⊤
 
 -- a target that joins has its closing entry applied
 abbrev pub HasJoined : Role → ℕ → Type 0
@@ -192,12 +192,11 @@ HasRebuilt (roles.Rebuilding from (Some entry)) applied place = (entry < applied
 HasRebuilt role applied place = ⊥
 
 -- a Rebuilt tells the place, and the ends of what its sender merged in their order
-abbrev pub RebuiltIn : Phase → Tablet → ℕ → ℕ → ℕ → Rebuilt → Type 0
-RebuiltIn (Rebuilding lineage to) tablet applied term master rebuilt =
-    (to ≡ master) × (tablet.handover.term ≡ term) × HasRebuilt tablet.handover.role applied rebuilt.place
-    × (rebuilt.ends ≡ tablet.merged_ends)
-RebuiltIn (Owned owner from) tablet applied term master rebuilt = (owner ≡ master) × (from ≡ rebuilt.place)
-RebuiltIn phase tablet applied term master rebuilt = ⊥
+abbrev pub RebuiltIn : Phase → Handover → List Ended → ℕ → ℕ → ℕ → Rebuilt → Type 0
+RebuiltIn (Rebuilding lineage to) handover merged applied term master rebuilt =
+    (to ≡ master) × (handover.term ≡ term) × HasRebuilt handover.role applied rebuilt.place × (rebuilt.ends ≡ merged)
+RebuiltIn (Owned owner from) handover merged applied term master rebuilt = (owner ≡ master) × (from ≡ rebuilt.place)
+RebuiltIn phase handover merged applied term master rebuilt = ⊥
 
 -- ---- between source and target: none of the row's term stands before the row has moved; what a target would take is what
 -- its source has
@@ -232,10 +231,10 @@ pub record GrantAgrees (row : Row) (handover : Handover) (live : Bool) (handed :
       → GrantIn (lineage_of row.phase) handed master grant
 
 -- a Pull or a Want of a target goes to its source
-abbrev pub AskAgrees : Row → (ℕ → ℕ → Tablet) → List Member → ℕ → Node → Tenure → Type 0
-AskAgrees row tablets (source ∷ target ∷ []) master to tenure =
-    target.master ≡ master → IsOfTarget row (tablets master row.tablet).handover tenure → to ≡ nodes.Master source.master
-AskAgrees row tablets lineage master to tenure = ⊤
+abbrev pub AskAgrees : Row → (ℕ → ℕ → Handover) → List Member → ℕ → Node → Tenure → Type 0
+AskAgrees row handovers (source ∷ target ∷ []) master to tenure =
+    target.master ≡ master → IsOfTarget row (handovers master row.tablet) tenure → to ≡ nodes.Master source.master
+AskAgrees row handovers lineage master to tenure = ⊤
 
 -- what a target that pulls would replay
 pub record IsFromSource (source : Member) (from : Node) (items : List Entry) (entries : List Entry) : Type 0 where
@@ -243,21 +242,21 @@ pub record IsFromSource (source : Member) (from : Node) (items : List Entry) (en
   pub items_are : entries ≡ items
 
 -- a Pulled of the term that a target keeps has the next items of its source
-abbrev pub PulledAgrees : Row → (ℕ → Written) → (ℕ → ℕ → Tablet) → (ℕ → Bool) → List Member → Node → ℕ → Pulled → Type 0
-PulledAgrees row written tablets live (source ∷ target ∷ []) from master pulled =
-    target.master ≡ master → live master ≡ true → IsOfTarget row (tablets master row.tablet).handover pulled.tenure
+abbrev pub PulledAgrees : Row → (ℕ → Written) → (ℕ → ℕ → Handover) → (ℕ → Bool) → List Member → Node → ℕ → Pulled → Type 0
+PulledAgrees row written handovers live (source ∷ target ∷ []) from master pulled =
+    target.master ≡ master → live master ≡ true → IsOfTarget row (handovers master row.tablet) pulled.tenure
     → IsFromSource source from
     (as_entries (batch_at pulled.token BATCH_BYTES (scan_items (member_truth written row.range source)))) pulled.entries
     × (pulled.next ≡ next_token pulled.token BATCH_BYTES (scan_items (member_truth written row.range source)))
-PulledAgrees row written tablets live lineage from master pulled = ⊤
+PulledAgrees row written handovers live lineage from master pulled = ⊤
 
 -- a Got of the term that a target keeps has the items of its source with these hashes
-abbrev pub GotAgrees : Row → (ℕ → Written) → (ℕ → ℕ → Tablet) → (ℕ → Bool) → List Member → Node → ℕ → Got → Type 0
-GotAgrees row written tablets live (source ∷ target ∷ []) from master got =
-    target.master ≡ master → live master ≡ true → IsOfTarget row (tablets master row.tablet).handover got.tenure
+abbrev pub GotAgrees : Row → (ℕ → Written) → (ℕ → ℕ → Handover) → (ℕ → Bool) → List Member → Node → ℕ → Got → Type 0
+GotAgrees row written handovers live (source ∷ target ∷ []) from master got =
+    target.master ≡ master → live master ≡ true → IsOfTarget row (handovers master row.tablet) got.tenure
     → IsFromSource source from
     (as_entries (flat_map (λ hash. at_hash hash (scan_items (member_truth written row.range source))) got.hashes)) got.entries
-GotAgrees row written tablets live lineage from master got = ⊤
+GotAgrees row written handovers live lineage from master got = ⊤
 
 -- ---- between a rebuilding master and backup 1, by the row's term and phase
 
@@ -299,55 +298,55 @@ ReplyFits journal node reply = ⊤
 -- ---- all kinds
 
 -- what a message says of a row
-abbrev pub SaysOf : Row → (ℕ → Log) → (ℕ → Written) → (ℕ → Segments) → (ℕ → ℕ → Tablet) → (ℕ → Bool) → NumberMap Handed → Node → Node → Body → Type 0
-SaysOf row logs written stored tablets live handed from to (bodies.Prepare prepare) =
-    IfMaster to (λ master. PrepareFits row (tablets master row.tablet).handover (live master) master prepare)
-SaysOf row logs written stored tablets live handed from to (bodies.Ready ready) =
+abbrev pub SaysOf : Row → (ℕ → Log) → (ℕ → Written) → (ℕ → Segments) → (ℕ → ℕ → Handover) → (ℕ → ℕ → Completions) → (ℕ → ℕ → List Ended) → (ℕ → Bool) → NumberMap Handed → Node → Node → Body → Type 0
+SaysOf row logs written stored handovers completions merged live handed from to (bodies.Prepare prepare) =
+    IfMaster to (λ master. PrepareFits row (handovers master row.tablet) (live master) master prepare)
+SaysOf row logs written stored handovers completions merged live handed from to (bodies.Ready ready) =
     ByMaster from (λ master. IsOf row ready.tenure
-    → ReadyIn row.phase (tablets master row.tablet).handover row.term master ready.place)
-SaysOf row logs written stored tablets live handed from to (bodies.Close tenure) =
-    IfMaster to (λ master. CloseFits row (tablets master row.tablet).handover (live master) master tenure)
-SaysOf row logs written stored tablets live handed from to (bodies.Transfer transfer) =
+    → ReadyIn row.phase (handovers master row.tablet) row.term master ready.place)
+SaysOf row logs written stored handovers completions merged live handed from to (bodies.Close tenure) =
+    IfMaster to (λ master. CloseFits row (handovers master row.tablet) (live master) master tenure)
+SaysOf row logs written stored handovers completions merged live handed from to (bodies.Transfer transfer) =
     ByMaster from (λ master. IsOf row transfer.tenure
-    → TransferIn row.phase (tablets master row.tablet) row.term master transfer)
-SaysOf row logs written stored tablets live handed from to (bodies.Grant grant) =
+    → TransferIn row.phase (handovers master row.tablet) (completions master row.tablet) row.term master transfer)
+SaysOf row logs written stored handovers completions merged live handed from to (bodies.Grant grant) =
     AfterMove row grant.tenure
-    × IfMaster to (λ master. GrantAgrees row (tablets master row.tablet).handover (live master) (get handed row.tablet) master grant)
-SaysOf row logs written stored tablets live handed from to (bodies.Pull pull) =
-    AfterMove row pull.tenure × ByMaster from (λ master. AskAgrees row tablets (lineage_of row.phase) master to pull.tenure)
-SaysOf row logs written stored tablets live handed from to (bodies.Pulled pulled) =
+    × IfMaster to (λ master. GrantAgrees row (handovers master row.tablet) (live master) (get handed row.tablet) master grant)
+SaysOf row logs written stored handovers completions merged live handed from to (bodies.Pull pull) =
+    AfterMove row pull.tenure × ByMaster from (λ master. AskAgrees row handovers (lineage_of row.phase) master to pull.tenure)
+SaysOf row logs written stored handovers completions merged live handed from to (bodies.Pulled pulled) =
     AfterMove row pulled.tenure
-    × IfMaster to (λ master. PulledAgrees row written tablets live (lineage_of row.phase) from master pulled)
-SaysOf row logs written stored tablets live handed from to (bodies.Want want) =
-    AfterMove row want.tenure × ByMaster from (λ master. AskAgrees row tablets (lineage_of row.phase) master to want.tenure)
-SaysOf row logs written stored tablets live handed from to (bodies.Got got) =
+    × IfMaster to (λ master. PulledAgrees row written handovers live (lineage_of row.phase) from master pulled)
+SaysOf row logs written stored handovers completions merged live handed from to (bodies.Want want) =
+    AfterMove row want.tenure × ByMaster from (λ master. AskAgrees row handovers (lineage_of row.phase) master to want.tenure)
+SaysOf row logs written stored handovers completions merged live handed from to (bodies.Got got) =
     AfterMove row got.tenure
-    × IfMaster to (λ master. GotAgrees row written tablets live (lineage_of row.phase) from master got)
-SaysOf row logs written stored tablets live handed from to (bodies.Joined tenure) =
+    × IfMaster to (λ master. GotAgrees row written handovers live (lineage_of row.phase) from master got)
+SaysOf row logs written stored handovers completions merged live handed from to (bodies.Joined tenure) =
     ByMaster from (λ master. IsOf row tenure
-    → JoinedIn row.phase (tablets master row.tablet).handover (written master).applied row.term master)
-SaysOf row logs written stored tablets live handed from to (bodies.Own tenure) =
-    IfMaster to (λ master. OwnFits row (tablets master row.tablet).handover (live master) master tenure)
-SaysOf row logs written stored tablets live handed from to (bodies.Release tenure) =
-    IfMaster to (λ master. ReleaseFits row (tablets master row.tablet).handover (live master) master tenure)
-SaysOf row logs written stored tablets live handed from to (bodies.Rebuild rebuild) =
-    IfMaster to (λ master. RebuildFits row (tablets master row.tablet).handover (live master) master rebuild)
-SaysOf row logs written stored tablets live handed from to (bodies.Read read) =
+    → JoinedIn row.phase (handovers master row.tablet) (written master).applied row.term master)
+SaysOf row logs written stored handovers completions merged live handed from to (bodies.Own tenure) =
+    IfMaster to (λ master. OwnFits row (handovers master row.tablet) (live master) master tenure)
+SaysOf row logs written stored handovers completions merged live handed from to (bodies.Release tenure) =
+    IfMaster to (λ master. ReleaseFits row (handovers master row.tablet) (live master) master tenure)
+SaysOf row logs written stored handovers completions merged live handed from to (bodies.Rebuild rebuild) =
+    IfMaster to (λ master. RebuildFits row (handovers master row.tablet) (live master) master rebuild)
+SaysOf row logs written stored handovers completions merged live handed from to (bodies.Read read) =
     IsOf row read.tenure → ReadIn row.phase live to read
-SaysOf row logs written stored tablets live handed from to (bodies.Copy copy) =
+SaysOf row logs written stored handovers completions merged live handed from to (bodies.Copy copy) =
     IsOf row copy.tenure → CopyIn row.phase logs stored live copy
-SaysOf row logs written stored tablets live handed from to (bodies.Rebuilt rebuilt) =
+SaysOf row logs written stored handovers completions merged live handed from to (bodies.Rebuilt rebuilt) =
     ByMaster from (λ master. IsOf row rebuilt.tenure
-    → RebuiltIn row.phase (tablets master row.tablet) (written master).applied row.term master rebuilt)
-SaysOf row logs written stored tablets live handed from to body = ⊤
+    → RebuiltIn row.phase (handovers master row.tablet) (merged master row.tablet) (written master).applied row.term master rebuilt)
+SaysOf row logs written stored handovers completions merged live handed from to body = ⊤
 
 -- what a message says that no row is needed for: a Reply
 abbrev pub Says : List Placed → Node → Body → Type 0
 Says journal to (bodies.Reply reply) = ReplyFits journal to reply
 Says journal to body = ⊤
 
-pub record Messages (rows : List Row) (logs : ℕ → Log) (written : ℕ → Written) (stored : ℕ → Segments) (tablets : ℕ → ℕ → Tablet) (live : ℕ → Bool) (handed : NumberMap Handed) (journal : List Placed) (wire : NumberMap Message) : Type 0 where
+pub record Messages (rows : List Row) (logs : ℕ → Log) (written : ℕ → Written) (stored : ℕ → Segments) (handovers : ℕ → ℕ → Handover) (completions : ℕ → ℕ → Completions) (merged : ℕ → ℕ → List Ended) (live : ℕ → Bool) (handed : NumberMap Handed) (journal : List Placed) (wire : NumberMap Message) : Type 0 where
   pub of_rows :
       EachIn (λ number message.
-      All (λ row. SaysOf row logs written stored tablets live handed message.from message.to message.body) rows) wire
+      All (λ row. SaysOf row logs written stored handovers completions merged live handed message.from message.to message.body) rows) wire
   pub others : EachIn (λ number message. Says journal message.to message.body) wire

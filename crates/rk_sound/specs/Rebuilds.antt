@@ -4,6 +4,7 @@
 use Rattle.std.specs.Prelude.{◌≡◌, IfSome, ◌≤◌, ◌<◌, ℕ, suc, ◌-◌, ◌+◌, ◌==◌, Bool, true, false, not, nat_le, if◌then◌else◌, List, [], ◌∷◌, ◌++◌, None, Contains, All, length, map, filter, take, drop, slice_index_or, is_some, ⊤, ◌⊎◌, Option}
 use Rattle.std.specs.List.{prefix_len, list_any, flat_map}
 use Rattle.rk_types.specs.NumberMap.{EachIn}
+use Rattle.rk_types.specs.declared.call.Ended.{Ended}
 use Rattle.rk_types.specs.declared.held.Held.{Held}
 use Rattle.rk_types.specs.declared.lineage.Member.{Member}
 use Rattle.rk_types.specs.declared.range.Range.{Range}
@@ -15,7 +16,8 @@ use Rattle.rk_log.specs.Cut.{ends}
 use Rattle.rk_log.specs.Known.{Known, known_length}
 use Rattle.rk_log.specs.Log.{Log, known_of}
 use Rattle.rk_table.specs.Items.{is_in}
-use Rattle.rk_done.specs.Completions.{completions_from}
+use Rattle.rk_done.specs.Completions.{Completions, completions_from, ends_of}
+use Rattle.rk_transfer.specs.declared.handover.Handover.{Handover}
 use Rattle.rk_transfer.specs.declared.role.Role.{Role}
 use Rattle.rk_transfer.specs.declared.role.Role.TheVariants as roles
 use Rattle.rk_tablet_map.specs.Phase.{lineage_of, member as member_at}
@@ -29,9 +31,8 @@ use Rattle.rk_world.specs.Material.{counting, side_entries, material_of, as_entr
 use Rattle.rk_world.specs.Lineage.{is_member}
 use Rattle.rk_world.specs.Gather.{Gather, Gathered, next_reading, by_member}
 use Rattle.rk_world.specs.Merge.{merge, floor_of}
-use Rattle.rk_world.specs.Tablet.{Tablet}
 use Rattle.rk_world.specs.Master.{touches}
-use Rattle.rk_world.specs.Rebuilds.{own_place, rebuilt_entry}
+use Rattle.rk_world.specs.Rebuilds.{own_place}
 use Rattle.rk_world.specs.Written.{Written, member_material, applied_entries}
 use Rattle.rk_sound.specs.Logs.{IsFirstPart, is_main, stored_of}
 use Rattle.rk_sound.specs.Receives.{IsFound}
@@ -78,31 +79,40 @@ AreGathered known stored members =
 
 -- ---- what is merged
 
+-- the entry that closes a rebuild
+abbrev pub closing_carried : Handover → Merged → Entry
+closing_carried handover merged = entries.Carried (record {
+  range = handover.range;
+  term = handover.term;
+  floor = merged.floor;
+  ends = ends_of (completions_from [] merged.ends);
+})
+
 -- the piece of the log that a rebuild made, from the place on where its own entries count: the copies and then the entry that
 -- closes it. It bears the only mark of the tablet there, and nothing of the range stands behind it
-pub record IsPieceOf (number from : ℕ) (tablet : Tablet) (merged : Merged) (written : Written) (entry : ℕ) : Type 0 where
+pub record IsPieceOf (number from : ℕ) (handover : Handover) (merged : Merged) (written : Written) (entry : ℕ) : Type 0 where
   pub mark : Mark
   pub marked : Contains written.marks mark
   pub past_is : mark.past ≡ suc entry
   pub tablet_is : mark.tablet ≡ number
-  pub term_is : mark.term ≡ tablet.handover.term
+  pub term_is : mark.term ≡ handover.term
   pub behind : from ≤ mark.first
   pub alone : All (λ other. other.tablet ≡ number → other ≡ mark) written.marks
   pub stands :
       take (suc entry - mark.first) (drop mark.first written.entries)
-      ≡ as_entries merged.copies ++ rebuilt_entry tablet merged ∷ []
-  pub last : list_any (touches tablet.handover.range) (drop (suc entry) written.entries) ≡ false
+      ≡ as_entries merged.copies ++ closing_carried handover merged ∷ []
+  pub last : list_any (touches handover.range) (drop (suc entry) written.entries) ≡ false
 
 -- what a master merged of a tablet is all that was gathered, member by member, where `own` is what counts of its own unmarked
 -- entries; the tablet's counter and last ends are those of the merge
-pub record IsMergedOf (number from : ℕ) (own : List Entry) (tablet : Tablet) (written : Written) (entry : ℕ) : Type 0 where
-  pub gathered_all : next_reading tablet.gather ≡ None
+pub record IsMergedOf (number from : ℕ) (own : List Entry) (handover : Handover) (kept : Completions) (gather : Gather) (ends : List Ended) (written : Written) (entry : ℕ) : Type 0 where
+  pub gathered_all : next_reading gather ≡ None
   pub merged : Merged
-  pub merged_is : merged ≡ merge own (by_member tablet.gather own)
-  pub ends_are : tablet.merged_ends ≡ merged.ends
-  pub piece : IsPieceOf number from tablet merged written entry
-  pub counter : tablet.handover.counter ≡ merged.floor
-  pub completions : tablet.completions ≡ completions_from [] merged.ends
+  pub merged_is : merged ≡ merge own (by_member gather own)
+  pub ends_are : ends ≡ merged.ends
+  pub piece : IsPieceOf number from handover merged written entry
+  pub counter : handover.counter ≡ merged.floor
+  pub completions : kept ≡ completions_from [] merged.ends
 
 -- ---- the master that rebuilds
 
@@ -130,19 +140,19 @@ named_items range from written =
 
 -- a master that rebuilds a row: `truth` is the row's, `own` counts of its own entries that are not marked, and `stored` and `known`
 -- tell what backup 1 stores of each master, and is known to store
-pub record IsRebuilder (row : Row) (lineage : List Member) (master : ℕ) (truth own : List Entry) (known : ℕ → Known) (stored : ℕ → ℕ → List ℕ) (written : Written) (tablet : Tablet) (records : List Held) : Type 0 where
-  pub range_is : tablet.handover.range ≡ row.range
-  pub gather : IsGatherOf tablet.gather row.range lineage master
-  pub read : AreGathered known stored tablet.gather.members
-  pub placed : own_place tablet.handover.role ≤ length written.entries
+pub record IsRebuilder (row : Row) (lineage : List Member) (master : ℕ) (truth own : List Entry) (known : ℕ → Known) (stored : ℕ → ℕ → List ℕ) (written : Written) (handover : Handover) (completions : Completions) (gathering : Gather) (ends : List Ended) (records : List Held) : Type 0 where
+  pub range_is : handover.range ≡ row.range
+  pub gather : IsGatherOf gathering row.range lineage master
+  pub read : AreGathered known stored gathering.members
+  pub placed : own_place handover.role ≤ length written.entries
   pub merged :
-      IfSome (merged_place tablet.handover.role)
-      (λ entry. IsMergedOf row.tablet (own_place tablet.handover.role) own tablet written entry)
+      IfSome (merged_place handover.role)
+      (λ entry. IsMergedOf row.tablet (own_place handover.role) own handover completions gathering ends written entry)
   pub items :
-      IsRebuildTable row.range truth (applied_from row.range (own_place tablet.handover.role) written) records
+      IsRebuildTable row.range truth (applied_from row.range (own_place handover.role) written) records
   -- the items of side segments that its own entries name are the truth's, and found in its records
   pub sides :
-      (item : Held) → Contains (named_items row.range (own_place tablet.handover.role) written) item
+      (item : Held) → Contains (named_items row.range (own_place handover.role) written) item
       → Contains (items_of truth) item × IsFound records item
   -- a master that is not of the lineage has no entries of its own but those that it marked
   pub outside : is_member lineage master ≡ false → own ≡ []
@@ -200,14 +210,14 @@ has_merged role = false
 
 -- a mark of a row's tablet: there is one only while the row is rebuilt, of at most its term; a living master has one only of
 -- that term, and one of that term is the rebuilding master's, which has merged
-pub record MarkFits (row : Row) (master : ℕ) (tablet : Tablet) (live : Bool) (mark : Mark) : Type 0 where
+pub record MarkFits (row : Row) (master : ℕ) (handover : Handover) (live : Bool) (mark : Mark) : Type 0 where
   pub rebuilt : (lineage : List Member) × (to : ℕ) × (row.phase ≡ Rebuilding lineage to)
   pub within : mark.term ≤ row.term
   pub present : live ≡ true → mark.term ≡ row.term
   pub by_rebuilder :
       mark.term ≡ row.term
-      → (row.phase ≡ Rebuilding (lineage_of row.phase) master) × (tablet.handover.term ≡ row.term)
-      × (has_merged tablet.handover.role ≡ true)
+      → (row.phase ≡ Rebuilding (lineage_of row.phase) master) × (handover.term ≡ row.term)
+      × (has_merged handover.role ≡ true)
 
 -- an entry of a rebuild of a range: an item of it, or a Carried of just that range
 abbrev pub IsOfRange : Range → Entry → Type 0
@@ -220,21 +230,21 @@ abbrev pub HasOwnRange : Range → List Entry → Mark → Type 0
 HasOwnRange range list mark = All (IsOfRange range) (take (mark.past - mark.first) (drop mark.first list))
 
 -- what holds of a row while it is rebuilt
-abbrev pub RowIsRebuilt : Row → Phase → List Entry → (ℕ → Log) → (ℕ → Written) → (ℕ → Segments) → (ℕ → ℕ → Tablet) → (ℕ → List Held) → (ℕ → Bool) → Type 0
-RowIsRebuilt row (Rebuilding lineage to) truth logs written stored tablets records live =
-    ((tablets to row.tablet).handover.term ≡ row.term
+abbrev pub RowIsRebuilt : Row → Phase → List Entry → (ℕ → Log) → (ℕ → Written) → (ℕ → Segments) → (ℕ → ℕ → Handover) → (ℕ → ℕ → Completions) → (ℕ → ℕ → Gather) → (ℕ → ℕ → List Ended) → (ℕ → List Held) → (ℕ → Bool) → Type 0
+RowIsRebuilt row (Rebuilding lineage to) truth logs written stored handovers completions gathers merged records live =
+    ((handovers to row.tablet).term ≡ row.term
     → IsRebuilder row lineage to truth
-    (member_material written row.range (member_at to (own_place (tablets to row.tablet).handover.role)))
+    (member_material written row.range (member_at to (own_place (handovers to row.tablet).role)))
     (λ master. known_of (logs master) READ_BACKUP) (λ master. stored_of stored master READ_BACKUP) (written to)
-    (tablets to row.tablet) (records to))
+    (handovers to row.tablet) (completions to row.tablet) (gathers to row.tablet) (merged to row.tablet) (records to))
     × MarkedFit logs written stored live row.range lineage
-RowIsRebuilt row phase truth logs written stored tablets records live = ⊤
+RowIsRebuilt row phase truth logs written stored handovers completions gathers merged records live = ⊤
 
-pub record Rebuilds (rows : List Row) (truths : Row → List Entry) (logs : ℕ → Log) (written : ℕ → Written) (stored : ℕ → Segments) (tablets : ℕ → ℕ → Tablet) (records : ℕ → List Held) (live : ℕ → Bool) : Type 0 where
-  pub rebuilt : All (λ row. RowIsRebuilt row row.phase (truths row) logs written stored tablets records live) rows
+pub record Rebuilds (rows : List Row) (truths : Row → List Entry) (logs : ℕ → Log) (written : ℕ → Written) (stored : ℕ → Segments) (handovers : ℕ → ℕ → Handover) (completions : ℕ → ℕ → Completions) (gathers : ℕ → ℕ → Gather) (merged : ℕ → ℕ → List Ended) (records : ℕ → List Held) (live : ℕ → Bool) : Type 0 where
+  pub rebuilt : All (λ row. RowIsRebuilt row row.phase (truths row) logs written stored handovers completions gathers merged records live) rows
   pub marks :
       (master : ℕ)
-      → All (λ row. All (λ mark. mark.tablet ≡ row.tablet → MarkFits row master (tablets master row.tablet) (live master) mark)
+      → All (λ row. All (λ mark. mark.tablet ≡ row.tablet → MarkFits row master (handovers master row.tablet) (live master) mark)
       (written master).marks) rows
   pub pieces :
       (master : ℕ)

@@ -12,7 +12,8 @@ use Rattle.rk_entry.specs.declared.entry.Entry.TheVariants as entries
 use Rattle.rk_table.specs.Items.{is_in, with_item}
 use Rattle.rk_table.specs.Order.{item_hash}
 use Rattle.rk_table.specs.Scans.{passed, end}
-use Rattle.rk_done.specs.Completions.{ends_of}
+use Rattle.rk_done.specs.Completions.{Completions, ends_of}
+use Rattle.rk_transfer.specs.declared.handover.Handover.{Handover}
 use Rattle.rk_transfer.specs.declared.role.Role.{Role}
 use Rattle.rk_transfer.specs.declared.role.Role.TheVariants as roles
 use Rattle.rk_tablet_map.specs.Phase.{lineage_of}
@@ -22,10 +23,9 @@ use Rattle.rk_overlay.specs.Newest.{is_of}
 use Rattle.rk_overlay.specs.Overlay.{newest_items}
 use Rattle.rk_world.specs.Ends.{items_of}
 use Rattle.rk_world.specs.Material.{counting, side_entries, joined_from}
-use Rattle.rk_world.specs.Tablet.{Tablet, Pulling}
+use Rattle.rk_world.specs.Tablet.{Pulling}
 use Rattle.rk_world.specs.RoleTests.{is_receiving}
 use Rattle.rk_world.specs.Master.{touches}
-use Rattle.rk_world.specs.Waiting.{joined_entry}
 use Rattle.rk_world.specs.Coordinator.{Handed}
 use Rattle.rk_world.specs.Written.{Written, member_material, member_truth, applied_entries}
 
@@ -106,13 +106,18 @@ pub record HasPulled (pulling : Pulling) : Type 0 where
   pub sealed : flat_map (λ items. items) pulling.sides ≡ []
 
 -- the entry that begins what a target has of a tablet, by what the source told
-abbrev pub beginning_of : Tablet → Handed → Entry
-beginning_of tablet handed = entries.Carried (record {
-  range = tablet.handover.range;
-  term = tablet.handover.term;
+abbrev pub beginning_of : Handover → Handed → Entry
+beginning_of handover handed = entries.Carried (record {
+  range = handover.range;
+  term = handover.term;
   floor = handed.floor;
   ends = handed.ends;
 })
+
+-- the entry that closes the role of a target that sealed these segments
+abbrev pub closing_joined : Handover → List ℕ → Entry
+closing_joined handover sealed =
+    entries.Joined (record { range = handover.range; term = handover.term; segments = sealed })
 
 -- the entries before the closing entry, where there is one
 abbrev pub before_closing : Option ℕ → List Entry → List Entry
@@ -121,14 +126,14 @@ before_closing (Some place) entries = take place entries
 
 -- a target that pulls, or has all: `truth` counts for the range of what is applied at its source, `material` of all that the source
 -- has written, and its own entries count from the place `from` on
-pub record IsTarget (range : Range) (source : ℕ) (truth material : List Entry) (from : ℕ) (written : Written) (tablet : Tablet) (handed : Option Handed) (records : List Held) : Type 0 where
-  pub from_source : tablet.pulling.source ≡ source
-  pub workers : length tablet.pulling.sides ≡ 4
-  pub pulled : is_joining tablet.handover.role ≡ true → HasPulled tablet.pulling
+pub record IsTarget (range : Range) (source : ℕ) (truth material : List Entry) (from : ℕ) (written : Written) (handover : Handover) (pulling : Pulling) (handed : Option Handed) (records : List Held) : Type 0 where
+  pub from_source : pulling.source ≡ source
+  pub workers : length pulling.sides ≡ 4
+  pub pulled : is_joining handover.role ≡ true → HasPulled pulling
   pub received :
-      IsReceived (HasArrived tablet.handover.role tablet.pulling (scan_items truth)) range (scan_items truth)
+      IsReceived (HasArrived handover.role pulling (scan_items truth)) range (scan_items truth)
       (items_of (entries_from range from (applied_entries written)))
-      (copied_items tablet.handover.role tablet.pulling written.sides) records
+      (copied_items handover.role pulling written.sides) records
   -- each of its own versions is above each of the source's
   pub above :
       All (λ own. All (λ other. other.version < own.version) (items_of material))
@@ -136,10 +141,10 @@ pub record IsTarget (range : Range) (source : ℕ) (truth material : List Entry)
   -- its log has what the source told, before its closing entry
   pub told :
       IfSome handed
-      (λ h. Contains (drop from (before_closing (joined_place tablet.handover.role) written.entries)) (beginning_of tablet h))
+      (λ h. Contains (drop from (before_closing (joined_place handover.role) written.entries)) (beginning_of handover h))
   -- what it had not applied before its place is of other ranges
   pub early : list_any (touches range) (drop written.applied (take from written.entries)) ≡ false
-  pub closing : HasClosing (joined_place tablet.handover.role) (joined_entry tablet) range from written.entries
+  pub closing : HasClosing (joined_place handover.role) (closing_joined handover pulling.sealed) range from written.entries
 
 -- whether a target has been granted its tablet, and has not begun to rebuild it
 abbrev pub is_granted : Role → Bool
@@ -148,23 +153,23 @@ is_granted (roles.Joining entry) = true
 is_granted _ = false
 
 -- what the coordinator has noted of a tablet that moves is what the frozen source has
-abbrev pub IsHandedBy : Option Handed → Tablet → Type 0
-IsHandedBy handed source = handed ≡ Some (record { floor = source.handover.counter; ends = ends_of source.completions })
+abbrev pub IsHandedBy : Option Handed → Handover → Completions → Type 0
+IsHandedBy handed handover completions = handed ≡ Some (record { floor = handover.counter; ends = ends_of completions })
 
 -- what holds of the two members of a lineage, where the second one was granted the tablet
-abbrev pub MembersFit : Row → (ℕ → Written) → (ℕ → ℕ → Tablet) → (ℕ → List Held) → NumberMap Handed → List Member → Type 0
-MembersFit row written tablets records handed (source ∷ target ∷ []) =
-    is_granted (tablets target.master row.tablet).handover.role ≡ true
+abbrev pub MembersFit : Row → (ℕ → Written) → (ℕ → ℕ → Handover) → (ℕ → ℕ → Pulling) → (ℕ → List Held) → NumberMap Handed → List Member → Type 0
+MembersFit row written handovers pullings records handed (source ∷ target ∷ []) =
+    is_granted (handovers target.master row.tablet).role ≡ true
     → IsTarget row.range source.master (member_truth written row.range source) (member_material written row.range source)
-    target.from (written target.master) (tablets target.master row.tablet) (get handed row.tablet) (records target.master)
-MembersFit row written tablets records handed _ = ⊤
+    target.from (written target.master) (handovers target.master row.tablet) (pullings target.master row.tablet) (get handed row.tablet) (records target.master)
+MembersFit row written handovers pullings records handed _ = ⊤
 
 -- what the coordinator has noted, while source and target have one term
-abbrev pub HandedFits : Row → (ℕ → ℕ → Tablet) → NumberMap Handed → List Member → Type 0
-HandedFits row tablets handed (source ∷ target ∷ []) =
-    (tablets target.master row.tablet).handover.term ≡ (tablets source.master row.tablet).handover.term
-    → IsHandedBy (get handed row.tablet) (tablets source.master row.tablet)
-HandedFits row tablets handed _ = ⊤
+abbrev pub HandedFits : Row → (ℕ → ℕ → Handover) → (ℕ → ℕ → Completions) → NumberMap Handed → List Member → Type 0
+HandedFits row handovers completions handed (source ∷ target ∷ []) =
+    (handovers target.master row.tablet).term ≡ (handovers source.master row.tablet).term
+    → IsHandedBy (get handed row.tablet) (handovers source.master row.tablet) (completions source.master row.tablet)
+HandedFits row handovers completions handed _ = ⊤
 
 -- a master that made ready for a tablet has nothing of it: its entries begin at this place, and none stands there, nor in its table
 pub record IsBare (range : Range) (from : ℕ) (written : Written) (records : List Held) : Type 0 where
@@ -177,10 +182,10 @@ abbrev pub wanted_place : Role → Option ℕ
 wanted_place (roles.Wanting from) = Some from
 wanted_place role = None
 
-pub record Receives (rows : List Row) (written : ℕ → Written) (tablets : ℕ → ℕ → Tablet) (records : ℕ → List Held) (handed : NumberMap Handed) : Type 0 where
-  pub targets : All (λ row. MembersFit row written tablets records handed (lineage_of row.phase)) rows
-  pub handed_on : All (λ row. HandedFits row tablets handed (lineage_of row.phase)) rows
+pub record Receives (rows : List Row) (written : ℕ → Written) (handovers : ℕ → ℕ → Handover) (completions : ℕ → ℕ → Completions) (pullings : ℕ → ℕ → Pulling) (records : ℕ → List Held) (handed : NumberMap Handed) : Type 0 where
+  pub targets : All (λ row. MembersFit row written handovers pullings records handed (lineage_of row.phase)) rows
+  pub handed_on : All (λ row. HandedFits row handovers completions handed (lineage_of row.phase)) rows
   pub bare :
       (master tablet : ℕ)
-      → IfSome (wanted_place (tablets master tablet).handover.role)
-      (λ from. IsBare (tablets master tablet).handover.range from (written master) (records master))
+      → IfSome (wanted_place (handovers master tablet).role)
+      (λ from. IsBare (handovers master tablet).range from (written master) (records master))

@@ -12,6 +12,7 @@ use Rattle.rk_model.specs.History.{IsLegal, live_after}
 use Rattle.rk_model.specs.Merged.{is_mutation}
 use Rattle.rk_entry.specs.declared.entry.Entry.{Entry}
 use Rattle.rk_entry.specs.declared.entry.Entry.TheVariants as entries
+use Rattle.rk_transfer.specs.declared.handover.Handover.{Handover}
 use Rattle.rk_tablet_map.specs.Phase.{lineage_of}
 use Rattle.rk_tablet_map.specs.declared.row.Row.{Row}
 use Rattle.rk_overlay.specs.Live.{live as live_items}
@@ -21,7 +22,6 @@ use Rattle.rk_world.specs.Marks.{is_marked}
 use Rattle.rk_world.specs.Material.{joined_from}
 use Rattle.rk_world.specs.Lineage.{last_of}
 use Rattle.rk_world.specs.Base.{Base, base_map}
-use Rattle.rk_world.specs.Tablet.{Tablet}
 use Rattle.rk_world.specs.RoleTests.{is_idle, may_have_staged}
 use Rattle.rk_world.specs.Master.{touches}
 use Rattle.rk_world.specs.Journal.{has_record}
@@ -122,7 +122,7 @@ is_call_entry _ = false
 
 -- a call that waits for the entry at a place: the entry is its own and not applied, a tablet has it that may stage, and
 -- the row of its key ends its lineage with this master
-pub record Waits (rows : List Row) (tablets : ℕ → Tablet) (written : Written) (master place : ℕ) (call : Call) : Type 0 where
+pub record Waits (rows : List Row) (handovers : ℕ → Handover) (written : Written) (master place : ℕ) (call : Call) : Type 0 where
   pub behind : written.applied ≤ place
   pub entry : Entry
   pub stands : slice_get written.entries place ≡ Some entry
@@ -134,7 +134,7 @@ pub record Waits (rows : List Row) (tablets : ℕ → Tablet) (written : Written
   pub last : Member
   pub is_last : last_of (lineage_of row.phase) ≡ Some last
   pub here : last.master ≡ master
-  pub may_stage : may_have_staged (tablets row.tablet).handover.role ≡ true
+  pub may_stage : may_have_staged (handovers row.tablet).role ≡ true
 
 -- the entry at a place has its call
 pub record HasCall (calls : NumberMap Call) (place : ℕ) (entry : Entry) : Type 0 where
@@ -148,20 +148,20 @@ EachHasCall calls written =
     (place : ℕ) (entry : Entry) → written.applied ≤ place → slice_get written.entries place ≡ Some entry
     → is_call_entry entry ≡ true → is_marked written.marks place ≡ false → HasCall calls place entry
 
-pub record Rest (base : Base) (rows : List Row) (truths rests : Row → List Entry) (written : ℕ → Written) (tablets : ℕ → ℕ → Tablet) (calls : ℕ → NumberMap Call) (live : ℕ → Bool) (journal : List Placed) (asked : ℕ → Option LastCall) : Type 0 where
+pub record Rest (base : Base) (rows : List Row) (truths rests : Row → List Entry) (written : ℕ → Written) (handovers : ℕ → ℕ → Handover) (calls : ℕ → NumberMap Call) (live : ℕ → Bool) (journal : List Placed) (asked : ℕ → Option LastCall) : Type 0 where
   pub goes_on : All (λ row. IsRest base row.range (truths row) (rests row) journal asked) rows
   pub done : All (λ row. FirstIsDone written row.range (lineage_of row.phase)) rows
   pub unnamed : All (λ row. OnlyIsUnnamed written row.range (lineage_of row.phase)) rows
   -- a master that is Absent, Frozen or Wanting has nothing of the tablet that is not applied
   pub idle :
       (master : ℕ)
-      → All (λ row. StillCounts (live master) (tablets master row.tablet).handover.term row.term
-      → is_idle (tablets master row.tablet).handover.role ≡ true
+      → All (λ row. StillCounts (live master) (handovers master row.tablet).term row.term
+      → is_idle (handovers master row.tablet).role ≡ true
       → list_any (touches row.range) (drop (written master).applied (written master).entries) ≡ false) rows
   -- the calls that wait at a living master are those whose entries are not applied there
   pub waiting :
       (master : ℕ) → live master ≡ true
-      → EachIn (λ place call. Waits rows (tablets master) (written master) master place call) (calls master)
+      → EachIn (λ place call. Waits rows (handovers master) (written master) master place call) (calls master)
   pub are_last :
       (master : ℕ) → live master ≡ true → EachIn (λ place call. IsLast (asked call.client) call) (calls master)
   pub found : (master : ℕ) → live master ≡ true → EachHasCall (calls master) (written master)

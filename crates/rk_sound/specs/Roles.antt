@@ -8,7 +8,6 @@ use Rattle.rk_tablet_map.specs.declared.phase.Phase.{Phase}
 use Rattle.rk_tablet_map.specs.declared.phase.Phase.TheVariants.{Opening, Moving}
 use Rattle.rk_tablet_map.specs.declared.row.Row.{Row}
 use Rattle.rk_world.specs.Lineage.{is_member}
-use Rattle.rk_world.specs.Tablet.{Tablet}
 use Rattle.rk_world.specs.RoleTests.{is_absent}
 use Rattle.rk_world.specs.Written.{Written}
 use Rattle.rk_sound.specs.Posts.{post_of, bond_of, Holds, StillCounts}
@@ -25,18 +24,18 @@ KeepTerm (Opening source sfrom target (Some dfrom)) terms term = terms target �
 KeepTerm (Moving source sfrom target dfrom) terms term = (terms source ≡ term) × (terms target ≡ term)
 KeepTerm phase terms term = ⊤
 
-pub record Roles (rows : List Row) (tablets : ℕ → ℕ → Tablet) (written : ℕ → Written) (live : ℕ → Bool) : Type 0 where
+pub record Roles (rows : List Row) (handovers : ℕ → ℕ → Handover) (written : ℕ → Written) (live : ℕ → Bool) : Type 0 where
   pub fitting :
       (master : ℕ)
-      → All (λ row. StillCounts (live master) (tablets master row.tablet).handover.term row.term
-      → RoleFits row master (tablets master row.tablet).handover (written master).applied) rows
+      → All (λ row. StillCounts (live master) (handovers master row.tablet).term row.term
+      → RoleFits row master (handovers master row.tablet) (written master).applied) rows
   -- a member of the lineage, while it counts, keeps the row's range
   pub ranged :
       (master : ℕ)
-      → All (λ row. StillCounts (live master) (tablets master row.tablet).handover.term row.term
-      → is_member (lineage_of row.phase) master ≡ true → (tablets master row.tablet).handover.range ≡ row.range) rows
-  pub at_term : All (λ row. KeepTerm row.phase (λ master. (tablets master row.tablet).handover.term) row.term) rows
+      → All (λ row. StillCounts (live master) (handovers master row.tablet).term row.term
+      → is_member (lineage_of row.phase) master ≡ true → (handovers master row.tablet).range ≡ row.range) rows
+  pub at_term : All (λ row. KeepTerm row.phase (λ master. (handovers master row.tablet).term) row.term) rows
   -- each tablet of a living master that is not absent has a row
   pub known :
       (master tablet : ℕ) → live master ≡ true
-      → is_absent (tablets master tablet).handover.role ≡ false → is_some (row_of rows tablet) ≡ true
+      → is_absent (handovers master tablet).role ≡ false → is_some (row_of rows tablet) ≡ true

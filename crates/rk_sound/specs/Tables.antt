@@ -13,7 +13,6 @@ use Rattle.rk_tablet_map.specs.declared.row.Row.{Row}
 use Rattle.rk_overlay.specs.Newest.{newest}
 use Rattle.rk_world.specs.Ends.{items_of}
 use Rattle.rk_world.specs.Lineage.{first_of}
-use Rattle.rk_world.specs.Tablet.{Tablet}
 use Rattle.rk_world.specs.Written.{Written, member_truth}
 use Rattle.rk_sound.specs.Posts.{Post, Owner, OpeningSource, MovingSource, OnlyRebuilder, FirstRebuilder, post_of}
 
@@ -39,10 +38,10 @@ HasItems row written records =
     IfSome (first_of (lineage_of row.phase))
     (λ member. IsTableOf row.range (member_truth written row.range member) records)
 
-pub record Tables (rows : List Row) (written : ℕ → Written) (tablets : ℕ → ℕ → Tablet) (records : ℕ → List Held) (live : ℕ → Bool) : Type 0 where
+pub record Tables (rows : List Row) (written : ℕ → Written) (handovers : ℕ → ℕ → Handover) (records : ℕ → List Held) (live : ℕ → Bool) : Type 0 where
   -- records are in scan order, so no key stands there twice
   pub ordered : (master : ℕ) → IsInScanOrder (records master)
   pub items :
       (master : ℕ) → live master ≡ true
-      → All (λ row. has_all_items (post_of row.phase master) (tablets master row.tablet).handover row.term ≡ true
+      → All (λ row. has_all_items (post_of row.phase master) (handovers master row.tablet) row.term ≡ true
       → HasItems row written (records master)) rows

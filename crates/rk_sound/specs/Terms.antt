@@ -11,7 +11,6 @@ use Rattle.rk_message.specs.declared.handover.Tenure.{Tenure}
 use Rattle.rk_message.specs.declared.message.Body.{Body}
 use Rattle.rk_message.specs.declared.message.Body.TheVariants as bodies
 use Rattle.rk_message.specs.declared.message.Message.{Message}
-use Rattle.rk_world.specs.Tablet.{Tablet}
 use Rattle.rk_world.specs.RoleTests.{is_absent}
 
 -- the tablet and the term that a message speaks of
@@ -60,11 +59,11 @@ pub record SentFits (row : Row) (body : Body) : Type 0 where
   pub below :
       IfSome (tenure_in body) (λ tenure. IfSome (range_in body) (λ range. IsBelowOthers row tenure.tablet tenure.term range))
 
-pub record Terms (rows : List Row) (tablets : ℕ → ℕ → Tablet) (wire : NumberMap Message) : Type 0 where
-  pub handovers : (master tablet : ℕ) → All (λ row. HandoverFits row tablet (tablets master tablet).handover) rows
+pub record Terms (rows : List Row) (handovers : ℕ → ℕ → Handover) (wire : NumberMap Message) : Type 0 where
+  pub kept : (master tablet : ℕ) → All (λ row. HandoverFits row tablet (handovers master tablet)) rows
   -- two tablets of one master that are not absent do not meet
   pub apart :
       (master a b : ℕ) → a ≢ b
-      → is_absent (tablets master a).handover.role ≡ false → is_absent (tablets master b).handover.role ≡ false
-      → meets (tablets master a).handover.range (tablets master b).handover.range ≡ false
+      → is_absent (handovers master a).role ≡ false → is_absent (handovers master b).role ≡ false
+      → meets (handovers master a).range (handovers master b).range ≡ false
   pub sent : EachIn (λ number message. All (λ row. SentFits row message.body) rows) wire

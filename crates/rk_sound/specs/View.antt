@@ -42,7 +42,7 @@ pub record View : Type 0 where
   pub completions : ℕ → ℕ → Completions
   pub pullings : ℕ → ℕ → Pulling
   pub gathers : ℕ → ℕ → Gather
-  pub merged_ends : ℕ → ℕ → List Ended
+  pub merged : ℕ → ℕ → List Ended
   pub stored : ℕ → Segments
   pub live : ℕ → Bool
   pub journal : List Placed
@@ -69,7 +69,7 @@ view w = record {
   completions = λ master tablet. (tablet_in w master tablet).completions;
   pullings = λ master tablet. (tablet_in w master tablet).pulling;
   gathers = λ master tablet. (tablet_in w master tablet).gather;
-  merged_ends = λ master tablet. (tablet_in w master tablet).merged_ends;
+  merged = λ master tablet. (tablet_in w master tablet).merged_ends;
   stored = backup_at w;
   live = lives w;
   journal = w.ledger.journal;
@@ -93,5 +93,5 @@ keeps v master tablet = record {
   completions = v.completions master tablet;
   pulling = v.pullings master tablet;
   gather = v.gathers master tablet;
-  merged_ends = v.merged_ends master tablet;
+  merged_ends = v.merged master tablet;
 }

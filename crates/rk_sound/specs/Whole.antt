@@ -4,7 +4,7 @@ use Rattle.rk_entry.specs.declared.entry.Entry.{Entry}
 use Rattle.rk_tablet_map.specs.declared.row.Row.{Row}
 use Rattle.rk_world.specs.Written.{rest_of}
 use Rattle.rk_world.specs.World.{World, written_in, standing, bytes_of_logs}
-use Rattle.rk_sound.specs.View.{View, view, truths, rests, keeps}
+use Rattle.rk_sound.specs.View.{View, view, truths, rests}
 use Rattle.rk_sound.specs.Nodes.{Nodes}
 use Rattle.rk_sound.specs.Rows.{Rows}
 use Rattle.rk_sound.specs.Terms.{Terms}
@@ -36,13 +36,13 @@ abbrev pub RowsOf : View → Type 0
 RowsOf v = Rows v.rows v.written v.journal
 
 abbrev pub TermsOf : View → Type 0
-TermsOf v = Terms v.rows (keeps v) v.wire
+TermsOf v = Terms v.rows v.handovers v.wire
 
 abbrev pub CoverOf : View → Type 0
-CoverOf v = Cover v.rows v.written (keeps v) v.records v.wire
+CoverOf v = Cover v.rows v.written v.handovers v.records v.wire
 
 abbrev pub RolesOf : View → Type 0
-RolesOf v = Roles v.rows (keeps v) v.written v.live
+RolesOf v = Roles v.rows v.handovers v.written v.live
 
 abbrev pub LogsOf : View → Type 0
 LogsOf v = Logs v.logs v.written v.stored v.wire
@@ -54,25 +54,25 @@ abbrev pub OrderOf : View → (Row → List Entry) → (Row → List Entry) → 
 OrderOf v truths rests = Order v.rows truths rests
 
 abbrev pub CallsOf : View → (Row → List Entry) → (Row → List Entry) → Type 0
-CallsOf v truths rests = Calls v.base v.rows truths rests (keeps v) v.live v.handed v.journal v.wire
+CallsOf v truths rests = Calls v.base v.rows truths rests v.handovers v.completions v.live v.handed v.journal v.wire
 
 abbrev pub CountersOf : View → (Row → List Entry) → (Row → List Entry) → Type 0
-CountersOf v truths rests = Counters v.base v.rows truths rests v.written (keeps v) v.live v.handed v.journal v.wire
+CountersOf v truths rests = Counters v.base v.rows truths rests v.written v.handovers v.live v.handed v.journal v.wire
 
 abbrev pub RestOf : View → (Row → List Entry) → (Row → List Entry) → Type 0
-RestOf v truths rests = Rest v.base v.rows truths rests v.written (keeps v) v.calls v.live v.journal v.asked
+RestOf v truths rests = Rest v.base v.rows truths rests v.written v.handovers v.calls v.live v.journal v.asked
 
 abbrev pub TablesOf : View → Type 0
-TablesOf v = Tables v.rows v.written (keeps v) v.records v.live
+TablesOf v = Tables v.rows v.written v.handovers v.records v.live
 
 abbrev pub ReceivesOf : View → Type 0
-ReceivesOf v = Receives v.rows v.written (keeps v) v.records v.handed
+ReceivesOf v = Receives v.rows v.written v.handovers v.completions v.pullings v.records v.handed
 
 abbrev pub RebuildsOf : View → (Row → List Entry) → Type 0
-RebuildsOf v truths = Rebuilds v.rows truths v.logs v.written v.stored (keeps v) v.records v.live
+RebuildsOf v truths = Rebuilds v.rows truths v.logs v.written v.stored v.handovers v.completions v.gathers v.merged v.records v.live
 
 abbrev pub MessagesOf : View → Type 0
-MessagesOf v = Messages v.rows v.logs v.written v.stored (keeps v) v.live v.handed v.journal v.wire
+MessagesOf v = Messages v.rows v.logs v.written v.stored v.handovers v.completions v.merged v.live v.handed v.journal v.wire
 
 abbrev pub AskedOf : View → Type 0
 AskedOf v = Asked v.lane v.asked v.requests v.journal v.wire

@@ -1,17 +1,15 @@
--- What a staged write leaves of a world: one more entry at the end of a log, one more call that waits, and a counter that rose.
+-- What a staged write leaves of a view: one more entry at the end of a log, one more call that waits, and a counter that rose.
 use Rattle.std.proofs.Common.{◌≡◌, ℕ, suc, ◌≤◌, max, true, false, List, [], ◌∷◌, ◌++◌, length, Option, Some, refl, sym, ap, subst, ◌∙◌, ⊎_elim, arith, All}
 use Rattle.std.specs.List.{Contains, flat_map}
 use Rattle.std.proofs.lemmas.Bool.{cases_eq}
 use Rattle.std.proofs.lemmas.List.{take-append-le}
 use Rattle.std.proofs.lemmas.List.Elements.{All-contains}
-use Rattle.rk_types.specs.NumberMap.{insert}
 use Rattle.rk_types.specs.declared.call.Call.{Call}
 use Rattle.rk_types.specs.declared.held.Held.{Held}
 use Rattle.rk_types.specs.declared.lineage.Member.{Member}
 use Rattle.rk_types.specs.declared.range.Range.{Range}
 use Rattle.rk_entry.specs.declared.entry.Entry.{Entry}
 use Rattle.rk_entry.specs.declared.entry.Entry.TheVariants as entries
-use Rattle.rk_log.specs.Log.{with_entry}
 use Rattle.rk_tablet_map.specs.Phase.{lineage_of}
 use Rattle.rk_tablet_map.specs.declared.row.Row.{Row}
 use Rattle.rk_world.specs.Ranges.{has_key}
@@ -19,16 +17,15 @@ use Rattle.rk_world.specs.Marks.{unmarked_from}
 use Rattle.rk_world.specs.Material.{counting, log_material}
 use Rattle.rk_world.specs.Lineage.{last_of}
 use Rattle.rk_world.specs.Base.{Base, base_entries}
-use Rattle.rk_world.specs.Master.{Master}
-use Rattle.rk_world.specs.Requests.{item_of, counted_up}
-use Rattle.rk_world.specs.Ledger.{marks_of}
-use Rattle.rk_world.specs.Written.{Written, written_by, applied_entries, member_truth, member_rest, member_material, lineage_truth, lineage_rest, truth_of, rest_of}
-use Rattle.rk_world.specs.World.{World, master_at, tablet_in, written_in, log_in, records_in, calls_in}
+use Rattle.rk_world.specs.Requests.{item_of}
+use Rattle.rk_world.specs.Written.{Written, applied_entries, member_truth, member_rest, member_material, lineage_truth, lineage_rest, truth_of}
+use Rattle.rk_sound.specs.View.{View, truths, rests}
 use Rattle.rk_sound.specs.Rows.{IsPlaced}
-use Rattle.rk_sound.specs.Whole.{IsSound}
-use Rattle.rk_sound.specs.Small.{write_staged_in, MayStage}
-use Rattle.rk_laws_parts.proofs.Masters.{master_same, master_other, same_of_each, same_of_all, tablet_here, tablet_apart, keeps_with}
-use Rattle.rk_laws_parts.proofs.Changing.{DiffersAt, KeepsNow, Lane, Stages, with_one_more}
+use Rattle.rk_sound.specs.Whole.{SoundView}
+use Rattle.rk_sound.specs.Changes.{MayStage}
+use Rattle.rk_sound.specs.Small.{staged, with_one_more}
+use Rattle.rk_laws_parts.proofs.Put.{put_here, put_other, put2_here, put2_other}
+use Rattle.rk_laws_parts.proofs.Changing.{DiffersAt, Lane, Stages}
 use Rattle.rk_laws_parts.proofs.Shares.{material_outside, rest_outside, rest_inside}
 use Rattle.rk_laws_parts.proofs.Apart.{same_number, in_one_row}
 use Rattle.rk_laws_parts.proofs.Applied.{applied_within}
@@ -101,42 +98,6 @@ module _ (written written' : ℕ → Written) (master : ℕ) (item : Held) (diff
       (λ j range member. truth_staged within range member j)
       ∙ sym (truth_is base written row.range (lineage_of row.phase))) i
 
--- ---- the world
-
-module _ (w : World) (master number : ℕ) (call : Call) (value : Option (List ℕ)) where
-  pub records_staged : ◌≡◌ {A = ℕ → List Held} (records_in (write_staged_in w master number call value)) (records_in w)
-  records_staged = same_of_all (λ q m. m.records) w master _ refl
-
-  pub numbers_staged : (q : ℕ) → (master_at (write_staged_in w master number call value) q).number ≡ (master_at w q).number
-  numbers_staged q = same_of_each (λ q m. m.number) w master _ refl q
-
-  pub known_staged : (q : ℕ) → (master_at (write_staged_in w master number call value) q).log.known ≡ (master_at w q).log.known
-  known_staged q = same_of_each (λ q m. m.log.known) w master _ refl q
-
-  logs_staged : DiffersAt master (with_entry (log_in w master) (entries.Held (item_of call (tablet_in w master number).handover.counter value))) (log_in w) (log_in (write_staged_in w master number call value))
-  logs_staged = record {
-    here = ap (λ (m : Master). m.log) (master_same w master _ master refl);
-    others = λ q apart. ap (λ (m : Master). m.log) (master_other w master _ q apart);
-  }
-
-  pub written_staged : DiffersAt master (with_one_more (written_in w master) (entries.Held (item_of call (tablet_in w master number).handover.counter value))) (written_in w) (written_in (write_staged_in w master number call value))
-  written_staged = record {
-    here = ap (λ (m : Master). written_by m (marks_of w.ledger master)) (master_same w master _ master refl);
-    others = λ q apart. ap (λ (m : Master). written_by m (marks_of w.ledger q)) (master_other w master _ q apart);
-  }
-
-  calls_staged : DiffersAt master (insert (calls_in w master) (length (written_in w master).entries) call) (calls_in w) (calls_in (write_staged_in w master number call value))
-  calls_staged = record {
-    here = ap (λ (m : Master). m.calls) (master_same w master _ master refl);
-    others = λ q apart. ap (λ (m : Master). m.calls) (master_other w master _ q apart);
-  }
-
-  keeps_staged : KeepsNow master number (counted_up (tablet_in w master number)) (tablet_in w) (tablet_in (write_staged_in w master number call value))
-  keeps_staged =
-      keeps_with w master number _ (counted_up (tablet_in w master number))
-      (tablet_here (master_at w master) number (counted_up (tablet_in w master number)))
-      (tablet_apart (master_at w master) number (counted_up (tablet_in w master number)))
-
 -- the last member is one of the lineage
 last_stands : (members : List Member) (last : Member) → last_of members ≡ Some last → Contains members last
 last_stands [] last is = absurd (cc)
@@ -144,53 +105,77 @@ last_stands (member ∷ []) last is = let same : member ≡ last = cc in (0, ome
 last_stands (member ∷ next ∷ more) last is =
     let rest = last_stands (next ∷ more) last is in (suc rest.0, omega (arith, rest.1), rest.2)
 
--- what a staged write may change of a world
-abbrev pub lane_of : World → Lane
-lane_of w = record {
-  logs = log_in w;
-  written = written_in w;
-  tablets = tablet_in w;
-  calls = calls_in w;
-  rests = rest_of (written_in w);
+-- what a staged write may change of a view
+abbrev pub lane_of : View → Lane
+lane_of v = record {
+  logs = v.logs;
+  written = v.written;
+  handovers = v.handovers;
+  calls = v.calls;
+  rests = rests v;
 }
 
--- a write that may be staged is staged so
-pub stages : (w : World) (master : ℕ) (call : Call) (value : Option (List ℕ)) → IsSound w → (may : MayStage w master call value) → Stages w.coordinator.rows (lane_of w) (lane_of (write_staged_in w master may.served.row.tablet call value)) master may.served.row call (item_of call (tablet_in w master may.served.row.tablet).handover.counter value)
-stages w master call value sound may =
-    let served = may.served in
-    let row = served.row in
-    let item = item_of call (tablet_in w master row.tablet).handover.counter value in
-    let differ = written_staged w master row.tablet call value in
-    let log = sound.logs.each master in
-    let within = applied_within (log_in w master) (written_in w master) _ log in
-    let outside : (other : Row) → Contains w.coordinator.rows other → (other.tablet ≡ row.tablet → ⊥) → has_key other.range item.table item.key ≡ false =
-    λ other stands apart. in_one_row w.coordinator.rows row other call.table call.key sound.rows.apart served.has_row stands apart served.in_row in
-    let placed : max served.last.from (written_in w master).applied ≤ length (written_in w master).entries =
-    let at = All-contains (IsPlaced (written_in w)) (lineage_of row.phase) served.last (All-contains (λ r. All (IsPlaced (written_in w)) (lineage_of r.phase)) w.coordinator.rows row sound.rows.placed served.has_row) (last_stands (lineage_of row.phase) served.last served.is_last) in
-    let here : served.last.from ≤ length (written_in w master).entries = subst (λ (n : ℕ). served.last.from ≤ length (written_in w n).entries) served.here at in
-    omega (arith, here, within) in
-    record {
-      has_row = served.has_row;
-      same_row = λ other stands same. same_number w.coordinator.rows other row sound.rows.apart stands served.has_row same;
-      inside = served.in_row;
-      outside = outside;
-      version = refl;
-      logs_differ = logs_staged w master row.tablet call value;
-      written_differ = differ;
-      calls_differ = calls_staged w master row.tablet call value;
-      keeps_differ = keeps_staged w master row.tablet call value;
-      rest_here = lineage_rest_grown _ _ master item differ row.range (lineage_of row.phase) served.last served.is_last served.here served.in_row log.marked placed;
-      rest_others = λ other stands apart. lineage_rest_staged _ _ master item differ other.range (lineage_of other.phase) (outside other stands apart);
-      truth_same = truth_staged _ _ master item differ within;
-      rest_same = rest_staged _ _ master item differ;
-      material_same = material_staged _ _ master item differ;
-    }
+module _ (v : View) (master : ℕ) (call : Call) (value : Option (List ℕ)) (sound : SoundView v) (may : MayStage v master call value) where
+  -- the view with the write
+  abbrev now : View
+  now = staged v master may.served.row.tablet call value
 
--- so the truth of every row is as before
-pub truths_same : (w : World) (master : ℕ) (call : Call) (value : Option (List ℕ)) → IsSound w → (may : MayStage w master call value) → ◌≡◌ {A = Row → List Entry} (truth_of w.base (written_in (write_staged_in w master may.served.row.tablet call value))) (truth_of w.base (written_in w))
-truths_same w master call value sound may =
-    let log = sound.logs.each master in
-    truths_staged (written_in w) (written_in (write_staged_in w master may.served.row.tablet call value)) master
-    (item_of call (tablet_in w master may.served.row.tablet).handover.counter value)
-    (written_staged w master may.served.row.tablet call value)
-    (applied_within (log_in w master) (written_in w master) _ log) w.base
+  -- the item that it leaves
+  abbrev item : Held
+  item = item_of call (v.handovers master may.served.row.tablet).counter value
+
+  -- what is applied stands in the log
+  within : (v.written master).applied ≤ length (v.written master).entries
+  within = applied_within (v.logs master) (v.written master) _ (sound.logs.each master)
+
+  written_differ : DiffersAt master (with_one_more (v.written master) (entries.Held item)) v.written now.written
+  written_differ = record { here = put_here v.written master _ master refl; others = put_other v.written master _ }
+
+  -- its member's place is one of its log
+  placed : max may.served.last.from (v.written master).applied ≤ length (v.written master).entries
+  placed =
+      let served = may.served in
+      let at =
+      All-contains (IsPlaced v.written) (lineage_of served.row.phase) served.last
+      (All-contains (λ r. All (IsPlaced v.written) (lineage_of r.phase)) v.rows served.row sound.rows.placed served.has_row)
+      (last_stands (lineage_of served.row.phase) served.last served.is_last) in
+      let here : served.last.from ≤ length (v.written master).entries =
+      subst (λ (n : ℕ). served.last.from ≤ length (v.written n).entries) served.here at in
+      omega (arith, here, within)
+
+  -- no other row has the item
+  outside : (other : Row) → Contains v.rows other → (other.tablet ≡ may.served.row.tablet → ⊥) → has_key other.range item.table item.key ≡ false
+  outside other stands apart =
+      in_one_row v.rows may.served.row other call.table call.key sound.rows.apart may.served.has_row stands apart may.served.in_row
+
+  -- a write that may be staged is staged so
+  pub stages : Stages v.rows (lane_of v) (lane_of now) master may.served.row call item
+  stages =
+      let served = may.served in
+      let log = sound.logs.each master in
+      record {
+        has_row = served.has_row;
+        same_row = λ other stands same. same_number v.rows other served.row sound.rows.apart stands served.has_row same;
+        inside = served.in_row;
+        outside = outside;
+        version = refl;
+        logs_differ = record { here = put_here v.logs master _ master refl; others = put_other v.logs master _ };
+        written_differ = written_differ;
+        calls_differ = record { here = put_here v.calls master _ master refl; others = put_other v.calls master _ };
+        keeps_differ = record {
+          here = put2_here v.handovers master served.row.tablet _ master served.row.tablet refl refl;
+          others = put2_other v.handovers master served.row.tablet _;
+        };
+        rest_here =
+            lineage_rest_grown _ _ master item written_differ served.row.range (lineage_of served.row.phase) served.last served.is_last
+            served.here served.in_row log.marked placed;
+        rest_others = λ other stands apart.
+            lineage_rest_staged _ _ master item written_differ other.range (lineage_of other.phase) (outside other stands apart);
+        truth_same = truth_staged _ _ master item written_differ within;
+        rest_same = rest_staged _ _ master item written_differ;
+        material_same = material_staged _ _ master item written_differ;
+      }
+
+  -- so the truth of every row is as before
+  pub truths_same : ◌≡◌ {A = Row → List Entry} (truths now) (truths v)
+  truths_same = truths_staged v.written now.written master item written_differ within v.base
