@@ -47,6 +47,7 @@ pub mod Come
 pub mod Saved
 pub mod Frozen
 pub mod WriteStaged
+pub mod PullingChanges
 pub mod SmallWorld
 pub mod SmallWorldLooks
 pub mod SmallWorldMap

@@ -29,6 +29,7 @@ use Rattle.rk_world.specs.Ends.{items_of}
 use Rattle.rk_world.specs.Material.{as_entries}
 use Rattle.rk_world.specs.Lineage.{is_member}
 use Rattle.rk_world.specs.Gather.{next_reading, is_awaited}
+use Rattle.rk_world.specs.Tablet.{Pulling}
 use Rattle.rk_world.specs.RoleTests.{is_gathering}
 use Rattle.rk_world.specs.SideLogs.{sealed_sides}
 use Rattle.rk_world.specs.Master.{touches}
@@ -38,7 +39,7 @@ use Rattle.rk_world.specs.Premises.{IsMaster}
 use Rattle.rk_sound.specs.View.{View}
 use Rattle.rk_sound.specs.Cover.{IsWithinRows}
 use Rattle.rk_sound.specs.Posts.{InvitedTarget, post_of}
-use Rattle.rk_sound.specs.Receives.{scan_items, IsOutdone, IsFound, entries_from, copied_items}
+use Rattle.rk_sound.specs.Receives.{is_joining, HasPulled, HasArrived, scan_items, IsOutdone, IsFound, entries_from, copied_items}
 use Rattle.rk_sound.specs.Logs.{stored_of}
 use Rattle.rk_sound.specs.Rebuilds.{IsReadPart, READ_BACKUP}
 use Rattle.rk_sound.specs.Messages.{HasJoined, HasRebuilt, MayFollowClose, IsOwner}
@@ -112,26 +113,45 @@ pub record MayReplay (v : View) (row : Row) (source target : Member) (worker : �
   pub worker_is : worker < 4
   pub of_source : Contains (source_items v row source) item
 
--- items of a source have arrived at a target: they are copied or outdone, and found in its records
-pub record HaveArrived (items own sides records : List Held) : Type 0 where
-  pub copied : (item : Held) → Contains items item → Contains sides item ⊎ IsOutdone own item
-  pub found : (item : Held) → Contains items item → IsFound records item
+-- an item is copied at a target of a row or outdone, and found in its records
+pub record IsThere (v : View) (row : Row) (target : Member) (item : Held) : Type 0 where
+  pub copied :
+      Contains
+      (copied_items (v.handovers target.master row.tablet).role (v.pullings target.master row.tablet) (v.written target.master).sides)
+      item
+      ⊎ IsOutdone (items_of (entries_from row.range target.from (applied_entries (v.written target.master)))) item
+  pub found : IsFound (v.records target.master) item
 
--- items of the source of a row have arrived at its target, which pulls
-abbrev pub HaveArrivedAt : View → Row → Member → List Held → Type 0
-HaveArrivedAt v row target items =
-    HaveArrived items (items_of (entries_from row.range target.from (applied_entries (v.written target.master))))
-    (copied_items roles.Receiving (v.pullings target.master row.tablet) (v.written target.master).sides) (v.records target.master)
+-- items of the source of a row have arrived at its target
+abbrev pub HaveArrived : View → Row → Member → List Held → Type 0
+HaveArrived v row target items = (item : Held) → Contains items item → IsThere v row target item
+
+-- what a target of a row pulls goes on: each item of the source that counts as arrived did so before, or is copied or outdone, and
+-- found in the records; a target that has pulled all stays at the end
+pub record GoesOn (v : View) (row : Row) (source target : Member) (new : Pulling) : Type 0 where
+  pub at_end : is_joining (v.handovers target.master row.tablet).role ≡ true → HasPulled (v.pullings target.master row.tablet) → new.token ≡ end
+  pub arrived :
+      (item : Held) → Contains (source_items v row source) item
+      → HasArrived (v.handovers target.master row.tablet).role new (source_items v row source) item
+      → HasArrived (v.handovers target.master row.tablet).role (v.pullings target.master row.tablet) (source_items v row source) item
+      ⊎ IsThere v row target item
+
+-- what is pulled of a tablet may go on at a master, where it does so for each row whose target the master is
+abbrev pub MayGoOn : View → ℕ → ℕ → (Pulling → Pulling) → Type 0
+MayGoOn v master tablet change =
+    (row : Row) (source target : Member) → Contains v.rows row → target.master ≡ master → row.tablet ≡ tablet
+    → lineage_of row.phase ≡ source ∷ target ∷ []
+    → GoesOn v row source target (change (v.pullings target.master row.tablet))
 
 -- a target may pass on to a token where all items that the token has passed have arrived
 pub record MayPass (v : View) (row : Row) (source target : Member) (next : Token) : Type 0 where
   pub pulling : IsPulling v row source target
-  pub arrived : HaveArrivedAt v row target (passed next (source_items v row source))
+  pub arrived : HaveArrived v row target (passed next (source_items v row source))
 
 -- hashes may be resolved where all items that have them have arrived
 pub record MayResolve (v : View) (row : Row) (source target : Member) (hashes : List ℕ) : Type 0 where
   pub pulling : IsPulling v row source target
-  pub arrived : HaveArrivedAt v row target (flat_map (λ hash. at_hash hash (source_items v row source)) hashes)
+  pub arrived : HaveArrived v row target (flat_map (λ hash. at_hash hash (source_items v row source)) hashes)
 
 -- the side lists of a tablet may be sealed once all is pulled
 pub record MaySeal (v : View) (master tablet : ℕ) : Type 0 where

@@ -3,16 +3,20 @@
 use Rattle.std.specs.Prelude.{◌==◌, ℕ, ◌+◌, if◌then◌else◌, List, [], ◌∷◌, ◌++◌, length, Option}
 use Rattle.rk_types.specs.NumberMap.{insert, remove}
 use Rattle.rk_types.specs.declared.call.Call.{Call}
+use Rattle.rk_types.specs.declared.held.Token.{Token}
 use Rattle.rk_entry.specs.declared.entry.Entry.{Entry}
 use Rattle.rk_entry.specs.declared.entry.Entry.TheVariants as entries
 use Rattle.rk_log.specs.Log.{with_entry}
 use Rattle.rk_transfer.specs.declared.handover.Handover.{Handover}
 use Rattle.rk_transfer.specs.declared.role.Role.TheVariants as roles
+use Rattle.rk_priority.specs.Hashes.{Hashes, batched, got, wanting}
 use Rattle.rk_message.specs.Wire.{without_message, with_message}
 use Rattle.rk_message.specs.declared.message.Message.{Message}
-use Rattle.rk_world.specs.Tablet.{with_handover}
+use Rattle.rk_world.specs.Tablet.{Pulling, with_handover}
 use Rattle.rk_world.specs.Master.{with_tablet}
-use Rattle.rk_world.specs.Requests.{item_of, write_staged}
+use Rattle.rk_world.specs.Requests.{hash_wanted, item_of, write_staged}
+use Rattle.rk_world.specs.Pulls.{hashes_resolved, token_passed}
+use Rattle.rk_world.specs.MasterTurn.{batch_asked}
 use Rattle.rk_world.specs.Ledger.{with_client, with_request}
 use Rattle.rk_world.specs.Written.{Written}
 use Rattle.rk_world.specs.World.{World, master_at, tablet_in, with_master, with_ledger, with_wire}
@@ -87,3 +91,43 @@ abbrev pub tablet_frozen_in : World → ℕ → ℕ → World
 tablet_frozen_in w master tablet =
     let kept = tablet_in w master tablet in
     with_master w master (with_tablet (master_at w master) tablet (with_handover kept (as_frozen kept.handover)))
+
+-- ---- what a tablet pulls
+
+-- what is pulled, where the token, the count of batches and the hashes go on
+abbrev pub gone_on : (Pulling → Token) → (Pulling → ℕ) → (Pulling → Hashes) → Pulling → Pulling
+gone_on token batches hashes pulling =
+    record pulling { token = token pulling; batches = batches pulling; hashes = hashes pulling }
+
+-- what is pulled of a tablet changes at a master
+abbrev pub pulled : View → ℕ → ℕ → (Pulling → Pulling) → View
+pulled v master tablet change =
+    record v { pullings = put2 v.pullings master tablet (change (v.pullings master tablet)) }
+
+-- a hash is wanted first
+abbrev pub wanting_hash : ℕ → Pulling → Pulling
+wanting_hash hash = gone_on (λ p. p.token) (λ p. p.batches) (λ p. wanting p.hashes hash)
+
+abbrev pub hash_wanted_in : World → ℕ → ℕ → ℕ → World
+hash_wanted_in w master tablet hash = with_master w master (hash_wanted (master_at w master) tablet hash)
+
+-- a batch of the wanted hashes is asked for
+abbrev pub asking_batch : Pulling → Pulling
+asking_batch = gone_on (λ p. p.token) (λ p. p.batches) (λ p. batched p.hashes)
+
+abbrev pub batch_asked_in : World → ℕ → ℕ → World
+batch_asked_in w master tablet = with_master w master (batch_asked (master_at w master) tablet (tablet_in w master tablet))
+
+-- the hashes that were asked for have come
+abbrev pub resolving : List ℕ → Pulling → Pulling
+resolving hashes = gone_on (λ p. p.token) (λ p. p.batches) (λ p. got p.hashes hashes)
+
+abbrev pub hashes_resolved_in : World → ℕ → ℕ → List ℕ → World
+hashes_resolved_in w master tablet hashes = with_master w master (hashes_resolved (master_at w master) tablet hashes)
+
+-- a target passes on to a token
+abbrev pub passing : Token → Pulling → Pulling
+passing next = gone_on (λ p. next) (λ p. p.batches + 1) (λ p. p.hashes)
+
+abbrev pub token_passed_in : World → ℕ → ℕ → Token → World
+token_passed_in w master tablet next = with_master w master (token_passed (master_at w master) tablet next)
