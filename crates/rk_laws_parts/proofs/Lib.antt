@@ -48,6 +48,9 @@ pub mod Saved
 pub mod Frozen
 pub mod WriteStaged
 pub mod PullingChanges
+pub mod HashWanted
+pub mod HashesResolved
+pub mod TokenPassed
 pub mod SmallWorld
 pub mod SmallWorldLooks
 pub mod SmallWorldMap

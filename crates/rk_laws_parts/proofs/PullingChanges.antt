@@ -1,6 +1,6 @@
 -- A view stays sound when what is pulled of a tablet goes on: no more of the source's items count as arrived than have arrived. The
 -- token, the count of batches and the hashes may change; the items that were pulled stay.
-use Rattle.std.proofs.Common.{◌≡◌, ℕ, true, List, [], ◌∷◌, sym, subst, refl, ⊎_elim, ◌⊎◌, inl, inr}
+use Rattle.std.proofs.Common.{◌≡◌, ℕ, true, List, [], ◌∷◌, sym, ap, ◌∙◌, subst, refl, ⊎_elim, ◌⊎◌, inl, inr}
 use Rattle.std.specs.Prelude.{slice_index_or}
 use Rattle.std.specs.List.{Contains}
 use Rattle.std.proofs.lemmas.List.Elements.{Contains-get_or}
@@ -8,17 +8,20 @@ use Rattle.rk_types.specs.NumberMap.{get}
 use Rattle.rk_types.specs.declared.held.Held.{Held}
 use Rattle.rk_types.specs.declared.held.Token.{Token}
 use Rattle.rk_types.specs.declared.lineage.Member.{Member}
+use Rattle.rk_table.specs.Order.{item_hash}
+use Rattle.rk_table.specs.Scans.{passed}
 use Rattle.rk_tablet_map.specs.Phase.{lineage_of}
 use Rattle.rk_tablet_map.specs.declared.row.Row.{Row}
-use Rattle.rk_priority.specs.Hashes.{Hashes}
+use Rattle.rk_priority.specs.Hashes.{Hashes, contains}
 use Rattle.rk_world.specs.Ends.{items_of}
 use Rattle.rk_world.specs.Tablet.{Pulling}
 use Rattle.rk_world.specs.Written.{applied_entries}
 use Rattle.rk_sound.specs.View.{View}
 use Rattle.rk_sound.specs.Receives.{HasArrived, HasCome, IsFound, IsTarget, MembersFit, copied_items, entries_from}
 use Rattle.rk_sound.specs.Whole.{ReceivesOf, SoundView}
-use Rattle.rk_sound.specs.Moves.{GoesOn, MayGoOn, source_items}
+use Rattle.rk_sound.specs.Moves.{GoesOn, IsPulling, MayGoOn, source_items}
 use Rattle.rk_sound.specs.Small.{gone_on, pulled}
+use Rattle.rk_laws_parts.proofs.Apart.{same_number}
 use Rattle.rk_laws_parts.proofs.Put.{put2_by}
 use Rattle.rk_laws_parts.proofs.Receives.{IsTargetIn}
 
@@ -104,3 +107,27 @@ module _ (v : View) (master number : ℕ) (token : Pulling → Token) (batches :
     messages = sound.messages;
     asked = sound.asked;
   }
+
+-- where neither the token changes nor what was resolved, no more counts as arrived
+pub none_arrives : (v : View) (master number : ℕ) (batches : Pulling → ℕ) (hashes : Pulling → Hashes) → ((p : Pulling) → (hashes p).resolved ≡ p.hashes.resolved) → MayGoOn v master number (gone_on (λ p. p.token) batches hashes)
+none_arrives v master number batches hashes same row source target has at its is =
+    let old = v.pullings target.master row.tablet in
+    record {
+      at_end = λ joins had. had.at_end;
+      arrived = λ item stands arrives.
+          inl (λ receives.
+          subst
+          (λ (resolved : List ℕ). Contains (passed old.token (source_items v row source)) item ⊎ (contains resolved (item_hash item) ≡ true))
+          (same old) (arrives receives));
+    }
+
+-- a change that goes on for one row goes on for each, since no other row has the number
+pub of_one_row : (v : View) (row : Row) (source target : Member) (change : Pulling → Pulling) → SoundView v → IsPulling v row source target → GoesOn v row source target (change (v.pullings target.master row.tablet)) → MayGoOn v target.master row.tablet change
+of_one_row v row source target change sound pulls goes other first last has at its is =
+    let same : other ≡ row = same_number v.rows other row sound.rows.apart has pulls.has_row its in
+    let members : source ∷ target ∷ [] ≡ first ∷ last ∷ [] = sym pulls.lineage_is ∙ ap (λ (r : Row). lineage_of r.phase) (sym same) ∙ is in
+    let source_is : source ≡ first = cc in
+    let target_is : target ≡ last = cc in
+    subst (λ (r : Row). GoesOn v r first last (change (v.pullings last.master r.tablet))) (sym same)
+    (subst (λ (m : Member). GoesOn v row m last (change (v.pullings last.master row.tablet))) source_is
+    (subst (λ (m : Member). GoesOn v row source m (change (v.pullings m.master row.tablet))) target_is goes))
