@@ -24,36 +24,10 @@ use Rattle.rk_world.specs.Coordinator.{Handed}
 use Rattle.rk_sound.specs.Posts.{post_of, speaks, StillCounts}
 use Rattle.rk_sound.specs.Handing.{handed_by, handed_for_grant}
 use Rattle.rk_sound.specs.Calls.{Calls, IsKnown, IsStagedEnd, ReachAll}
-use Rattle.rk_laws_parts.proofs.Changing.{Lane, Freezes, Stages}
+use Rattle.rk_laws_parts.proofs.Changing.{Lane, Stages}
 use Rattle.rk_laws_parts.proofs.Differs.{still_counts}
 use Rattle.rk_laws_parts.proofs.Alike.{AreAlike, alike_all, alike_frozen, speaks_alike, handed_for_grant_alike, handed_by_alike}
 use Rattle.rk_laws_parts.proofs.Staged.{staged_alike}
-
--- a message is put on the wire
-pub calls_sent : (base : Base) (rows : List Row) (truths rests : Row → List Entry) (handovers : ℕ → ℕ → Handover) (completions : ℕ → ℕ → Completions) (live : ℕ → Bool) (handed : NumberMap Handed) (journal : List Placed) (wire : NumberMap Message) (number : ℕ) (message : Message) → Calls base rows truths rests handovers completions live handed journal wire → All (λ row. IfSome (handed_by row handovers message.body) (λ h. ReachAll row.range journal h.ends)) rows → Calls base rows truths rests handovers completions live handed journal (insert wire number message)
-calls_sent base rows truths rests handovers completions live handed journal wire number message old ends = record {
-  once = old.once;
-  reached = old.reached;
-  recorded = old.recorded;
-  answering = old.answering;
-  handed_on = old.handed_on;
-  sent =
-      each_insert (λ number message. All (λ row. IfSome (handed_by row handovers message.body) (λ h. ReachAll row.range journal h.ends)) rows) wire number message
-      old.sent ends;
-  known = old.known;
-}
-
--- fewer messages are on the wire
-pub calls_forgotten : (base : Base) (rows : List Row) (truths rests : Row → List Entry) (handovers : ℕ → ℕ → Handover) (completions : ℕ → ℕ → Completions) (live : ℕ → Bool) (handed : NumberMap Handed) (journal : List Placed) (wire less : NumberMap Message) → Calls base rows truths rests handovers completions live handed journal wire → HasNoMore less wire → Calls base rows truths rests handovers completions live handed journal less
-calls_forgotten base rows truths rests handovers completions live handed journal wire less old no_more = record {
-  once = old.once;
-  reached = old.reached;
-  recorded = old.recorded;
-  answering = old.answering;
-  handed_on = old.handed_on;
-  sent = λ n m found. old.sent n m (no_more n m found);
-  known = old.known;
-}
 
 -- tablets become others that answer alike
 pub calls_alike : (base : Base) (rows : List Row) (truths rests : Row → List Entry) (handovers now : ℕ → ℕ → Handover) (completions : ℕ → ℕ → Completions) (live : ℕ → Bool) (handed : NumberMap Handed) (journal : List Placed) (wire : NumberMap Message) → Calls base rows truths rests handovers completions live handed journal wire → AreAlike handovers now → Calls base rows truths rests now completions live handed journal wire
@@ -97,12 +71,6 @@ calls_alike base rows truths rests handovers now completions live handed journal
       (λ (term : ℕ). All (λ end. IsKnown base journal end ⊎ IsStagedEnd rows rests master tablet term end) (ends_of (completions master tablet)))
       (sym (alike master tablet).same_term) (old.known master tablet lives);
 }
-
--- a tablet freezes
-pub calls_frozen : (base : Base) (rows : List Row) (truths rests : Row → List Entry) (handovers now : ℕ → ℕ → Handover) (completions : ℕ → ℕ → Completions) (live : ℕ → Bool) (handed : NumberMap Handed) (journal : List Placed) (wire : NumberMap Message) (master number : ℕ) → Calls base rows truths rests handovers completions live handed journal wire → (handovers master number).role ≡ roles.Closing → Freezes master number handovers now → Calls base rows truths rests now completions live handed journal wire
-calls_frozen base rows truths rests handovers now completions live handed journal wire master number old closing freezes =
-    calls_alike base rows truths rests handovers now completions live handed journal wire old
-    (alike_all master number _ handovers now freezes (alike_frozen (handovers master number) closing))
 
 -- what stands behind the truths tells what it told, and more
 pub calls_more : (base : Base) (rows : List Row) (truths : Row → List Entry) (rests now : Row → List Entry) (handovers : ℕ → ℕ → Handover) (completions : ℕ → ℕ → Completions) (live : ℕ → Bool) (handed : NumberMap Handed) (journal : List Placed) (wire : NumberMap Message) → Calls base rows truths rests handovers completions live handed journal wire

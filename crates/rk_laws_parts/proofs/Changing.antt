@@ -25,10 +25,6 @@ pub record KeepsNow (master number : ℕ) (handover : Handover) (old new : ℕ �
   pub here : new master number ≡ handover
   pub others : (q r : ℕ) → (q ≡ master → r ≡ number → ⊥) → new q r ≡ old q r
 
--- a tablet froze at a master
-abbrev pub Freezes : ℕ → ℕ → (ℕ → ℕ → Handover) → (ℕ → ℕ → Handover) → Type 0
-Freezes master number handovers now = KeepsNow master number (as_frozen (handovers master number)) handovers now
-
 -- what a staged write changes of a lane: the logs of its masters, what they have written and keep, the calls that wait there, and
 -- the rests of rows
 pub record Lane : Type 0 where

@@ -22,15 +22,17 @@ use Rattle.rk_message.specs.declared.message.Message.{Message}
 use Rattle.rk_world.specs.Base.{Base}
 use Rattle.rk_world.specs.Coordinator.{Handed}
 use Rattle.rk_world.specs.Written.{Written}
+use Rattle.rk_sound.specs.View.{View, truths, rests}
 use Rattle.rk_sound.specs.Rows.{Rows, IsFormed}
 use Rattle.rk_sound.specs.Posts.{post_of, speaks, StillCounts}
 use Rattle.rk_sound.specs.Roles.{Roles, RoleFits}
 use Rattle.rk_sound.specs.Handing.{handed_by, handed_for_grant}
 use Rattle.rk_sound.specs.Counters.{Counters, IsFloor, IsNext}
 use Rattle.rk_sound.specs.Messages.{Messages, SaysOf}
+use Rattle.rk_sound.specs.Whole.{CountersOf}
 use Rattle.rk_sound.specs.Changes.{IsServed}
 use Rattle.rk_sound.specs.Small.{with_one_more}
-use Rattle.rk_laws_parts.proofs.Changing.{Lane, Freezes, Stages}
+use Rattle.rk_laws_parts.proofs.Changing.{Lane, Stages}
 use Rattle.rk_laws_parts.proofs.Differs.{keeps_each, still_counts}
 use Rattle.rk_laws_parts.proofs.Lists.{all_in}
 use Rattle.rk_laws_parts.proofs.Alike.{AreAlike, alike_all, alike_frozen, speaks_alike, handed_for_grant_alike, handed_by_alike}
@@ -38,64 +40,37 @@ use Rattle.rk_laws_parts.proofs.Speakers.{speaker_of, speaker_is, none_waits, no
 use Rattle.rk_laws_parts.proofs.Staged.{Serves, serves_row, staged_alike, staged_speaker}
 use Rattle.rk_laws_parts.proofs.Nexts.{next_of_all, floor_of_all, next_push}
 
--- a message is put on the wire
-pub counters_sent : (base : Base) (rows : List Row) (truths rests : Row → List Entry) (written : ℕ → Written) (handovers : ℕ → ℕ → Handover) (live : ℕ → Bool) (handed : NumberMap Handed) (journal : List Placed) (wire : NumberMap Message) (number : ℕ) (message : Message) → Counters base rows truths rests written handovers live handed journal wire → All (λ row. IfSome (handed_by row handovers message.body) (λ h. IsFloor row (truths row ++ rests row) written h.floor)) rows → Counters base rows truths rests written handovers live handed journal (insert wire number message)
-counters_sent base rows truths rests written handovers live handed journal wire number message old floors = record {
-  low = old.low;
-  counted = old.counted;
-  handed_on = old.handed_on;
-  sent =
-      each_insert (λ number message. All (λ row. IfSome (handed_by row handovers message.body) (λ h. IsFloor row (truths row ++ rests row) written h.floor)) rows) wire number message
-      old.sent floors;
-}
-
--- fewer messages are on the wire
-pub counters_forgotten : (base : Base) (rows : List Row) (truths rests : Row → List Entry) (written : ℕ → Written) (handovers : ℕ → ℕ → Handover) (live : ℕ → Bool) (handed : NumberMap Handed) (journal : List Placed) (wire less : NumberMap Message) → Counters base rows truths rests written handovers live handed journal wire → HasNoMore less wire → Counters base rows truths rests written handovers live handed journal less
-counters_forgotten base rows truths rests written handovers live handed journal wire less old no_more = record {
-  low = old.low;
-  counted = old.counted;
-  handed_on = old.handed_on;
-  sent = λ n m found. old.sent n m (no_more n m found);
-}
-
--- a tablet freezes
-pub counters_frozen : (base : Base) (rows : List Row) (truths rests : Row → List Entry) (written : ℕ → Written) (handovers now : ℕ → ℕ → Handover) (live : ℕ → Bool) (handed : NumberMap Handed) (journal : List Placed) (wire : NumberMap Message) (master number : ℕ) → Counters base rows truths rests written handovers live handed journal wire → (handovers master number).role ≡ roles.Closing → Freezes master number handovers now → Counters base rows truths rests written now live handed journal wire
-counters_frozen base rows truths rests written handovers now live handed journal wire master number old closing freezes =
-    let alike : AreAlike handovers now = alike_all master number _ handovers now freezes (alike_frozen (handovers master number) closing) in
+-- tablets become others that answer alike, with the same counters
+pub counters_alike : (v : View) (now : ℕ → ℕ → Handover) → CountersOf v (truths v) (rests v) → AreAlike v.handovers now → ((q r : ℕ) → (now q r).counter ≡ (v.handovers q r).counter) → CountersOf (record v { handovers = now }) (truths v) (rests v)
+counters_alike v now old alike same =
+    let Floors : Row → Option Handed → Type 0 = λ row given.
+    IfSome given (λ h. IsFloor row (truths v row ++ rests v row) v.written h.floor) in
     record {
       low = old.low;
       counted = λ q.
           All-weaker
-          (λ row. StillCounts (live q) (handovers q row.tablet).term row.term
-          → speaks (post_of row.phase q) (handovers q row.tablet) row.term ≡ true
-          → IsNext row.range (truths row ++ rests row) (written q) (handovers q row.tablet).counter)
-          (λ row. StillCounts (live q) (now q row.tablet).term row.term
+          (λ row. StillCounts (v.live q) (v.handovers q row.tablet).term row.term
+          → speaks (post_of row.phase q) (v.handovers q row.tablet) row.term ≡ true
+          → IsNext row.range (truths v row ++ rests v row) (v.written q) (v.handovers q row.tablet).counter)
+          (λ row. StillCounts (v.live q) (now q row.tablet).term row.term
           → speaks (post_of row.phase q) (now q row.tablet) row.term ≡ true
-          → IsNext row.range (truths row ++ rests row) (written q) (now q row.tablet).counter)
+          → IsNext row.range (truths v row ++ rests v row) (v.written q) (now q row.tablet).counter)
           (λ row next counts says.
-          subst (IsNext row.range (truths row ++ rests row) (written q))
-          (sym (keeps_each (λ old new. new.counter ≡ old.counter) master number _ handovers now freezes (λ tablet. refl) refl q row.tablet))
+          subst (IsNext row.range (truths v row ++ rests v row) (v.written q)) (sym (same q row.tablet))
           (next
-          (still_counts (live q) (handovers q row.tablet).term (now q row.tablet).term row.term (alike q row.tablet).same_term counts)
-          (sym (speaks_alike (post_of row.phase q) row.term (handovers q row.tablet) (now q row.tablet) (alike q row.tablet)) ∙ says)))
-          rows (old.counted q);
+          (still_counts (v.live q) (v.handovers q row.tablet).term (now q row.tablet).term row.term (alike q row.tablet).same_term counts)
+          (sym (speaks_alike (post_of row.phase q) row.term (v.handovers q row.tablet) (now q row.tablet) (alike q row.tablet)) ∙ says)))
+          v.rows (old.counted q);
       handed_on =
-          All-weaker
-          (λ row. IfSome (handed_for_grant row handovers handed) (λ h. IsFloor row (truths row ++ rests row) written h.floor))
-          (λ row. IfSome (handed_for_grant row now handed) (λ h. IsFloor row (truths row ++ rests row) written h.floor))
-          (λ row floor. subst (λ (o : Option Handed). IfSome o (λ h. IsFloor row (truths row ++ rests row) written h.floor)) (sym (handed_for_grant_alike row handovers now handed alike)) floor)
-          rows old.handed_on;
+          All-weaker (λ row. Floors row (handed_for_grant row v.handovers v.handed))
+          (λ row. Floors row (handed_for_grant row now v.handed))
+          (λ row. subst (Floors row) (sym (handed_for_grant_alike row v.handovers now v.handed alike))) v.rows old.handed_on;
       sent =
-          each_weaker
-          (λ number message. All (λ row. IfSome (handed_by row handovers message.body) (λ h. IsFloor row (truths row ++ rests row) written h.floor)) rows)
-          (λ number message. All (λ row. IfSome (handed_by row now message.body) (λ h. IsFloor row (truths row ++ rests row) written h.floor)) rows)
-          wire
+          each_weaker (λ number message. All (λ row. Floors row (handed_by row v.handovers message.body)) v.rows)
+          (λ number message. All (λ row. Floors row (handed_by row now message.body)) v.rows) v.wire
           (λ number message.
-          All-weaker
-          (λ row. IfSome (handed_by row handovers message.body) (λ h. IsFloor row (truths row ++ rests row) written h.floor))
-          (λ row. IfSome (handed_by row now message.body) (λ h. IsFloor row (truths row ++ rests row) written h.floor))
-          (λ row floor. subst (λ (o : Option Handed). IfSome o (λ h. IsFloor row (truths row ++ rests row) written h.floor)) (sym (handed_by_alike row handovers now message.body alike)) floor)
-          rows)
+          All-weaker (λ row. Floors row (handed_by row v.handovers message.body)) (λ row. Floors row (handed_by row now message.body))
+          (λ row. subst (Floors row) (sym (handed_by_alike row v.handovers now message.body alike))) v.rows)
           old.sent;
     }
 

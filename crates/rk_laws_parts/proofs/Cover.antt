@@ -21,40 +21,10 @@ use Rattle.rk_sound.specs.Terms.{tenure_in, range_in}
 use Rattle.rk_sound.specs.Cover.{Cover, IsWithinRows, IsItemWithin, IsEntryWithin, IsOfWholeRows}
 use Rattle.rk_sound.specs.Changes.{IsServed}
 use Rattle.rk_sound.specs.Small.{with_one_more}
-use Rattle.rk_laws_parts.proofs.Changing.{Lane, Freezes, Stages}
+use Rattle.rk_laws_parts.proofs.Changing.{Lane, Stages}
 use Rattle.rk_laws_parts.proofs.Differs.{differs_each}
-use Rattle.rk_laws_parts.proofs.Seen.{LooksAs, each_looks_frozen}
+use Rattle.rk_laws_parts.proofs.Seen.{LooksAs}
 use Rattle.rk_laws_parts.proofs.Staged.{staged_looks, written_grown}
-
--- a message is sent whose tablet has a row, and whose range lies in rows
-pub cover_sent : (rows : List Row) (written : ℕ → Written) (handovers : ℕ → ℕ → Handover) (records : ℕ → List Held) (wire : NumberMap Message) (number : ℕ) (message : Message) → Cover rows written handovers records wire → IfSome (tenure_in message.body) (λ tenure. is_some (row_of rows tenure.tablet) ≡ true) × IfSome (range_in message.body) (IsWithinRows rows) → Cover rows written handovers records (insert wire number message)
-cover_sent rows written handovers records wire number message old within = record {
-  unknown = old.unknown;
-  marks = old.marks;
-  sent =
-      each_insert (λ n m. IfSome (tenure_in m.body) (λ tenure. is_some (row_of rows tenure.tablet) ≡ true)) wire number message
-      old.sent within.0;
-  ranges = old.ranges;
-  ordered = each_insert (λ n m. IfSome (range_in m.body) (IsWithinRows rows)) wire number message old.ordered within.1;
-  entries = old.entries;
-  sides = old.sides;
-  items = old.items;
-  wholes = old.wholes;
-}
-
--- fewer messages are on the wire
-pub cover_forgotten : (rows : List Row) (written : ℕ → Written) (handovers : ℕ → ℕ → Handover) (records : ℕ → List Held) (wire less : NumberMap Message) → Cover rows written handovers records wire → HasNoMore less wire → Cover rows written handovers records less
-cover_forgotten rows written handovers records wire less old no_more = record {
-  unknown = old.unknown;
-  marks = old.marks;
-  sent = λ n m found. old.sent n m (no_more n m found);
-  ranges = old.ranges;
-  ordered = λ n m found. old.ordered n m (no_more n m found);
-  entries = old.entries;
-  sides = old.sides;
-  items = old.items;
-  wholes = old.wholes;
-}
 
 -- each tablet looks as before
 pub cover_looks : (rows : List Row) (written : ℕ → Written) (handovers handovers' : ℕ → ℕ → Handover) (records : ℕ → List Held) (wire : NumberMap Message) → Cover rows written handovers records wire → ((q r : ℕ) → LooksAs (handovers q r) (handovers' q r)) → Cover rows written handovers' records wire
@@ -71,11 +41,6 @@ cover_looks rows written handovers handovers' records wire old looks = record {
   items = old.items;
   wholes = old.wholes;
 }
-
--- a tablet that closes is frozen
-pub cover_frozen : (rows : List Row) (written : ℕ → Written) (handovers now : ℕ → ℕ → Handover) (records : ℕ → List Held) (wire : NumberMap Message) (master number : ℕ) → Cover rows written handovers records wire → (handovers master number).role ≡ roles.Closing → Freezes master number handovers now → Cover rows written now records wire
-cover_frozen rows written handovers now records wire master number old closing change =
-    cover_looks rows written handovers now records wire old (each_looks_frozen master number handovers now closing change)
 
 -- a hash of a row is covered
 pub covered_by : (rows : List Row) (row : Row) (table hash : ℕ) → Contains rows row → has row.range table hash ≡ true → is_covered rows table hash ≡ true

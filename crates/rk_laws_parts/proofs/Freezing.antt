@@ -1,4 +1,4 @@
--- What of a tablet stays the same when one froze.
+-- A master that closes a tablet is of its row's lineage.
 use Rattle.std.proofs.Common.{◌≡◌, ℕ, Bool, true, false, List, [], ◌∷◌, ◌⊎◌, refl, ap, ◌∙◌, ⊎_elim}
 use Rattle.std.specs.Prelude.{◌==◌, if◌then◌else◌, Option, Some, None}
 use Rattle.std.proofs.lemmas.Bool.{or_left}
@@ -10,24 +10,6 @@ use Rattle.rk_tablet_map.specs.declared.phase.Phase.{Phase}
 use Rattle.rk_tablet_map.specs.declared.phase.Phase.TheVariants.{Owned, Opening, Moving, Rebuilding}
 use Rattle.rk_world.specs.Lineage.{is_member}
 use Rattle.rk_sound.specs.Posts.{Owner, OpeningSource, MovingSource, MovingTarget, OnlyRebuilder, FirstRebuilder, LastRebuilder, OutsideRebuilder, FormerMember, Bystander, rebuilder_post, target_post, post_of, bond_of, Holds}
-use Rattle.rk_sound.specs.Small.{as_frozen}
-use Rattle.rk_laws_parts.proofs.Changing.{Freezes}
-use Rattle.rk_laws_parts.proofs.Differs.{now_cases}
-
--- a tablet is as it was, or it is the one that froze
-pub froze_cases : (handovers now : ℕ → ℕ → Handover) (master number : ℕ) → Freezes master number handovers now → (q r : ℕ) → (now q r ≡ handovers q r) ⊎ ((q ≡ master) × (r ≡ number) × (now q r ≡ as_frozen (handovers q r)))
-froze_cases handovers now master number froze q r = now_cases as_frozen handovers now master number froze q r
-
--- what is alike of a closing tablet and of the frozen one is the same of all
-pub froze_same : {X : Type 0} (f : Handover → X) → ((handover : Handover) → handover.role ≡ roles.Closing → f (as_frozen handover) ≡ f handover) → (handovers now : ℕ → ℕ → Handover) (master number : ℕ) → (handovers master number).role ≡ roles.Closing → Freezes master number handovers now → (q r : ℕ) → f (now q r) ≡ f (handovers q r)
-froze_same {X} f alike handovers now master number closing froze q r =
-    ⊎_elim
-    (λ (same : now q r ≡ handovers q r). ap f same)
-    (λ (at : (q ≡ master) × (r ≡ number) × (now q r ≡ as_frozen (handovers q r))).
-    ap f at.2
-    ∙ alike (handovers q r)
-    (ap (λ (n : ℕ). (handovers n r).role) at.0 ∙ ap (λ (n : ℕ). (handovers master n).role) at.1 ∙ closing))
-    (froze_cases handovers now master number froze q r)
 
 -- the heir of a lineage that closes is its only member
 heir_closes : (lineage : List Member) (master term own applied : ℕ) → Holds (bond_of (rebuilder_post lineage master) roles.Closing) term own applied → is_member lineage master ≡ true

@@ -26,7 +26,6 @@ pub mod Calls
 pub mod Nexts
 pub mod Counters
 pub mod Messages
-pub mod Asked
 pub mod Serving
 pub mod Freezing
 pub mod Places

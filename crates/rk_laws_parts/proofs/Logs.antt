@@ -28,20 +28,6 @@ use Rattle.rk_sound.specs.Small.{with_one_more}
 use Rattle.rk_laws_parts.proofs.Changing.{Lane, Stages, DiffersAt}
 use Rattle.rk_laws_parts.proofs.Segments.{Grows, grows_entry}
 
--- a message is put on the wire
-pub logs_sent : (logs : ℕ → Log) (written : ℕ → Written) (stored : ℕ → Segments) (wire : NumberMap Message) (number : ℕ) (message : Message) → Logs logs written stored wire → LogSays logs stored message.from message.to message.body → Logs logs written stored (insert wire number message)
-logs_sent logs written stored wire number message old says = record {
-  each = old.each;
-  sent = each_insert (λ number message. LogSays logs stored message.from message.to message.body) wire number message old.sent says;
-}
-
--- fewer messages are on the wire
-pub logs_forgotten : (logs : ℕ → Log) (written : ℕ → Written) (stored : ℕ → Segments) (wire less : NumberMap Message) → Logs logs written stored wire → HasNoMore less wire → Logs logs written stored less
-logs_forgotten logs written stored wire less old no_more = record {
-  each = old.each;
-  sent = λ n m found. old.sent n m (no_more n m found);
-}
-
 -- ---- a log grows at its end
 
 first_part_more : (a b c : List ℕ) → IsFirstPart a b → IsFirstPart b c → IsFirstPart a c

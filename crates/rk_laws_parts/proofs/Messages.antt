@@ -47,25 +47,9 @@ use Rattle.rk_sound.specs.Receives.{scan_items}
 use Rattle.rk_sound.specs.Rebuilds.{READ_BACKUP, IsReadPart}
 use Rattle.rk_sound.specs.Messages.{Messages, SaysOf, Says, IfMaster, ByMaster, IsOf, IsOfTarget, PrepareFits, CloseFits, RebuildFits, OwnFits, IsOwner, ReleaseFits, ReadyIn, TransferIn, IsFrozenSource, JoinedIn, RebuiltIn, GrantAgrees, AskAgrees, IsFromSource, PulledAgrees, GotAgrees, CopyIn}
 use Rattle.rk_sound.specs.Changes.{IsServed}
-use Rattle.rk_laws_parts.proofs.Changing.{Lane, Freezes, Stages}
-use Rattle.rk_laws_parts.proofs.Seen.{LooksAs, AllLook, each_looks_frozen}
+use Rattle.rk_laws_parts.proofs.Changing.{Lane, Stages}
+use Rattle.rk_laws_parts.proofs.Seen.{LooksAs, AllLook}
 use Rattle.rk_laws_parts.proofs.Staged.{staged_looks, staged_known}
-
--- a message is sent that agrees with its sender
-pub messages_sent : (rows : List Row) (logs : ℕ → Log) (written : ℕ → Written) (stored : ℕ → Segments) (handovers : ℕ → ℕ → Handover) (completions : ℕ → ℕ → Completions) (merged : ℕ → ℕ → List Ended) (live : ℕ → Bool) (handed : NumberMap Handed) (journal : List Placed) (wire : NumberMap Message) (number : ℕ) (message : Message) → Messages rows logs written stored handovers completions merged live handed journal wire → All (λ row. SaysOf row logs written stored handovers completions merged live handed message.from message.to message.body) rows → Says journal message.to message.body → Messages rows logs written stored handovers completions merged live handed journal (insert wire number message)
-messages_sent rows logs written stored handovers completions merged live handed journal wire number message old of_rows others = record {
-  of_rows =
-      each_insert (λ n m. All (λ row. SaysOf row logs written stored handovers completions merged live handed m.from m.to m.body) rows) wire number message
-      old.of_rows of_rows;
-  others = each_insert (λ n m. Says journal m.to m.body) wire number message old.others others;
-}
-
--- fewer messages are on the wire
-pub messages_forgotten : (rows : List Row) (logs : ℕ → Log) (written : ℕ → Written) (stored : ℕ → Segments) (handovers : ℕ → ℕ → Handover) (completions : ℕ → ℕ → Completions) (merged : ℕ → ℕ → List Ended) (live : ℕ → Bool) (handed : NumberMap Handed) (journal : List Placed) (wire less : NumberMap Message) → Messages rows logs written stored handovers completions merged live handed journal wire → HasNoMore less wire → Messages rows logs written stored handovers completions merged live handed journal less
-messages_forgotten rows logs written stored handovers completions merged live handed journal wire less old no_more = record {
-  of_rows = λ n m found. old.of_rows n m (no_more n m found);
-  others = λ n m found. old.others n m (no_more n m found);
-}
 
 -- what is said where a node is a master, it says as well where that follows
 if_master : (node : Node) (Fits Gives : ℕ → Type 0) → ((master : ℕ) → Fits master → Gives master) → IfMaster node Fits → IfMaster node Gives
@@ -295,17 +279,6 @@ messages_looks rows logs logs' written written' stored handovers handovers' comp
       old.of_rows;
   others = old.others;
 }
-
--- a tablet that closes is frozen
-pub messages_frozen : (rows : List Row) (logs : ℕ → Log) (written : ℕ → Written) (stored : ℕ → Segments) (handovers now : ℕ → ℕ → Handover) (completions : ℕ → ℕ → Completions) (merged : ℕ → ℕ → List Ended) (live : ℕ → Bool) (handed : NumberMap Handed) (journal : List Placed) (wire : NumberMap Message) (master number : ℕ) → Messages rows logs written stored handovers completions merged live handed journal wire → (handovers master number).role ≡ roles.Closing → Freezes master number handovers now → Messages rows logs written stored now completions merged live handed journal wire
-messages_frozen rows logs written stored handovers now completions merged live handed journal wire master number old closing change =
-    messages_looks rows logs logs written written stored handovers now completions merged live handed journal wire old
-    (record {
-      each = each_looks_frozen master number handovers now closing change;
-      applied = λ q. refl;
-      truths = λ range member. refl;
-    })
-    (λ q. refl)
 
 -- a write is staged at a master that answers calls for its key
 pub messages_staged : (rows : List Row) (before after : Lane) (stored : ℕ → Segments) (completions : ℕ → ℕ → Completions) (merged : ℕ → ℕ → List Ended) (live : ℕ → Bool) (handed : NumberMap Handed) (journal : List Placed) (wire : NumberMap Message) (alive : Bool) (master : ℕ) (row : Row) (call : Call) (item : Held) → Messages rows before.logs before.written stored before.handovers completions merged live handed journal wire → Stages rows before after master row call item → IsServed rows (before.handovers master) alive master item.table item.key → Messages rows after.logs after.written stored after.handovers completions merged live handed journal wire

@@ -37,40 +37,18 @@ use Rattle.rk_sound.specs.Logs.{Logs, stored_of}
 use Rattle.rk_sound.specs.Rebuilds.{Rebuilds, HasOwnRange, IsOfRange, IsRebuilder, MarkFits, MarkedFit, READ_BACKUP, TellNoMore, has_merged, marked_entries, member_marked, member_stored, stored_count, RowIsRebuilt}
 use Rattle.rk_sound.specs.Changes.{IsServed}
 use Rattle.rk_sound.specs.Small.{as_frozen, risen, with_one_more}
-use Rattle.rk_laws_parts.proofs.Changing.{Lane, Freezes, Stages}
+use Rattle.rk_laws_parts.proofs.Changing.{Lane, Stages}
 use Rattle.rk_laws_parts.proofs.Differs.{differs_same}
 use Rattle.rk_laws_parts.proofs.Staged.{counted_same, first_apart, formed_apart, row_cases, written_cases, written_grown}
-use Rattle.rk_laws_parts.proofs.Freezing.{froze_cases, froze_same}
 use Rattle.rk_laws_parts.proofs.Applied.{applied_within}
 use Rattle.rk_laws_parts.proofs.Grows.{Extends, counting_extends, extends_behind, extends_itself, stored_push, take_extends, tells_extended}
 use Rattle.rk_laws_parts.proofs.Rebuilders.{last_member, piece_push, rebuilder_apart, rebuilder_serving, rebuilder_frozen}
 
 -- a master that rebuilds a row, by what masters have written and backups store
-abbrev IsRebuilderIn : (ℕ → Log) → (ℕ → Written) → (ℕ → Segments) → Row → List Member → ℕ → List Entry → Handover → Completions → Gather → List Ended → List Held → Type 0
+abbrev pub IsRebuilderIn : (ℕ → Log) → (ℕ → Written) → (ℕ → Segments) → Row → List Member → ℕ → List Entry → Handover → Completions → Gather → List Ended → List Held → Type 0
 IsRebuilderIn logs written stored row lineage master truth handover completions gather ends table =
     IsRebuilder row lineage master truth (member_material written row.range (member_at master (own_place handover.role)))
     (λ q. known_of (logs q) READ_BACKUP) (λ q. stored_of stored q READ_BACKUP) (written master) handover completions gather ends table
-
--- a row that is rebuilt
-rebuilt_frozen : (row : Row) (phase : Phase) (truth : List Entry) (logs : ℕ → Log) (written : ℕ → Written) (stored : ℕ → Segments) (handovers now : ℕ → ℕ → Handover) (completions : ℕ → ℕ → Completions) (gathers : ℕ → ℕ → Gather) (merged : ℕ → ℕ → List Ended) (records : ℕ → List Held) (live : ℕ → Bool) (master number : ℕ) → (handovers master number).role ≡ roles.Closing → Freezes master number handovers now → RowIsRebuilt row phase truth logs written stored handovers completions gathers merged records live → RowIsRebuilt row phase truth logs written stored now completions gathers merged records live
-rebuilt_frozen row (Owned owner from) truth logs written stored handovers now completions gathers merged records live master number closing froze fit = tt
-rebuilt_frozen row (Opening source sfrom target dfrom) truth logs written stored handovers now completions gathers merged records live master number closing froze fit = tt
-rebuilt_frozen row (Moving source sfrom target dfrom) truth logs written stored handovers now completions gathers merged records live master number closing froze fit = tt
-rebuilt_frozen row (Rebuilding lineage to) truth logs written stored handovers now completions gathers merged records live master number closing froze fit = (
-  λ term.
-      ⊎_elim
-      (λ (same : now to row.tablet ≡ handovers to row.tablet).
-      subst (λ (handover : Handover). IsRebuilderIn logs written stored row lineage to truth handover (completions to row.tablet) (gathers to row.tablet) (merged to row.tablet) (records to)) (sym same)
-      (fit.0 (sym (ap (λ (handover : Handover). handover.term) same) ∙ term)))
-      (λ (at : (to ≡ master) × (row.tablet ≡ number) × (now to row.tablet ≡ as_frozen (handovers to row.tablet))).
-      subst (λ (handover : Handover). IsRebuilderIn logs written stored row lineage to truth handover (completions to row.tablet) (gathers to row.tablet) (merged to row.tablet) (records to)) (sym at.2)
-      (rebuilder_frozen row lineage to truth (λ from. member_material written row.range (member_at to from)) (λ q. known_of (logs q) READ_BACKUP)
-      (λ q. stored_of stored q READ_BACKUP) (written to) (handovers to row.tablet) (completions to row.tablet) (gathers to row.tablet) (merged to row.tablet) (records to)
-      (ap (λ (n : ℕ). (handovers n row.tablet).role) at.0 ∙ ap (λ (n : ℕ). (handovers master n).role) at.1 ∙ closing)
-      (fit.0 (sym (ap (λ (handover : Handover). handover.term) at.2) ∙ term))))
-      (froze_cases handovers now master number froze to row.tablet),
-  fit.1,
-)
 
 -- a mark fits a tablet of the same term that has merged as much
 pub mark_same : (row : Row) (master : ℕ) (old new : Handover) (live : Bool) (mark : Mark) → new.term ≡ old.term → has_merged new.role ≡ has_merged old.role → MarkFits row master old live mark → MarkFits row master new live mark
@@ -79,21 +57,6 @@ mark_same row master old new live mark term merged fit = record {
   within = fit.within;
   present = fit.present;
   by_rebuilder = λ its. let by = fit.by_rebuilder its in (by.0, term ∙ by.1, merged ∙ by.2);
-}
-
--- a tablet freezes
-pub rebuilds_frozen : (rows : List Row) (truths : Row → List Entry) (logs : ℕ → Log) (written : ℕ → Written) (stored : ℕ → Segments) (handovers now : ℕ → ℕ → Handover) (completions : ℕ → ℕ → Completions) (gathers : ℕ → ℕ → Gather) (merged : ℕ → ℕ → List Ended) (records : ℕ → List Held) (live : ℕ → Bool) (master number : ℕ) → Rebuilds rows truths logs written stored handovers completions gathers merged records live → (handovers master number).role ≡ roles.Closing → Freezes master number handovers now → Rebuilds rows truths logs written stored now completions gathers merged records live
-rebuilds_frozen rows truths logs written stored handovers now completions gathers merged records live master number old closing froze = record {
-  rebuilt = λ k d within.
-      let row : Row = slice_index_or rows k d in
-      rebuilt_frozen row row.phase (truths row) logs written stored handovers now completions gathers merged records live master number closing froze (old.rebuilt k d within);
-  marks = λ q k d within m e inside its.
-      let row : Row = slice_index_or rows k d in
-      mark_same row q (handovers q row.tablet) (now q row.tablet) (live q) (slice_index_or (written q).marks m e)
-      (froze_same (λ (handover : Handover). handover.term) (λ handover role. refl) handovers now master number closing froze q row.tablet)
-      (froze_same (λ (handover : Handover). has_merged handover.role) (λ handover role. sym (ap has_merged role)) handovers now master number closing froze q row.tablet)
-      (old.marks q k d within m e inside its);
-  pieces = old.pieces;
 }
 
 module _ (rows : List Row) (before after : Lane) (stored : ℕ → Segments) (completions : ℕ → ℕ → Completions) (gathers : ℕ → ℕ → Gather) (merged : ℕ → ℕ → List Ended) (records : ℕ → List Held) (live : ℕ → Bool) (master : ℕ) (row : Row) (call : Call) (item : Held) (last : Member) (stages : Stages rows before after master row call item) (is_last : last_of (lineage_of row.phase) ≡ Some last) (here : last.master ≡ master) (lives : live master ≡ true) (serves : is_serving (before.handovers master row.tablet).role ≡ true) (fits : (before.written master).applied ≤ length (before.written master).entries) where

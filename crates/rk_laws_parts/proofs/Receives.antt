@@ -41,12 +41,11 @@ use Rattle.rk_sound.specs.Rest.{FirstIsDone}
 use Rattle.rk_sound.specs.Receives.{Receives, IsBare, IsTarget, MembersFit, HandedFits, is_granted, wanted_place}
 use Rattle.rk_sound.specs.Changes.{IsServed}
 use Rattle.rk_sound.specs.Small.{as_frozen, risen, with_one_more}
-use Rattle.rk_laws_parts.proofs.Changing.{Lane, Freezes, Stages}
+use Rattle.rk_laws_parts.proofs.Changing.{Lane, Stages}
 use Rattle.rk_laws_parts.proofs.Differs.{now_cases}
 use Rattle.rk_laws_parts.proofs.Apart.{key_outside}
 use Rattle.rk_laws_parts.proofs.Staged.{counter_low, counted_same, first_apart, formed_apart, row_cases, written_cases}
 use Rattle.rk_laws_parts.proofs.Serving.{present}
-use Rattle.rk_laws_parts.proofs.Freezing.{froze_cases, froze_same}
 use Rattle.rk_laws_parts.proofs.Floors.{floor_above, floor_append}
 use Rattle.rk_laws_parts.proofs.Applied.{applied_within}
 use Rattle.rk_laws_parts.proofs.Targets.{AreBelow, bare_pushed, target_counted, target_pushed}
@@ -62,55 +61,9 @@ IsTargetIn written row source target handover pulling handed table =
     IsTarget row.range source.master (member_truth written row.range source) (member_material written row.range source)
     target.from (written target.master) handover pulling handed table
 
--- a target that was granted its tablet is not the one that froze
-members_frozen : (row : Row) (written : ℕ → Written) (handovers now : ℕ → ℕ → Handover) (pullings : ℕ → ℕ → Pulling) (records : ℕ → List Held) (handed : NumberMap Handed) (master number : ℕ) → Freezes master number handovers now → (lineage : List Member) → MembersFit row written handovers pullings records handed lineage → MembersFit row written now pullings records handed lineage
-members_frozen row written handovers now pullings records handed master number froze [] fit = tt
-members_frozen row written handovers now pullings records handed master number froze (only ∷ []) fit = tt
-members_frozen row written handovers now pullings records handed master number froze (source ∷ target ∷ []) fit = λ granted.
-    ⊎_elim
-    (λ (same : now target.master row.tablet ≡ handovers target.master row.tablet).
-    subst (λ (handover : Handover). IsTargetIn written row source target handover (pullings target.master row.tablet) (get handed row.tablet) (records target.master)) (sym same)
-    (fit (sym (ap (λ (handover : Handover). is_granted handover.role) same) ∙ granted)))
-    (λ (at : (target.master ≡ master) × (row.tablet ≡ number) × (now target.master row.tablet ≡ as_frozen (handovers target.master row.tablet))).
-    absurd (false≢true (sym (ap (λ (handover : Handover). is_granted handover.role) at.2) ∙ granted)))
-    (froze_cases handovers now master number froze target.master row.tablet)
-members_frozen row written handovers now pullings records handed master number froze (source ∷ target ∷ third ∷ more) fit = tt
-
--- what a source told is what it keeps
-handed_frozen : (row : Row) (handovers now : ℕ → ℕ → Handover) (completions : ℕ → ℕ → Completions) (handed : NumberMap Handed) (master number : ℕ) → (handovers master number).role ≡ roles.Closing → Freezes master number handovers now → (lineage : List Member) → HandedFits row handovers completions handed lineage → HandedFits row now completions handed lineage
-handed_frozen row handovers now completions handed master number closing froze [] fit = tt
-handed_frozen row handovers now completions handed master number closing froze (only ∷ []) fit = tt
-handed_frozen row handovers now completions handed master number closing froze (source ∷ target ∷ []) fit = λ term.
-    let terms : (q : ℕ) → (now q row.tablet).term ≡ (handovers q row.tablet).term = λ q.
-    froze_same (λ (handover : Handover). handover.term) (λ handover role. refl) handovers now master number closing froze q row.tablet in
-    fit (sym (terms target.master) ∙ term ∙ terms source.master)
-    ∙ sym (ap Some (froze_same (λ handover. handed_of handover (completions source.master row.tablet)) (λ handover role. refl) handovers now master number closing froze source.master row.tablet))
-handed_frozen row handovers now completions handed master number closing froze (source ∷ target ∷ third ∷ more) fit = tt
-
 -- a master that made ready for a tablet has nothing of it
-abbrev IsBareOf : Handover → Written → List Held → Type 0
+abbrev pub IsBareOf : Handover → Written → List Held → Type 0
 IsBareOf handover written table = IfSome (wanted_place handover.role) (λ from. IsBare handover.range from written table)
-
--- and a tablet that froze waits for nothing
-bare_frozen : (written : ℕ → Written) (handovers now : ℕ → ℕ → Handover) (records : ℕ → List Held) (master number : ℕ) → Freezes master number handovers now → (q r : ℕ) → IsBareOf (handovers q r) (written q) (records q) → IsBareOf (now q r) (written q) (records q)
-bare_frozen written handovers now records master number froze q r bare =
-    ⊎_elim
-    (λ (same : now q r ≡ handovers q r). subst (λ (handover : Handover). IsBareOf handover (written q) (records q)) (sym same) bare)
-    (λ (at : (q ≡ master) × (r ≡ number) × (now q r ≡ as_frozen (handovers q r))).
-    subst (λ (handover : Handover). IsBareOf handover (written q) (records q)) (sym at.2) tt)
-    (froze_cases handovers now master number froze q r)
-
--- a tablet freezes
-pub receives_frozen : (rows : List Row) (written : ℕ → Written) (handovers now : ℕ → ℕ → Handover) (completions : ℕ → ℕ → Completions) (pullings : ℕ → ℕ → Pulling) (records : ℕ → List Held) (handed : NumberMap Handed) (master number : ℕ) → Receives rows written handovers completions pullings records handed → (handovers master number).role ≡ roles.Closing → Freezes master number handovers now → Receives rows written now completions pullings records handed
-receives_frozen rows written handovers now completions pullings records handed master number old closing froze = record {
-  targets = λ k d within.
-      let row : Row = slice_index_or rows k d in
-      members_frozen row written handovers now pullings records handed master number froze (lineage_of row.phase) (old.targets k d within);
-  handed_on = λ k d within.
-      let row : Row = slice_index_or rows k d in
-      handed_frozen row handovers now completions handed master number closing froze (lineage_of row.phase) (old.handed_on k d within);
-  bare = λ q r. bare_frozen written handovers now records master number froze q r (old.bare q r);
-}
 
 -- an item with the tablet's counter is above each item of the source
 above_source : (base : Base) (range : Range) (written : ℕ → Written) (rest : List Entry) (source target : Member) (more : List Member) (item : Held) (counter : ℕ) → item.version ≡ counter → floor_of (lineage_truth base written range (source ∷ target ∷ more) ++ rest) ≤ counter → member_material written range source ≡ member_truth written range source → AreBelow (items_of (member_material written range source)) item

@@ -30,45 +30,51 @@ use Rattle.rk_world.specs.Requests.{item_of}
 use Rattle.rk_world.specs.Coordinator.{Handed}
 use Rattle.rk_world.specs.Ledger.{LastCall}
 use Rattle.rk_world.specs.Written.{Written}
+use Rattle.rk_sound.specs.View.{View, truths, rests}
 use Rattle.rk_sound.specs.Rows.{Rows}
 use Rattle.rk_sound.specs.Posts.{post_of, bond_of, Holds, StillCounts}
 use Rattle.rk_sound.specs.Roles.{Roles, RoleFits}
 use Rattle.rk_sound.specs.Logs.{Logs, stored_of}
 use Rattle.rk_sound.specs.Counters.{Counters}
 use Rattle.rk_sound.specs.Rest.{Rest, IsRest, IsEntryOf, IsLast, IsLastAsked}
+use Rattle.rk_sound.specs.Whole.{RestOf, RolesOf}
 use Rattle.rk_sound.specs.Changes.{IsServed, MayEnd}
-use Rattle.rk_sound.specs.Moves.{IsSettledIn}
-use Rattle.rk_sound.specs.Small.{as_frozen}
-use Rattle.rk_laws_parts.proofs.Changing.{Lane, Freezes, Stages}
+use Rattle.rk_sound.specs.Moves.{IsSettledIn, MayFreeze}
+use Rattle.rk_sound.specs.Small.{as_frozen, frozen}
+use Rattle.rk_laws_parts.proofs.Changing.{Lane, Stages}
 use Rattle.rk_laws_parts.proofs.Differs.{still_counts}
 use Rattle.rk_laws_parts.proofs.Shares.{marked_none}
 use Rattle.rk_laws_parts.proofs.Staged.{counter_low, row_cases, counted_same}
-use Rattle.rk_laws_parts.proofs.Freezing.{froze_cases, closing_member}
+use Rattle.rk_laws_parts.proofs.Freezing.{closing_member}
+use Rattle.rk_laws_parts.proofs.Put.{put2_by}
 use Rattle.rk_laws_parts.proofs.Places.{behind_any}
 use Rattle.rk_laws_parts.proofs.Histories.{is_rest_staged}
 use Rattle.rk_laws_parts.proofs.Applied.{applied_within}
 use Rattle.rk_laws_parts.proofs.Waiting.{done_staged, idle_staged, waiting_staged, found_staged, unnamed_staged, asked_staged}
 
 -- nothing of the row of a tablet that closes is staged, where nothing of the range is that it keeps
-settled_row : (rows : List Row) (handovers : ℕ → ℕ → Handover) (written : ℕ → Written) (live : ℕ → Bool) (master number : ℕ) → Roles rows handovers written live → live master ≡ true → (handovers master number).role ≡ roles.Closing → IsSettledIn (handovers master number).range (written master) → (q : ℕ) (row : Row) → Contains rows row → q ≡ master → row.tablet ≡ number → list_any (touches row.range) (drop (written q).applied (written q).entries) ≡ false
-settled_row rows handovers written live master number fits lives closing settled q row has here its =
-    let at : handovers master row.tablet ≡ handovers master number = ap (handovers master) its in
-    let fit : RoleFits row master (handovers master row.tablet) (written master).applied =
+settled_row : (v : View) (master number : ℕ) → RolesOf v → MayFreeze v master number → (q : ℕ) (row : Row) → Contains v.rows row → q ≡ master → row.tablet ≡ number → list_any (touches row.range) (drop (v.written q).applied (v.written q).entries) ≡ false
+settled_row v master number fits may q row has here its =
+    let at : v.handovers master row.tablet ≡ v.handovers master number = ap (v.handovers master) its in
+    let fit : RoleFits row master (v.handovers master row.tablet) (v.written master).applied =
     All-contains
-    (λ row. StillCounts (live master) (handovers master row.tablet).term row.term
-    → RoleFits row master (handovers master row.tablet) (written master).applied) rows row (fits.fitting master) has (inl lives) in
+    (λ row. StillCounts (v.live master) (v.handovers master row.tablet).term row.term
+    → RoleFits row master (v.handovers master row.tablet) (v.written master).applied) v.rows row (fits.fitting master) has
+    (inl may.lives) in
     let member : is_member (lineage_of row.phase) master ≡ true =
-    closing_member row.phase master row.term (handovers master row.tablet).term (written master).applied
-    (subst (λ role. Holds (bond_of (post_of row.phase master) role) row.term (handovers master row.tablet).term (written master).applied)
-    (ap (λ (handover : Handover). handover.role) at ∙ closing) fit) in
-    let range : (handovers master row.tablet).range ≡ row.range =
+    closing_member row.phase master row.term (v.handovers master row.tablet).term (v.written master).applied
+    (subst
+    (λ role. Holds (bond_of (post_of row.phase master) role) row.term (v.handovers master row.tablet).term (v.written master).applied)
+    (ap (λ (handover : Handover). handover.role) at ∙ may.closing) fit) in
+    let range : (v.handovers master row.tablet).range ≡ row.range =
     All-contains
-    (λ row. StillCounts (live master) (handovers master row.tablet).term row.term
-    → is_member (lineage_of row.phase) master ≡ true → (handovers master row.tablet).range ≡ row.range) rows row
-    (fits.ranged master) has (inl lives) member in
-    let same : (handovers master number).range ≡ row.range = sym (ap (λ (handover : Handover). handover.range) at) ∙ range in
-    subst (λ (n : ℕ). list_any (touches row.range) (drop (written n).applied (written n).entries) ≡ false) (sym here)
-    (subst (λ (range : Range). IsSettledIn range (written master)) same settled)
+    (λ row. StillCounts (v.live master) (v.handovers master row.tablet).term row.term
+    → is_member (lineage_of row.phase) master ≡ true → (v.handovers master row.tablet).range ≡ row.range) v.rows row
+    (fits.ranged master) has (inl may.lives) member in
+    let same : (v.handovers master number).range ≡ row.range =
+    sym (ap (λ (handover : Handover). handover.range) at) ∙ range in
+    subst (λ (n : ℕ). list_any (touches row.range) (drop (v.written n).applied (v.written n).entries) ≡ false) (sym here)
+    (subst (λ (range : Range). IsSettledIn range (v.written master)) same may.settled)
 
 -- an entry of a call is of each range that has the call's key
 own_touches : (range : Range) (call : Call) (entry : Entry) → IsEntryOf call entry → has_key range call.table call.key ≡ true → touches range entry ≡ true
@@ -80,24 +86,19 @@ own_touches range call (entries.Carried carried) own inside = absurd own
 own_touches range call (entries.Joined joined) own inside = absurd own
 
 -- a tablet freezes of which nothing is staged
-pub rest_frozen : (base : Base) (rows : List Row) (truths rests : Row → List Entry) (written : ℕ → Written) (handovers now : ℕ → ℕ → Handover) (calls : ℕ → NumberMap Call) (live : ℕ → Bool) (journal : List Placed) (asked : ℕ → Option LastCall) (master number : ℕ) → Rest base rows truths rests written handovers calls live journal asked → Roles rows handovers written live → live master ≡ true → (handovers master number).role ≡ roles.Closing → Freezes master number handovers now → IsSettledIn (handovers master number).range (written master) → Rest base rows truths rests written now calls live journal asked
-rest_frozen base rows truths rests written handovers now calls live journal asked master number old fits lives closing froze settled =
-    let quiet = settled_row rows handovers written live master number fits lives closing settled in
+pub rest_frozen : (v : View) (master number : ℕ) → RestOf v (truths v) (rests v) → RolesOf v → MayFreeze v master number → RestOf (frozen v master number) (truths v) (rests v)
+rest_frozen v master number old fits may =
+    let quiet = settled_row v master number fits may in
     record {
       goes_on = old.goes_on;
       done = old.done;
       unnamed = old.unnamed;
-      idle = λ q k d within counts idles.
-          let row : Row = slice_index_or rows k d in
-          ⊎_elim
-          (λ (same : now q row.tablet ≡ handovers q row.tablet).
-          old.idle q k d within
-          (still_counts (live q) (handovers q row.tablet).term (now q row.tablet).term row.term
-          (ap (λ (handover : Handover). handover.term) same) counts)
-          (sym (ap (λ (handover : Handover). is_idle handover.role) same) ∙ idles))
-          (λ (at : (q ≡ master) × (row.tablet ≡ number) × (now q row.tablet ≡ as_frozen (handovers q row.tablet))).
-          quiet q row (Contains-get_or rows k d within) at.0 at.1)
-          (froze_cases handovers now master number froze q row.tablet);
+      idle = λ q k d within.
+          let row : Row = slice_index_or v.rows k d in
+          put2_by v.handovers master number as_frozen
+          (λ kept. StillCounts (v.live q) kept.term row.term → is_idle kept.role ≡ true
+          → list_any (touches row.range) (drop (v.written q).applied (v.written q).entries) ≡ false) q row.tablet
+          (λ at its counts idles. quiet q row (Contains-get_or v.rows k d within) at its) (λ apart. old.idle q k d within);
       waiting = λ q alive place call there.
           let wait = old.waiting q alive place call there in record {
             behind = wait.behind;
@@ -112,16 +113,14 @@ rest_frozen base rows truths rests written handovers now calls live journal aske
             is_last = wait.is_last;
             here = wait.here;
             may_stage =
-                ⊎_elim
-                (λ (same : now q wait.row.tablet ≡ handovers q wait.row.tablet).
-                ap (λ (handover : Handover). may_have_staged handover.role) same ∙ wait.may_stage)
-                (λ (at : (q ≡ master) × (wait.row.tablet ≡ number) × (now q wait.row.tablet ≡ as_frozen (handovers q wait.row.tablet))).
+                put2_by v.handovers master number as_frozen (λ kept. may_have_staged kept.role ≡ true) q wait.row.tablet
+                (λ at its.
                 absurd
                 (false≢true
-                (sym (quiet q wait.row wait.has_row at.0 at.1)
-                ∙ behind_any (touches wait.row.range) (written q).entries (written q).applied place wait.entry wait.behind wait.stands
+                (sym (quiet q wait.row wait.has_row at its)
+                ∙ behind_any (touches wait.row.range) (v.written q).entries (v.written q).applied place wait.entry wait.behind wait.stands
                 (own_touches wait.row.range call wait.entry wait.own wait.in_row))))
-                (froze_cases handovers now master number froze q wait.row.tablet);
+                (λ apart. wait.may_stage);
           };
       are_last = old.are_last;
       found = old.found;

@@ -15,9 +15,9 @@ use Rattle.rk_world.specs.Written.{Written}
 use Rattle.rk_sound.specs.Posts.{post_of, bond_of, Holds, StillCounts}
 use Rattle.rk_sound.specs.Roles.{Roles, RoleFits, KeepTerm}
 use Rattle.rk_sound.specs.Changes.{IsServed}
-use Rattle.rk_laws_parts.proofs.Changing.{Lane, Freezes, Stages}
+use Rattle.rk_laws_parts.proofs.Changing.{Lane, Stages}
 use Rattle.rk_laws_parts.proofs.Differs.{still_counts}
-use Rattle.rk_laws_parts.proofs.Seen.{LooksAs, each_looks_frozen}
+use Rattle.rk_laws_parts.proofs.Seen.{LooksAs}
 use Rattle.rk_laws_parts.proofs.Staged.{staged_looks}
 
 -- a tablet that looks as before fits its master's post as before
@@ -70,11 +70,6 @@ roles_looks rows handovers handovers' written written' live old looks same = rec
       rows old.at_term;
   known = λ master number lives there. old.known master number lives (sym (looks master number).role.absent ∙ there);
 }
-
--- a tablet that closes is frozen
-pub roles_frozen : (rows : List Row) (handovers now : ℕ → ℕ → Handover) (written : ℕ → Written) (live : ℕ → Bool) (master number : ℕ) → Roles rows handovers written live → (handovers master number).role ≡ roles.Closing → Freezes master number handovers now → Roles rows now written live
-roles_frozen rows handovers now written live master number old closing change =
-    roles_looks rows handovers now written written live old (each_looks_frozen master number handovers now closing change) (λ q. refl)
 
 -- a write is staged at a master that answers calls for its key
 pub roles_staged : (rows : List Row) (before after : Lane) (live : ℕ → Bool) (alive : Bool) (master : ℕ) (row : Row) (call : Call) (item : Held) → Roles rows before.handovers before.written live → Stages rows before after master row call item → IsServed rows (before.handovers master) alive master item.table item.key → Roles rows after.handovers after.written live

@@ -1,12 +1,13 @@
 -- A view stays sound when a request is saved that its client may send again.
 use Rattle.std.proofs.Common.{ℕ}
+use Rattle.rk_types.proofs.NumberMaps.{each_insert}
 use Rattle.rk_message.specs.declared.message.Message.{Message}
 use Rattle.rk_world.specs.World.{World}
 use Rattle.rk_sound.specs.View.{View, view}
+use Rattle.rk_sound.specs.Asked.{IsRequest}
 use Rattle.rk_sound.specs.Whole.{IsSound, SoundView}
 use Rattle.rk_sound.specs.Changes.{MaySave}
 use Rattle.rk_sound.specs.Small.{saved, request_saved}
-use Rattle.rk_laws_parts.proofs.Asked.{asked_kept}
 
 pub view_saved : (v : View) (client : ℕ) (message : Message) → SoundView v → MaySave v client message → SoundView (saved v client message)
 view_saved v client message sound may = record {
@@ -25,7 +26,15 @@ view_saved v client message sound may = record {
   receives = sound.receives;
   rebuilds = sound.rebuilds;
   messages = sound.messages;
-  asked = asked_kept _ _ v.requests _ _ client message sound.asked may.request;
+  asked = record {
+    last = sound.asked.last;
+    own_keys = sound.asked.own_keys;
+    recorded = sound.asked.recorded;
+    once = sound.asked.once;
+    sent = sound.asked.sent;
+    again =
+        each_insert (λ c m. IsRequest v.asked v.journal c m.from m.body) v.requests client message sound.asked.again may.request;
+  };
 }
 
 pub sound_saved : (w : World) (client : ℕ) (message : Message) → IsSound w → MaySave (view w) client message → IsSound (request_saved w client message)

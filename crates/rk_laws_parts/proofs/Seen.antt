@@ -15,7 +15,6 @@ use Rattle.rk_sound.specs.Posts.Post.{Owner, OpeningSource, InvitedTarget, Ready
 use Rattle.rk_sound.specs.Handing.{is_wanting}
 use Rattle.rk_sound.specs.Messages.{HasJoined, HasRebuilt}
 use Rattle.rk_sound.specs.Small.{as_frozen, risen}
-use Rattle.rk_laws_parts.proofs.Changing.{Freezes}
 use Rattle.rk_laws_parts.proofs.Differs.{keeps_each}
 
 -- a role stands for rows and messages as another one did
@@ -108,9 +107,3 @@ counted_looks handover serves = record {
   role = goes_on_same handover.role;
   counter = λ frozen. absurd (both_ways (is_serving handover.role) (ap is_serving frozen) serves);
 }
-
--- where a tablet that closes is frozen, each looks as it did
-pub each_looks_frozen : (master number : ℕ) (handovers now : ℕ → ℕ → Handover) → (handovers master number).role ≡ roles.Closing → Freezes master number handovers now → (q r : ℕ) → LooksAs (handovers q r) (now q r)
-each_looks_frozen master number handovers now closing change =
-    keeps_each LooksAs master number (as_frozen (handovers master number)) handovers now change looks_same
-    (frozen_looks (handovers master number) closing)

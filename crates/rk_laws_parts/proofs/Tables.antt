@@ -13,9 +13,8 @@ use Rattle.rk_world.specs.Lineage.{first_of}
 use Rattle.rk_world.specs.Written.{Written}
 use Rattle.rk_sound.specs.Posts.{Post, Owner, OpeningSource, InvitedTarget, ReadyTarget, MovingSource, MovingTarget, OnlyRebuilder, FirstRebuilder, LastRebuilder, OutsideRebuilder, FormerMember, Bystander, post_of}
 use Rattle.rk_sound.specs.Tables.{Tables, IsTableOf, has_all_items}
-use Rattle.rk_laws_parts.proofs.Changing.{Lane, Freezes, Stages}
+use Rattle.rk_laws_parts.proofs.Changing.{Lane, Stages}
 use Rattle.rk_laws_parts.proofs.Staged.{counted_same}
-use Rattle.rk_laws_parts.proofs.Freezing.{froze_same}
 
 -- whether a table has all of a tablet is seen from its post and its term
 pub all_items_same : (post : Post) (a b : Handover) (term : ℕ) → a.term ≡ b.term → has_all_items post a term ≡ has_all_items post b term
@@ -31,18 +30,6 @@ all_items_same (LastRebuilder place) a b term same = refl
 all_items_same OutsideRebuilder a b term same = refl
 all_items_same FormerMember a b term same = refl
 all_items_same Bystander a b term same = refl
-
--- a tablet freezes
-pub tables_frozen : (rows : List Row) (written : ℕ → Written) (handovers now : ℕ → ℕ → Handover) (records : ℕ → List Held) (live : ℕ → Bool) (master number : ℕ) → Tables rows written handovers records live → (handovers master number).role ≡ roles.Closing → Freezes master number handovers now → Tables rows written now records live
-tables_frozen rows written handovers now records live master number old closing froze = record {
-  ordered = old.ordered;
-  items = λ q lives k d within has.
-      let row : Row = slice_index_or rows k d in
-      let same : (now q row.tablet).term ≡ (handovers q row.tablet).term =
-      froze_same (λ (handover : Handover). handover.term) (λ tablet role. refl) handovers now master number closing froze q row.tablet in
-      old.items q lives k d within
-      (sym (all_items_same (post_of row.phase q) (now q row.tablet) (handovers q row.tablet) row.term same) ∙ has);
-}
 
 -- a write is staged
 pub tables_staged : (rows : List Row) (before after : Lane) (records : ℕ → List Held) (live : ℕ → Bool) (master : ℕ) (row : Row) (call : Call) (item : Held) → Tables rows before.written before.handovers records live → Stages rows before after master row call item → Tables rows after.written after.handovers records live

@@ -14,25 +14,9 @@ use Rattle.rk_tablet_map.specs.declared.row.Row.{Row}
 use Rattle.rk_message.specs.declared.message.Message.{Message}
 use Rattle.rk_sound.specs.Terms.{Terms, HandoverFits, SentFits}
 use Rattle.rk_sound.specs.Changes.{IsServed}
-use Rattle.rk_laws_parts.proofs.Changing.{Lane, Freezes, Stages}
-use Rattle.rk_laws_parts.proofs.Seen.{LooksAs, each_looks_frozen}
+use Rattle.rk_laws_parts.proofs.Changing.{Lane, Stages}
+use Rattle.rk_laws_parts.proofs.Seen.{LooksAs}
 use Rattle.rk_laws_parts.proofs.Staged.{staged_looks}
-
--- a message is sent that speaks of no term and of no range too early
-pub terms_sent : (rows : List Row) (handovers : ℕ → ℕ → Handover) (wire : NumberMap Message) (number : ℕ) (message : Message) → Terms rows handovers wire → All (λ row. SentFits row message.body) rows → Terms rows handovers (insert wire number message)
-terms_sent rows handovers wire number message old says = record {
-  kept = old.kept;
-  apart = old.apart;
-  sent = each_insert (λ n m. All (λ row. SentFits row m.body) rows) wire number message old.sent says;
-}
-
--- fewer messages are on the wire
-pub terms_forgotten : (rows : List Row) (handovers : ℕ → ℕ → Handover) (wire less : NumberMap Message) → Terms rows handovers wire → HasNoMore less wire → Terms rows handovers less
-terms_forgotten rows handovers wire less old no_more = record {
-  kept = old.kept;
-  apart = old.apart;
-  sent = λ n m found. old.sent n m (no_more n m found);
-}
 
 -- a tablet that looks as before fits beside a row as before
 handover_looks : (row : Row) (number : ℕ) (old new : Handover) → LooksAs old new → HandoverFits row number old → HandoverFits row number new
@@ -57,11 +41,6 @@ terms_looks rows handovers handovers' wire old looks = record {
       ∙ old.apart master a b other (sym (looks master a).role.absent ∙ a_there) (sym (looks master b).role.absent ∙ b_there);
   sent = old.sent;
 }
-
--- a tablet that closes is frozen
-pub terms_frozen : (rows : List Row) (handovers now : ℕ → ℕ → Handover) (wire : NumberMap Message) (master number : ℕ) → Terms rows handovers wire → (handovers master number).role ≡ roles.Closing → Freezes master number handovers now → Terms rows now wire
-terms_frozen rows handovers now wire master number old closing change =
-    terms_looks rows handovers now wire old (each_looks_frozen master number handovers now closing change)
 
 -- a write is staged at a master that answers calls for its key
 pub terms_staged : (rows : List Row) (before after : Lane) (wire : NumberMap Message) (alive : Bool) (master : ℕ) (row : Row) (call : Call) (item : Held) → Terms rows before.handovers wire → Stages rows before after master row call item → IsServed rows (before.handovers master) alive master item.table item.key → Terms rows after.handovers wire
