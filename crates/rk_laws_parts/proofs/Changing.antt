@@ -13,7 +13,7 @@ use Rattle.rk_transfer.specs.declared.handover.Handover.{Handover}
 use Rattle.rk_tablet_map.specs.declared.row.Row.{Row}
 use Rattle.rk_world.specs.Ranges.{has_key}
 use Rattle.rk_world.specs.Written.{Written, member_truth, member_rest, member_material}
-use Rattle.rk_sound.specs.Small.{as_frozen, risen, with_one_more}
+use Rattle.rk_sound.specs.Small.{risen, with_one_more}
 
 -- what is kept for a number is this now, and what is kept for each other one is what it was
 pub record DiffersAt {X : Type 0} (number : ℕ) (thing : X) (old new : ℕ → X) : Type 0 where

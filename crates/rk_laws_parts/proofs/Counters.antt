@@ -1,11 +1,11 @@
 -- The part Counters through small changes.
-use Rattle.std.proofs.Common.{◌≡◌, ℕ, Bool, true, List, ◌+◌, Some, None, ◌++◌, Option, refl, sym, ap, subst, ◌∙◌, ⊎_elim}
+use Rattle.std.proofs.Common.{◌≡◌, ℕ, Bool, true, List, ◌+◌, Some, None, ◌++◌, Option, sym, ap, subst, ◌∙◌, ⊎_elim}
 use Rattle.std.specs.Prelude.{All, IfSome}
 use Rattle.std.specs.List.{Contains}
 use Rattle.std.proofs.lemmas.Bool.{cases_eq, cond-false}
 use Rattle.std.proofs.lemmas.List.Elements.{All-weaker, All-contains}
-use Rattle.rk_types.proofs.NumberMaps.{HasNoMore, each_insert, each_weaker}
-use Rattle.rk_types.specs.NumberMap.{NumberMap, get, insert}
+use Rattle.rk_types.proofs.NumberMaps.{each_weaker}
+use Rattle.rk_types.specs.NumberMap.{NumberMap, get}
 use Rattle.rk_types.specs.declared.call.Call.{Call}
 use Rattle.rk_types.specs.declared.call.Ended.{Ended}
 use Rattle.rk_types.specs.declared.held.Held.{Held}
@@ -16,7 +16,6 @@ use Rattle.rk_entry.specs.declared.entry.Entry.TheVariants as entries
 use Rattle.rk_done.specs.Completions.{Completions}
 use Rattle.rk_transfer.specs.Handover.{is_serving}
 use Rattle.rk_transfer.specs.declared.handover.Handover.{Handover}
-use Rattle.rk_transfer.specs.declared.role.Role.TheVariants as roles
 use Rattle.rk_tablet_map.specs.declared.row.Row.{Row}
 use Rattle.rk_message.specs.declared.message.Message.{Message}
 use Rattle.rk_world.specs.Base.{Base}
@@ -33,9 +32,9 @@ use Rattle.rk_sound.specs.Whole.{CountersOf}
 use Rattle.rk_sound.specs.Changes.{IsServed}
 use Rattle.rk_sound.specs.Small.{with_one_more}
 use Rattle.rk_laws_parts.proofs.Changing.{Lane, Stages}
-use Rattle.rk_laws_parts.proofs.Differs.{keeps_each, still_counts}
+use Rattle.rk_laws_parts.proofs.Differs.{still_counts}
 use Rattle.rk_laws_parts.proofs.Lists.{all_in}
-use Rattle.rk_laws_parts.proofs.Alike.{AreAlike, alike_all, alike_frozen, speaks_alike, handed_for_grant_alike, handed_by_alike}
+use Rattle.rk_laws_parts.proofs.Alike.{AreAlike, speaks_alike, handed_for_grant_alike, handed_by_alike}
 use Rattle.rk_laws_parts.proofs.Speakers.{speaker_of, speaker_is, none_waits, none_hands}
 use Rattle.rk_laws_parts.proofs.Staged.{Serves, serves_row, staged_alike, staged_speaker}
 use Rattle.rk_laws_parts.proofs.Nexts.{next_of_all, floor_of_all, next_push}

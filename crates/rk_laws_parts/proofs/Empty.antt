@@ -14,23 +14,14 @@ use Rattle.rk_world.specs.Base.{no_base}
 use Rattle.rk_world.specs.Tablet.{Tablet, no_tablet}
 use Rattle.rk_world.specs.RoleTests.{is_absent}
 use Rattle.rk_world.specs.Master.{Master, new_master, tablet_at}
-use Rattle.rk_world.specs.Written.{written_by, truth_of, rest_of}
-use Rattle.rk_world.specs.World.{new_world, master_at, backup_at, tablet_in, written_in, log_in, records_in, calls_in, lives}
+use Rattle.rk_world.specs.Written.{written_by, rest_of}
+use Rattle.rk_world.specs.World.{new_world, backup_at, tablet_in, written_in, records_in}
 use Rattle.rk_sound.specs.View.{View, view, truths, rests}
-use Rattle.rk_sound.specs.Nodes.{Nodes}
-use Rattle.rk_sound.specs.Terms.{Terms}
-use Rattle.rk_sound.specs.Cover.{Cover, IsEntryWithin, IsItemWithin, IsOfWholeRows}
-use Rattle.rk_sound.specs.Roles.{Roles}
-use Rattle.rk_sound.specs.Logs.{Logs, IsLog, stored_of}
-use Rattle.rk_sound.specs.Truth.{Truth}
-use Rattle.rk_sound.specs.Order.{Order}
-use Rattle.rk_sound.specs.Calls.{Calls, IsKnown, IsStagedEnd}
-use Rattle.rk_sound.specs.Counters.{Counters}
-use Rattle.rk_sound.specs.Rest.{Rest, Waits, IsLast}
-use Rattle.rk_sound.specs.Tables.{Tables}
+use Rattle.rk_sound.specs.Cover.{IsEntryWithin, IsItemWithin, IsOfWholeRows}
+use Rattle.rk_sound.specs.Logs.{IsLog, stored_of}
+use Rattle.rk_sound.specs.Calls.{IsKnown, IsStagedEnd}
+use Rattle.rk_sound.specs.Rest.{Waits, IsLast}
 use Rattle.rk_sound.specs.Receives.{IsBare, wanted_place}
-use Rattle.rk_sound.specs.Rebuilds.{Rebuilds}
-use Rattle.rk_sound.specs.Asked.{Asked}
 use Rattle.rk_sound.specs.Whole.{NodesOf, TermsOf, CoverOf, RolesOf, LogsOf, TruthOf, OrderOf, CallsOf, CountersOf, RestOf, TablesOf, RebuildsOf, AskedOf, IsSound}
 use Rattle.rk_laws_parts.proofs.Fresh.{each_fresh, there_fresh, each_backup_fresh}
 

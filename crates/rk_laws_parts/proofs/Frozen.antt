@@ -13,7 +13,7 @@ use Rattle.rk_tablet_map.specs.declared.phase.Phase.TheVariants.{Owned, Opening,
 use Rattle.rk_tablet_map.specs.declared.row.Row.{Row}
 use Rattle.rk_world.specs.Written.{member_material}
 use Rattle.rk_world.specs.World.{World}
-use Rattle.rk_sound.specs.View.{View, view, truths, rests}
+use Rattle.rk_sound.specs.View.{View, view, truths}
 use Rattle.rk_sound.specs.Posts.{post_of}
 use Rattle.rk_sound.specs.Logs.{stored_of}
 use Rattle.rk_sound.specs.Receives.{HandedFits, MembersFit, is_granted}

@@ -1,10 +1,10 @@
 -- Laws of the part Messages: what a message that is sent, and tablets that look the same, keep of it.
-use Rattle.std.proofs.Common.{sym, ap, subst, ◌∙◌, refl}
+use Rattle.std.proofs.Common.{sym, subst, ◌∙◌}
 use Rattle.std.specs.Prelude.{◌≡◌, ◌≤◌, ◌<◌, ◌-◌, ℕ, Bool, List, [], ◌∷◌, Option, None, All, slice_index_or}
 use Rattle.std.specs.List.{flat_map}
 use Rattle.std.proofs.lemmas.List.Elements.{All-weaker}
-use Rattle.rk_types.proofs.NumberMaps.{HasNoMore, each_insert, each_weaker}
-use Rattle.rk_types.specs.NumberMap.{NumberMap, get, insert}
+use Rattle.rk_types.proofs.NumberMaps.{each_weaker}
+use Rattle.rk_types.specs.NumberMap.{NumberMap, get}
 use Rattle.rk_types.specs.declared.call.Call.{Call}
 use Rattle.rk_types.specs.declared.call.Ended.{Ended}
 use Rattle.rk_types.specs.declared.held.Held.{Held}
@@ -20,7 +20,6 @@ use Rattle.rk_table.specs.Items.{at_hash}
 use Rattle.rk_table.specs.Scans.{batch_at, next_token}
 use Rattle.rk_done.specs.Completions.{Completions}
 use Rattle.rk_transfer.specs.declared.handover.Handover.{Handover}
-use Rattle.rk_transfer.specs.declared.role.Role.TheVariants as roles
 use Rattle.rk_tablet_map.specs.Phase.{lineage_of}
 use Rattle.rk_tablet_map.specs.declared.phase.Phase.{Phase}
 use Rattle.rk_tablet_map.specs.declared.phase.Phase.TheVariants.{Opening, Moving, Rebuilding}
@@ -45,7 +44,7 @@ use Rattle.rk_sound.specs.Posts.{post_of}
 use Rattle.rk_sound.specs.Logs.{stored_of}
 use Rattle.rk_sound.specs.Receives.{scan_items}
 use Rattle.rk_sound.specs.Rebuilds.{READ_BACKUP, IsReadPart}
-use Rattle.rk_sound.specs.Messages.{Messages, SaysOf, Says, IfMaster, ByMaster, IsOf, IsOfTarget, PrepareFits, CloseFits, RebuildFits, OwnFits, IsOwner, ReleaseFits, ReadyIn, TransferIn, IsFrozenSource, JoinedIn, RebuiltIn, GrantAgrees, AskAgrees, IsFromSource, PulledAgrees, GotAgrees, CopyIn}
+use Rattle.rk_sound.specs.Messages.{Messages, SaysOf, IfMaster, ByMaster, IsOf, IsOfTarget, PrepareFits, CloseFits, RebuildFits, OwnFits, IsOwner, ReleaseFits, ReadyIn, TransferIn, IsFrozenSource, JoinedIn, RebuiltIn, GrantAgrees, AskAgrees, IsFromSource, PulledAgrees, GotAgrees, CopyIn}
 use Rattle.rk_sound.specs.Changes.{IsServed}
 use Rattle.rk_laws_parts.proofs.Changing.{Lane, Stages}
 use Rattle.rk_laws_parts.proofs.Seen.{LooksAs, AllLook}

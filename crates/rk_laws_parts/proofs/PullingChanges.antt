@@ -5,7 +5,6 @@ use Rattle.std.specs.Prelude.{slice_index_or}
 use Rattle.std.specs.List.{Contains}
 use Rattle.std.proofs.lemmas.List.Elements.{Contains-get_or}
 use Rattle.rk_types.specs.NumberMap.{get}
-use Rattle.rk_types.specs.declared.held.Held.{Held}
 use Rattle.rk_types.specs.declared.held.Token.{Token}
 use Rattle.rk_types.specs.declared.lineage.Member.{Member}
 use Rattle.rk_table.specs.Order.{item_hash}
@@ -13,11 +12,9 @@ use Rattle.rk_table.specs.Scans.{passed}
 use Rattle.rk_tablet_map.specs.Phase.{lineage_of}
 use Rattle.rk_tablet_map.specs.declared.row.Row.{Row}
 use Rattle.rk_priority.specs.Hashes.{Hashes, contains}
-use Rattle.rk_world.specs.Ends.{items_of}
 use Rattle.rk_world.specs.Tablet.{Pulling}
-use Rattle.rk_world.specs.Written.{applied_entries}
 use Rattle.rk_sound.specs.View.{View}
-use Rattle.rk_sound.specs.Receives.{HasArrived, HasCome, IsFound, IsTarget, MembersFit, copied_items, entries_from}
+use Rattle.rk_sound.specs.Receives.{MembersFit}
 use Rattle.rk_sound.specs.Whole.{ReceivesOf, SoundView}
 use Rattle.rk_sound.specs.Moves.{GoesOn, IsPulling, MayGoOn, source_items}
 use Rattle.rk_sound.specs.Small.{gone_on, pulled}

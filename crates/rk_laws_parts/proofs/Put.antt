@@ -1,5 +1,5 @@
 -- What is kept for each number, or by each master of each tablet, where one of them is another now.
-use Rattle.std.proofs.Common.{◌≡◌, ℕ, Bool, cond, eqb, refl, sym, ap, subst, ◌∙◌, ⊎_elim}
+use Rattle.std.proofs.Common.{◌≡◌, ℕ, eqb, refl, sym, ap, subst, ◌∙◌, ⊎_elim}
 use Rattle.std.proofs.lemmas.Bool.{cases_eq, eq-eqb, ne_eqb, cond-true, cond-false}
 use Rattle.rk_sound.specs.Small.{put, put2}
 

@@ -17,7 +17,6 @@ use Rattle.rk_log.specs.Known.{Known}
 use Rattle.rk_log.specs.Log.{Log, known_of, with_entry}
 use Rattle.rk_transfer.specs.Handover.{is_serving}
 use Rattle.rk_transfer.specs.declared.handover.Handover.{Handover}
-use Rattle.rk_transfer.specs.declared.role.Role.TheVariants as roles
 use Rattle.rk_tablet_map.specs.Phase.{lineage_of, member as member_at}
 use Rattle.rk_tablet_map.specs.declared.phase.Phase.{Phase}
 use Rattle.rk_tablet_map.specs.declared.phase.Phase.TheVariants.{Owned, Opening, Moving, Rebuilding}
@@ -36,13 +35,13 @@ use Rattle.rk_sound.specs.Rows.{Rows, AreApart}
 use Rattle.rk_sound.specs.Logs.{Logs, stored_of}
 use Rattle.rk_sound.specs.Rebuilds.{Rebuilds, HasOwnRange, IsOfRange, IsRebuilder, MarkFits, MarkedFit, READ_BACKUP, TellNoMore, has_merged, marked_entries, member_marked, member_stored, stored_count, RowIsRebuilt}
 use Rattle.rk_sound.specs.Changes.{IsServed}
-use Rattle.rk_sound.specs.Small.{as_frozen, risen, with_one_more}
+use Rattle.rk_sound.specs.Small.{risen, with_one_more}
 use Rattle.rk_laws_parts.proofs.Changing.{Lane, Stages}
 use Rattle.rk_laws_parts.proofs.Differs.{differs_same}
 use Rattle.rk_laws_parts.proofs.Staged.{counted_same, first_apart, formed_apart, row_cases, written_cases, written_grown}
 use Rattle.rk_laws_parts.proofs.Applied.{applied_within}
 use Rattle.rk_laws_parts.proofs.Grows.{Extends, counting_extends, extends_behind, extends_itself, stored_push, take_extends, tells_extended}
-use Rattle.rk_laws_parts.proofs.Rebuilders.{last_member, piece_push, rebuilder_apart, rebuilder_serving, rebuilder_frozen}
+use Rattle.rk_laws_parts.proofs.Rebuilders.{last_member, piece_push, rebuilder_apart, rebuilder_serving}
 
 -- a master that rebuilds a row, by what masters have written and backups store
 abbrev pub IsRebuilderIn : (ℕ → Log) → (ℕ → Written) → (ℕ → Segments) → Row → List Member → ℕ → List Entry → Handover → Completions → Gather → List Ended → List Held → Type 0

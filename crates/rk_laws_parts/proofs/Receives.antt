@@ -40,7 +40,7 @@ use Rattle.rk_sound.specs.Counters.{Counters}
 use Rattle.rk_sound.specs.Rest.{FirstIsDone}
 use Rattle.rk_sound.specs.Receives.{Receives, IsBare, IsTarget, MembersFit, HandedFits, is_granted, wanted_place}
 use Rattle.rk_sound.specs.Changes.{IsServed}
-use Rattle.rk_sound.specs.Small.{as_frozen, risen, with_one_more}
+use Rattle.rk_sound.specs.Small.{risen, with_one_more}
 use Rattle.rk_laws_parts.proofs.Changing.{Lane, Stages}
 use Rattle.rk_laws_parts.proofs.Differs.{now_cases}
 use Rattle.rk_laws_parts.proofs.Apart.{key_outside}

@@ -14,7 +14,6 @@ use Rattle.rk_model.specs.Machine.{change_of}
 use Rattle.rk_entry.specs.declared.entry.Entry.{Entry}
 use Rattle.rk_entry.specs.declared.entry.Entry.TheVariants as entries
 use Rattle.rk_transfer.specs.declared.handover.Handover.{Handover}
-use Rattle.rk_transfer.specs.declared.role.Role.TheVariants as roles
 use Rattle.rk_tablet_map.specs.Phase.{lineage_of}
 use Rattle.rk_tablet_map.specs.declared.row.Row.{Row}
 use Rattle.rk_message.specs.declared.message.Message.{Message}
@@ -29,11 +28,10 @@ use Rattle.rk_world.specs.Master.{touches}
 use Rattle.rk_world.specs.Requests.{item_of}
 use Rattle.rk_world.specs.Coordinator.{Handed}
 use Rattle.rk_world.specs.Ledger.{LastCall}
-use Rattle.rk_world.specs.Written.{Written}
 use Rattle.rk_sound.specs.View.{View, truths, rests}
 use Rattle.rk_sound.specs.Rows.{Rows}
 use Rattle.rk_sound.specs.Posts.{post_of, bond_of, Holds, StillCounts}
-use Rattle.rk_sound.specs.Roles.{Roles, RoleFits}
+use Rattle.rk_sound.specs.Roles.{RoleFits}
 use Rattle.rk_sound.specs.Logs.{Logs, stored_of}
 use Rattle.rk_sound.specs.Counters.{Counters}
 use Rattle.rk_sound.specs.Rest.{Rest, IsRest, IsEntryOf, IsLast, IsLastAsked}

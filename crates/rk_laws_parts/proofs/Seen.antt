@@ -15,7 +15,6 @@ use Rattle.rk_sound.specs.Posts.Post.{Owner, OpeningSource, InvitedTarget, Ready
 use Rattle.rk_sound.specs.Handing.{is_wanting}
 use Rattle.rk_sound.specs.Messages.{HasJoined, HasRebuilt}
 use Rattle.rk_sound.specs.Small.{as_frozen, risen}
-use Rattle.rk_laws_parts.proofs.Differs.{keeps_each}
 
 -- a role stands for rows and messages as another one did
 pub record GoesOn (old new : Role) : Type 0 where

@@ -23,13 +23,13 @@ use Rattle.rk_world.specs.RoleTests.{is_idle}
 use Rattle.rk_world.specs.Master.{Master, tablet_at, new_master, touches}
 use Rattle.rk_world.specs.Ledger.{asked_by}
 use Rattle.rk_world.specs.Written.{written_by, member_truth}
-use Rattle.rk_world.specs.World.{tablet_in, written_in, calls_in, records_in, lives}
+use Rattle.rk_world.specs.World.{tablet_in, written_in, calls_in, lives}
 use Rattle.rk_sound.specs.Posts.{Post, post_of, StillCounts}
-use Rattle.rk_sound.specs.Calls.{Calls, IsKnown, IsReached, IsStagedEnd, ReachAll, TellAll, is_record_in}
-use Rattle.rk_sound.specs.Rest.{Rest, IsRest, FirstIsDone, OnlyIsUnnamed, IsLast, Waits, HasCall, EachHasCall, is_call_entry}
-use Rattle.rk_sound.specs.Tables.{Tables, HasItems, IsTableOf, has_all_items}
+use Rattle.rk_sound.specs.Calls.{IsKnown, IsReached, IsStagedEnd, ReachAll, TellAll, is_record_in}
+use Rattle.rk_sound.specs.Rest.{IsRest, FirstIsDone, OnlyIsUnnamed, IsLast, Waits, HasCall, EachHasCall, is_call_entry}
+use Rattle.rk_sound.specs.Tables.{HasItems, IsTableOf, has_all_items}
 use Rattle.rk_sound.specs.Whole.{CallsOf, RestOf, TablesOf}
-use Rattle.rk_laws_parts.proofs.SmallWorld.{small_world, small_ledger, small_end, small_entry, small_item, small_journal, small_map, small_master, small_placed, small_range, small_rests, small_row, small_truths, small_wire, small_view}
+use Rattle.rk_laws_parts.proofs.SmallWorld.{small_world, small_ledger, small_end, small_entry, small_item, small_journal, small_map, small_master, small_placed, small_range, small_rests, small_row, small_truths, small_view}
 use Rattle.rk_laws_parts.proofs.SmallWorldLooks.{all_one, each_master, each_none, each_speaking, each_tablet, first_place, nothing_kept, nothing_sent, one_stands, only_one, post_elsewhere}
 use Rattle.rk_laws_parts.proofs.SmallWorldHistory.{truth_is, small_live, small_legal}
 

@@ -17,12 +17,12 @@ use Rattle.rk_world.specs.Merge.{floor_of}
 use Rattle.rk_world.specs.Master.{tablet_at}
 use Rattle.rk_world.specs.Ledger.{asked_by}
 use Rattle.rk_world.specs.Written.{written_by}
-use Rattle.rk_world.specs.World.{tablet_in, written_in, lives}
+use Rattle.rk_world.specs.World.{written_in}
 use Rattle.rk_sound.specs.Truth.{Truth, IsTruth, IsAfterSeen}
 use Rattle.rk_sound.specs.Order.{Order, AreAbove}
-use Rattle.rk_sound.specs.Counters.{Counters, IsNext, AreAboveMap, IsFloor}
+use Rattle.rk_sound.specs.Counters.{IsNext, AreAboveMap, IsFloor}
 use Rattle.rk_sound.specs.Whole.{CountersOf}
-use Rattle.rk_laws_parts.proofs.SmallWorld.{small_world, small_ledger, small_entry, small_item, small_key, small_placed, small_range, small_row, small_map, small_journal, small_truths, small_rests, small_value, small_wire, small_view}
+use Rattle.rk_laws_parts.proofs.SmallWorld.{small_world, small_ledger, small_entry, small_item, small_key, small_placed, small_range, small_row, small_map, small_journal, small_truths, small_rests, small_value, small_view}
 use Rattle.rk_laws_parts.proofs.SmallWorldLooks.{each_speaking, nothing_kept, nothing_sent, all_one, only_one}
 
 -- the truth of the row is the put alone

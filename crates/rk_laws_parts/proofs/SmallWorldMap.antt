@@ -1,5 +1,5 @@
 -- The small world keeps the parts Nodes, Rows, Terms, Cover and Roles.
-use Rattle.std.proofs.Common.{[], ◌≡◌, ℕ, ◌≤◌, Bool, true, false, eqb, ◌||◌, length, None, refl, sym, ap, subst, ◌∙◌, arith}
+use Rattle.std.proofs.Common.{◌≡◌, ℕ, ◌≤◌, Bool, true, false, eqb, ◌||◌, length, None, refl, sym, ap, subst, ◌∙◌, arith}
 use Rattle.std.specs.Prelude.{All, IfSome, is_some}
 use Rattle.std.specs.List.{flat_map}
 use Rattle.std.proofs.lemmas.Bool.{eqb-true}
@@ -14,16 +14,15 @@ use Rattle.rk_world.specs.Tablet.{no_tablet}
 use Rattle.rk_world.specs.RoleTests.{is_absent}
 use Rattle.rk_world.specs.Master.{tablet_at}
 use Rattle.rk_world.specs.Notices.{names}
-use Rattle.rk_world.specs.World.{master_at, tablet_in, records_in, written_in, log_in, lives}
+use Rattle.rk_world.specs.World.{tablet_in, written_in, lives}
 use Rattle.rk_world.specs.Premises.{IsMaster}
-use Rattle.rk_sound.specs.Nodes.{Nodes}
-use Rattle.rk_sound.specs.Rows.{Rows, IsFormed, IsPlaced}
-use Rattle.rk_sound.specs.Terms.{Terms, HandoverFits, SentFits, IsWithinTerm, IsBelowOthers, tenure_in, range_in}
-use Rattle.rk_sound.specs.Cover.{Cover, IsWithinRows, IsItemWithin, IsEntryWithin, IsOfWholeRows}
+use Rattle.rk_sound.specs.Rows.{IsFormed, IsPlaced}
+use Rattle.rk_sound.specs.Terms.{HandoverFits, SentFits, IsWithinTerm, IsBelowOthers, tenure_in, range_in}
+use Rattle.rk_sound.specs.Cover.{IsWithinRows, IsItemWithin, IsEntryWithin, IsOfWholeRows}
 use Rattle.rk_sound.specs.Posts.{Post, Holds, bond_of, StillCounts}
-use Rattle.rk_sound.specs.Roles.{Roles, RoleFits, KeepTerm}
+use Rattle.rk_sound.specs.Roles.{RoleFits, KeepTerm}
 use Rattle.rk_sound.specs.Whole.{NodesOf, RowsOf, TermsOf, CoverOf, RolesOf}
-use Rattle.rk_laws_parts.proofs.SmallWorld.{small_world, small_entry, small_item, small_key, small_master, small_range, small_tablet, small_row, small_map, small_journal, small_placed, small_wire, small_request, small_append, small_told, small_reply, small_view}
+use Rattle.rk_laws_parts.proofs.SmallWorld.{small_world, small_entry, small_item, small_key, small_master, small_range, small_tablet, small_row, small_map, small_placed, small_request, small_append, small_told, small_reply, small_view}
 use Rattle.rk_laws_parts.proofs.SmallWorldLooks.{each_master, each_message, each_tablet, each_sent, all_one, not_owner, post_elsewhere}
 
 -- a master that the row names is the one that is there

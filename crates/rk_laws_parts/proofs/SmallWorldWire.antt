@@ -8,13 +8,13 @@ use Rattle.rk_types.specs.declared.call.Outcome.TheVariants as outcomes
 use Rattle.rk_model.specs.Merged.{lane_of_key}
 use Rattle.rk_tablet_map.specs.Phase.{lineage_of}
 use Rattle.rk_world.specs.Ledger.{asked_by}
-use Rattle.rk_world.specs.World.{backup_at, tablet_in, lives, log_in, records_in, written_in}
-use Rattle.rk_sound.specs.Receives.{Receives, HandedFits, IsBare, MembersFit, wanted_place}
-use Rattle.rk_sound.specs.Rebuilds.{Rebuilds, HasOwnRange, MarkFits, RowIsRebuilt}
-use Rattle.rk_sound.specs.Messages.{Messages, IsRecordAt, Says, SaysOf}
+use Rattle.rk_world.specs.World.{backup_at, lives, log_in, records_in, written_in}
+use Rattle.rk_sound.specs.Receives.{HandedFits, IsBare, MembersFit, wanted_place}
+use Rattle.rk_sound.specs.Rebuilds.{HasOwnRange, MarkFits, RowIsRebuilt}
+use Rattle.rk_sound.specs.Messages.{IsRecordAt, Says, SaysOf}
 use Rattle.rk_sound.specs.Asked.{Asked, IsLastCall, IsRequest, RequestFits, RequestSays, WasAsked}
 use Rattle.rk_sound.specs.Whole.{ReceivesOf, RebuildsOf, MessagesOf}
-use Rattle.rk_laws_parts.proofs.SmallWorld.{small_answer, small_asks, small_ledger, small_journal, small_key, small_map, small_placed, small_row, small_truths, small_wire, small_world, small_view}
+use Rattle.rk_laws_parts.proofs.SmallWorld.{small_answer, small_asks, small_ledger, small_journal, small_key, small_placed, small_row, small_truths, small_wire, small_world, small_view}
 use Rattle.rk_laws_parts.proofs.SmallWorldLooks.{all_one, each_client, each_message, each_request, each_sent, each_tablet, first_place}
 
 -- nothing moves, and nobody made ready for a tablet

@@ -6,11 +6,9 @@ use Rattle.rk_types.specs.declared.call.Call.{Call}
 use Rattle.rk_types.specs.declared.held.Held.{Held}
 use Rattle.rk_entry.specs.declared.entry.Entry.{Entry}
 use Rattle.rk_transfer.specs.declared.handover.Handover.{Handover}
-use Rattle.rk_transfer.specs.declared.role.Role.TheVariants as roles
 use Rattle.rk_tablet_map.specs.Phase.{lineage_of}
 use Rattle.rk_tablet_map.specs.declared.row.Row.{Row}
 use Rattle.rk_world.specs.Lineage.{first_of}
-use Rattle.rk_world.specs.Written.{Written}
 use Rattle.rk_sound.specs.Posts.{Post, Owner, OpeningSource, InvitedTarget, ReadyTarget, MovingSource, MovingTarget, OnlyRebuilder, FirstRebuilder, LastRebuilder, OutsideRebuilder, FormerMember, Bystander, post_of}
 use Rattle.rk_sound.specs.Tables.{Tables, IsTableOf, has_all_items}
 use Rattle.rk_laws_parts.proofs.Changing.{Lane, Stages}

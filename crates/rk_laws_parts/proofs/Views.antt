@@ -1,13 +1,10 @@
 -- What a change of one master makes of a view: one equation for each kind of change.
-use Rattle.std.proofs.Common.{◌≡◌, ℕ, List, refl, sym, ap, ◌∙◌}
+use Rattle.std.proofs.Common.{◌≡◌, ℕ, List, refl, ap, ◌∙◌}
 use Rattle.rk_types.specs.NumberMap.{NumberMap}
 use Rattle.rk_types.specs.declared.call.Call.{Call}
-use Rattle.rk_types.specs.declared.call.Ended.{Ended}
 use Rattle.rk_types.specs.declared.held.Held.{Held}
 use Rattle.rk_log.specs.Log.{Log}
-use Rattle.rk_done.specs.Completions.{Completions}
 use Rattle.rk_transfer.specs.declared.handover.Handover.{Handover}
-use Rattle.rk_world.specs.Gather.{Gather}
 use Rattle.rk_world.specs.Tablet.{Tablet, Pulling, with_handover}
 use Rattle.rk_world.specs.Master.{Master, tablet_at, with_tablet}
 use Rattle.rk_world.specs.Pulls.{with_pulling}

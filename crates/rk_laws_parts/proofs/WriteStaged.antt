@@ -7,16 +7,13 @@ use Rattle.rk_entry.specs.declared.entry.Entry.{Entry}
 use Rattle.rk_entry.specs.declared.entry.Entry.TheVariants as entries
 use Rattle.rk_tablet_map.specs.Phase.{lineage_of}
 use Rattle.rk_tablet_map.specs.declared.row.Row.{Row}
-use Rattle.rk_world.specs.Master.{Master}
 use Rattle.rk_world.specs.Requests.{counted_up, item_of, with_staged, write_staged}
-use Rattle.rk_world.specs.Ledger.{marks_of}
-use Rattle.rk_world.specs.Written.{written_by}
 use Rattle.rk_world.specs.World.{World, master_at, tablet_in}
 use Rattle.rk_sound.specs.View.{View, view, truths, rests}
 use Rattle.rk_sound.specs.Rest.{FirstIsDone}
 use Rattle.rk_sound.specs.Whole.{IsSound, SoundParts, SoundView}
 use Rattle.rk_sound.specs.Changes.{MayStage}
-use Rattle.rk_sound.specs.Small.{put, put2, staged, write_staged_in}
+use Rattle.rk_sound.specs.Small.{staged, write_staged_in}
 use Rattle.rk_laws_parts.proofs.Changing.{Stages}
 use Rattle.rk_laws_parts.proofs.Put.{put_same, put2_same}
 use Rattle.rk_laws_parts.proofs.Masters.{tablet_here, tablet_apart}

@@ -1,5 +1,5 @@
 -- Moves: the conditions of the small changes of roles, rebuilds and rows, over views. One that takes a row says that it stands there.
-use Rattle.std.specs.Prelude.{◌≡◌, ◌≢◌, ◌≤◌, ◌<◌, ℕ, ◌+◌, Bool, true, false, List, [], ◌∷◌, ◌++◌, Option, Some, None, Contains, All, length, drop, ◌⊎◌, ◌^◌}
+use Rattle.std.specs.Prelude.{◌≡◌, ◌≢◌, ◌≤◌, ◌<◌, ℕ, ◌+◌, true, false, List, [], ◌∷◌, ◌++◌, Option, Some, None, Contains, All, length, drop, ◌⊎◌, ◌^◌}
 use Rattle.std.specs.List.{flat_map, list_any}
 use Rattle.rk_types.specs.NumberMap.{get}
 use Rattle.rk_types.specs.Range.{meets}
