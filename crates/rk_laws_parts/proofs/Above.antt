@@ -10,7 +10,7 @@ use Rattle.rk_entry.specs.declared.entry.Entry.TheVariants as entries
 use Rattle.rk_overlay.specs.Newest.{is_of}
 use Rattle.rk_world.specs.Ends.{items_in, items_of}
 use Rattle.rk_world.specs.Merge.{floor_by, floor_of}
-use Rattle.rk_world.specs.Sound.Order.{IsAboveAll, AreAbove}
+use Rattle.rk_sound.specs.Order.{IsAboveAll, AreAbove}
 
 -- one more item at the end, above all before it
 pub above_push : (before items : List Held) (item : Held) → AreAbove before items → IsAboveAll (before ++ items) item → AreAbove before (items ++ item ∷ [])

@@ -12,7 +12,7 @@ use Rattle.rk_tablet_map.specs.declared.row.Row.{Row}
 use Rattle.rk_world.specs.Ranges.{has_key}
 
 -- one of a list with a first one is the first, or one of the others
-contains_cases : {X : Type 0} (first : X) (others : List X) (x : X) → Contains (first ∷ others) x → (first ≡ x) ⊎ Contains others x
+pub contains_cases : {X : Type 0} (first : X) (others : List X) (x : X) → Contains (first ∷ others) x → (first ≡ x) ⊎ Contains others x
 contains_cases first others x (zero, within, is) = inl is
 contains_cases first others x (suc k, within, is) = inr (k, omega (arith, within), is)
 

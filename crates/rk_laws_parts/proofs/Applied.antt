@@ -6,7 +6,7 @@ use Rattle.rk_log.proofs.Cuts.{length-ends}
 use Rattle.rk_log.specs.Cut.{ends}
 use Rattle.rk_log.specs.Log.{Log, is_held}
 use Rattle.rk_world.specs.Written.{Written}
-use Rattle.rk_world.specs.Sound.Logs.{IsLog}
+use Rattle.rk_sound.specs.Logs.{IsLog}
 
 -- what is applied stands in the log
 pub applied_within : (log : Log) (written : Written) (stored : ℕ → ℕ → List ℕ) → IsLog log written stored → written.applied ≤ length written.entries

@@ -5,8 +5,8 @@ use Rattle.std.specs.List.{Contains}
 use Rattle.std.proofs.lemmas.Bool.{cases_eq}
 use Rattle.std.proofs.lemmas.Grind.{flat_map-append}
 use Rattle.std.proofs.lemmas.List.Elements.{All-weaker, Contains-append_left}
-use Rattle.rk_types.proofs.NumberMaps.{HasNoMore, each_insert, each_weaker}
-use Rattle.rk_types.specs.NumberMap.{NumberMap, insert}
+use Rattle.rk_types.proofs.NumberMaps.{each_weaker}
+use Rattle.rk_types.specs.NumberMap.{NumberMap}
 use Rattle.rk_types.specs.declared.call.Call.{Call}
 use Rattle.rk_types.specs.declared.call.Ended.{Ended}
 use Rattle.rk_types.specs.declared.held.Held.{Held}
@@ -14,105 +14,67 @@ use Rattle.rk_types.specs.declared.history.Placed.{Placed}
 use Rattle.rk_entry.specs.declared.entry.Entry.{Entry}
 use Rattle.rk_entry.specs.declared.entry.Entry.TheVariants as entries
 use Rattle.rk_done.specs.Completions.{ends_of, Completions}
-use Rattle.rk_transfer.specs.declared.role.Role.TheVariants as roles
+use Rattle.rk_transfer.specs.declared.handover.Handover.{Handover}
 use Rattle.rk_tablet_map.specs.declared.row.Row.{Row}
 use Rattle.rk_message.specs.declared.message.Message.{Message}
 use Rattle.rk_world.specs.Ends.{told, told_by}
 use Rattle.rk_world.specs.Base.{Base}
-use Rattle.rk_world.specs.Tablet.{Tablet}
 use Rattle.rk_world.specs.Coordinator.{Handed}
-use Rattle.rk_world.specs.Sound.Posts.{post_of, speaks, StillCounts}
-use Rattle.rk_world.specs.Sound.Handing.{handed_by, handed_for_grant}
-use Rattle.rk_world.specs.Sound.Calls.{Calls, IsKnown, IsStagedEnd, ReachAll}
-use Rattle.rk_laws_parts.proofs.Changing.{Lane, Freezes, Stages}
+use Rattle.rk_sound.specs.Posts.{post_of, speaks, StillCounts}
+use Rattle.rk_sound.specs.Handing.{handed_by, handed_for_grant}
+use Rattle.rk_sound.specs.Calls.{Calls, IsKnown, IsStagedEnd, ReachAll}
+use Rattle.rk_laws_parts.proofs.Changing.{Lane, Stages}
 use Rattle.rk_laws_parts.proofs.Differs.{still_counts}
-use Rattle.rk_laws_parts.proofs.Alike.{AreAlike, alike_all, alike_frozen, speaks_alike, handed_for_grant_alike, handed_by_alike}
+use Rattle.rk_laws_parts.proofs.Alike.{AreAlike, speaks_alike, handed_for_grant_alike, handed_by_alike}
 use Rattle.rk_laws_parts.proofs.Staged.{staged_alike}
 
--- a message is put on the wire
-pub calls_sent : (base : Base) (rows : List Row) (truths rests : Row → List Entry) (tablets : ℕ → ℕ → Tablet) (live : ℕ → Bool) (handed : NumberMap Handed) (journal : List Placed) (wire : NumberMap Message) (number : ℕ) (message : Message) → Calls base rows truths rests tablets live handed journal wire → All (λ row. IfSome (handed_by row tablets message.body) (λ h. ReachAll row.range journal h.ends)) rows → Calls base rows truths rests tablets live handed journal (insert wire number message)
-calls_sent base rows truths rests tablets live handed journal wire number message old ends = record {
-  once = old.once;
-  reached = old.reached;
-  recorded = old.recorded;
-  answering = old.answering;
-  handed_on = old.handed_on;
-  sent =
-      each_insert (λ number message. All (λ row. IfSome (handed_by row tablets message.body) (λ h. ReachAll row.range journal h.ends)) rows) wire number message
-      old.sent ends;
-  known = old.known;
-}
-
--- fewer messages are on the wire
-pub calls_forgotten : (base : Base) (rows : List Row) (truths rests : Row → List Entry) (tablets : ℕ → ℕ → Tablet) (live : ℕ → Bool) (handed : NumberMap Handed) (journal : List Placed) (wire less : NumberMap Message) → Calls base rows truths rests tablets live handed journal wire → HasNoMore less wire → Calls base rows truths rests tablets live handed journal less
-calls_forgotten base rows truths rests tablets live handed journal wire less old no_more = record {
-  once = old.once;
-  reached = old.reached;
-  recorded = old.recorded;
-  answering = old.answering;
-  handed_on = old.handed_on;
-  sent = λ n m found. old.sent n m (no_more n m found);
-  known = old.known;
-}
-
 -- tablets become others that answer alike
-pub calls_alike : (base : Base) (rows : List Row) (truths rests : Row → List Entry) (tablets now : ℕ → ℕ → Tablet) (live : ℕ → Bool) (handed : NumberMap Handed) (journal : List Placed) (wire : NumberMap Message) → Calls base rows truths rests tablets live handed journal wire → AreAlike tablets now → Calls base rows truths rests now live handed journal wire
-calls_alike base rows truths rests tablets now live handed journal wire old alike = record {
+pub calls_alike : (base : Base) (rows : List Row) (truths rests : Row → List Entry) (handovers now : ℕ → ℕ → Handover) (completions : ℕ → ℕ → Completions) (live : ℕ → Bool) (handed : NumberMap Handed) (journal : List Placed) (wire : NumberMap Message) → Calls base rows truths rests handovers completions live handed journal wire → AreAlike handovers now → Calls base rows truths rests now completions live handed journal wire
+calls_alike base rows truths rests handovers now completions live handed journal wire old alike = record {
   once = old.once;
   reached = old.reached;
   recorded = old.recorded;
   answering = λ master.
       All-weaker
-      (λ row. StillCounts (live master) (tablets master row.tablet).handover.term row.term
-      → speaks (post_of row.phase master) (tablets master row.tablet).handover row.term ≡ true
-      → ReachAll row.range journal (ends_of (tablets master row.tablet).completions))
-      (λ row. StillCounts (live master) (now master row.tablet).handover.term row.term
-      → speaks (post_of row.phase master) (now master row.tablet).handover row.term ≡ true
-      → ReachAll row.range journal (ends_of (now master row.tablet).completions))
+      (λ row. StillCounts (live master) (handovers master row.tablet).term row.term
+      → speaks (post_of row.phase master) (handovers master row.tablet) row.term ≡ true
+      → ReachAll row.range journal (ends_of (completions master row.tablet)))
+      (λ row. StillCounts (live master) (now master row.tablet).term row.term
+      → speaks (post_of row.phase master) (now master row.tablet) row.term ≡ true
+      → ReachAll row.range journal (ends_of (completions master row.tablet)))
       (λ row reach counts says.
-      subst (λ (kept : Completions). ReachAll row.range journal (ends_of kept)) (sym (alike master row.tablet).same_ends)
-      (reach
-      (still_counts (live master) (tablets master row.tablet).handover.term (now master row.tablet).handover.term row.term (alike master row.tablet).same_term counts)
-      (sym (speaks_alike (post_of row.phase master) row.term (tablets master row.tablet) (now master row.tablet) (alike master row.tablet)) ∙ says)))
+      reach
+      (still_counts (live master) (handovers master row.tablet).term (now master row.tablet).term row.term (alike master row.tablet).same_term counts)
+      (sym (speaks_alike (post_of row.phase master) row.term (handovers master row.tablet) (now master row.tablet) (alike master row.tablet)) ∙ says))
       rows (old.answering master);
   handed_on =
       All-weaker
-      (λ row. IfSome (handed_for_grant row tablets handed) (λ h. ReachAll row.range journal h.ends))
+      (λ row. IfSome (handed_for_grant row handovers handed) (λ h. ReachAll row.range journal h.ends))
       (λ row. IfSome (handed_for_grant row now handed) (λ h. ReachAll row.range journal h.ends))
-      (λ row reach. subst (λ (o : Option Handed). IfSome o (λ h. ReachAll row.range journal h.ends)) (sym (handed_for_grant_alike row tablets now handed alike)) reach)
+      (λ row reach. subst (λ (o : Option Handed). IfSome o (λ h. ReachAll row.range journal h.ends)) (sym (handed_for_grant_alike row handovers now handed alike)) reach)
       rows old.handed_on;
   sent =
       each_weaker
-      (λ number message. All (λ row. IfSome (handed_by row tablets message.body) (λ h. ReachAll row.range journal h.ends)) rows)
+      (λ number message. All (λ row. IfSome (handed_by row handovers message.body) (λ h. ReachAll row.range journal h.ends)) rows)
       (λ number message. All (λ row. IfSome (handed_by row now message.body) (λ h. ReachAll row.range journal h.ends)) rows)
       wire
       (λ number message.
       All-weaker
-      (λ row. IfSome (handed_by row tablets message.body) (λ h. ReachAll row.range journal h.ends))
+      (λ row. IfSome (handed_by row handovers message.body) (λ h. ReachAll row.range journal h.ends))
       (λ row. IfSome (handed_by row now message.body) (λ h. ReachAll row.range journal h.ends))
-      (λ row reach. subst (λ (o : Option Handed). IfSome o (λ h. ReachAll row.range journal h.ends)) (sym (handed_by_alike row tablets now message.body alike)) reach)
+      (λ row reach. subst (λ (o : Option Handed). IfSome o (λ h. ReachAll row.range journal h.ends)) (sym (handed_by_alike row handovers now message.body alike)) reach)
       rows)
       old.sent;
   known = λ master tablet lives.
       subst
-      (λ (term : ℕ). All (λ end. IsKnown base journal end ⊎ IsStagedEnd rows rests master tablet term end) (ends_of (now master tablet).completions))
-      (sym (alike master tablet).same_term)
-      (subst
-      (λ (kept : Completions). All
-      (λ end. IsKnown base journal end ⊎ IsStagedEnd rows rests master tablet (tablets master tablet).handover.term end) (ends_of kept))
-      (sym (alike master tablet).same_ends) (old.known master tablet lives));
+      (λ (term : ℕ). All (λ end. IsKnown base journal end ⊎ IsStagedEnd rows rests master tablet term end) (ends_of (completions master tablet)))
+      (sym (alike master tablet).same_term) (old.known master tablet lives);
 }
 
--- a tablet freezes
-pub calls_frozen : (base : Base) (rows : List Row) (truths rests : Row → List Entry) (tablets now : ℕ → ℕ → Tablet) (live : ℕ → Bool) (handed : NumberMap Handed) (journal : List Placed) (wire : NumberMap Message) (master number : ℕ) → Calls base rows truths rests tablets live handed journal wire → (tablets master number).handover.role ≡ roles.Closing → Freezes master number tablets now → Calls base rows truths rests now live handed journal wire
-calls_frozen base rows truths rests tablets now live handed journal wire master number old closing freezes =
-    calls_alike base rows truths rests tablets now live handed journal wire old
-    (alike_all master number _ tablets now freezes (alike_frozen (tablets master number) closing))
-
 -- what stands behind the truths tells what it told, and more
-pub calls_more : (base : Base) (rows : List Row) (truths : Row → List Entry) (rests now : Row → List Entry) (tablets : ℕ → ℕ → Tablet) (live : ℕ → Bool) (handed : NumberMap Handed) (journal : List Placed) (wire : NumberMap Message) → Calls base rows truths rests tablets live handed journal wire
-    → ((row : Row) (end : Ended) → Contains rows row → Contains (told (rests row)) end → Contains (told (now row)) end) → Calls base rows truths now tablets live handed journal wire
-calls_more base rows truths rests now tablets live handed journal wire old more = record {
+pub calls_more : (base : Base) (rows : List Row) (truths : Row → List Entry) (rests now : Row → List Entry) (handovers : ℕ → ℕ → Handover) (completions : ℕ → ℕ → Completions) (live : ℕ → Bool) (handed : NumberMap Handed) (journal : List Placed) (wire : NumberMap Message) → Calls base rows truths rests handovers completions live handed journal wire
+    → ((row : Row) (end : Ended) → Contains rows row → Contains (told (rests row)) end → Contains (told (now row)) end) → Calls base rows truths now handovers completions live handed journal wire
+calls_more base rows truths rests now handovers completions live handed journal wire old more = record {
   once = old.once;
   reached = old.reached;
   recorded = old.recorded;
@@ -121,11 +83,11 @@ calls_more base rows truths rests now tablets live handed journal wire old more 
   sent = old.sent;
   known = λ master tablet lives.
       All-weaker
-      (λ end. IsKnown base journal end ⊎ IsStagedEnd rows rests master tablet (tablets master tablet).handover.term end)
-      (λ end. IsKnown base journal end ⊎ IsStagedEnd rows now master tablet (tablets master tablet).handover.term end)
+      (λ end. IsKnown base journal end ⊎ IsStagedEnd rows rests master tablet (handovers master tablet).term end)
+      (λ end. IsKnown base journal end ⊎ IsStagedEnd rows now master tablet (handovers master tablet).term end)
       (λ end known.
       ⊎_elim (λ (k : IsKnown base journal end). inl k)
-      (λ (s : IsStagedEnd rows rests master tablet (tablets master tablet).handover.term end).
+      (λ (s : IsStagedEnd rows rests master tablet (handovers master tablet).term end).
       inr (record {
         row = s.row;
         stands = s.stands;
@@ -134,15 +96,15 @@ calls_more base rows truths rests now tablets live handed journal wire old more 
         rebuilt = s.rebuilt;
         at_term = s.at_term;
       })) known)
-      (ends_of (tablets master tablet).completions) (old.known master tablet lives);
+      (ends_of (completions master tablet)) (old.known master tablet lives);
 }
 
 -- a write is staged
-pub calls_staged : (base : Base) (rows : List Row) (truths : Row → List Entry) (before after : Lane) (live : ℕ → Bool) (handed : NumberMap Handed) (journal : List Placed) (wire : NumberMap Message) (master : ℕ) (row : Row) (call : Call) (item : Held) → Calls base rows truths before.rests before.tablets live handed journal wire
-    → Stages rows before after master row call item → Calls base rows truths after.rests after.tablets live handed journal wire
-calls_staged base rows truths before after live handed journal wire master row call item old stages =
-    calls_alike base rows truths after.rests before.tablets after.tablets live handed journal wire
-    (calls_more base rows truths before.rests after.rests before.tablets live handed journal wire old
+pub calls_staged : (base : Base) (rows : List Row) (truths : Row → List Entry) (before after : Lane) (completions : ℕ → ℕ → Completions) (live : ℕ → Bool) (handed : NumberMap Handed) (journal : List Placed) (wire : NumberMap Message) (master : ℕ) (row : Row) (call : Call) (item : Held) → Calls base rows truths before.rests before.handovers completions live handed journal wire
+    → Stages rows before after master row call item → Calls base rows truths after.rests after.handovers completions live handed journal wire
+calls_staged base rows truths before after completions live handed journal wire master row call item old stages =
+    calls_alike base rows truths after.rests before.handovers after.handovers completions live handed journal wire
+    (calls_more base rows truths before.rests after.rests before.handovers completions live handed journal wire old
     (λ r end stands there.
     ⊎_elim
     (λ (at : r.tablet ≡ row.tablet).

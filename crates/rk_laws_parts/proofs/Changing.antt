@@ -9,12 +9,11 @@ use Rattle.rk_types.specs.declared.range.Range.{Range}
 use Rattle.rk_entry.specs.declared.entry.Entry.{Entry}
 use Rattle.rk_entry.specs.declared.entry.Entry.TheVariants as entries
 use Rattle.rk_log.specs.Log.{Log, with_entry}
+use Rattle.rk_transfer.specs.declared.handover.Handover.{Handover}
 use Rattle.rk_tablet_map.specs.declared.row.Row.{Row}
 use Rattle.rk_world.specs.Ranges.{has_key}
-use Rattle.rk_world.specs.Tablet.{Tablet}
-use Rattle.rk_world.specs.Requests.{counted_up}
 use Rattle.rk_world.specs.Written.{Written, member_truth, member_rest, member_material}
-use Rattle.rk_world.specs.Sound.Small.{as_frozen}
+use Rattle.rk_sound.specs.Small.{risen, with_one_more}
 
 -- what is kept for a number is this now, and what is kept for each other one is what it was
 pub record DiffersAt {X : Type 0} (number : ℕ) (thing : X) (old new : ℕ → X) : Type 0 where
@@ -22,24 +21,16 @@ pub record DiffersAt {X : Type 0} (number : ℕ) (thing : X) (old new : ℕ → 
   pub others : (q : ℕ) → (q ≡ number → ⊥) → new q ≡ old q
 
 -- what a master has of a tablet is this now, and all else is what it was
-pub record KeepsNow (master number : ℕ) (tablet : Tablet) (old new : ℕ → ℕ → Tablet) : Type 0 where
-  pub here : new master number ≡ tablet
+pub record KeepsNow (master number : ℕ) (handover : Handover) (old new : ℕ → ℕ → Handover) : Type 0 where
+  pub here : new master number ≡ handover
   pub others : (q r : ℕ) → (q ≡ master → r ≡ number → ⊥) → new q r ≡ old q r
-
--- a tablet froze at a master
-abbrev pub Freezes : ℕ → ℕ → (ℕ → ℕ → Tablet) → (ℕ → ℕ → Tablet) → Type 0
-Freezes master number tablets now = KeepsNow master number (as_frozen (tablets master number)) tablets now
-
--- what a master has written, with one more entry
-abbrev pub with_one_more : Written → Entry → Written
-with_one_more written entry = record written { entries = written.entries ++ entry ∷ [] }
 
 -- what a staged write changes of a lane: the logs of its masters, what they have written and keep, the calls that wait there, and
 -- the rests of rows
 pub record Lane : Type 0 where
   pub logs : ℕ → Log
   pub written : ℕ → Written
-  pub tablets : ℕ → ℕ → Tablet
+  pub handovers : ℕ → ℕ → Handover
   pub calls : ℕ → NumberMap Call
   pub rests : Row → List Entry
 
@@ -53,14 +44,14 @@ pub record Stages (rows : List Row) (before after : Lane) (master : ℕ) (row : 
   pub outside :
       (other : Row) → Contains rows other → (other.tablet ≡ row.tablet → ⊥)
       → has_key other.range item.table item.key ≡ false
-  pub version : item.version ≡ (before.tablets master row.tablet).handover.counter
+  pub version : item.version ≡ (before.handovers master row.tablet).counter
   -- what differs
   pub logs_differ : DiffersAt master (with_entry (before.logs master) (entries.Held item)) before.logs after.logs
   pub written_differ :
       DiffersAt master (with_one_more (before.written master) (entries.Held item)) before.written after.written
   pub calls_differ :
       DiffersAt master (insert (before.calls master) (length (before.written master).entries) call) before.calls after.calls
-  pub keeps_differ : KeepsNow master row.tablet (counted_up (before.tablets master row.tablet)) before.tablets after.tablets
+  pub keeps_differ : KeepsNow master row.tablet (risen (before.handovers master row.tablet)) before.handovers after.handovers
   pub rest_here : after.rests row ≡ before.rests row ++ entries.Held item ∷ []
   pub rest_others :
       (other : Row) → Contains rows other → (other.tablet ≡ row.tablet → ⊥) → after.rests other ≡ before.rests other

@@ -1,103 +1,80 @@
 -- The part Counters through small changes.
-use Rattle.std.proofs.Common.{◌≡◌, ℕ, Bool, true, List, ◌+◌, Some, None, ◌++◌, Option, refl, sym, ap, subst, ◌∙◌, ⊎_elim}
+use Rattle.std.proofs.Common.{◌≡◌, ℕ, Bool, true, List, ◌+◌, Some, None, ◌++◌, Option, sym, ap, subst, ◌∙◌, ⊎_elim}
 use Rattle.std.specs.Prelude.{All, IfSome}
 use Rattle.std.specs.List.{Contains}
 use Rattle.std.proofs.lemmas.Bool.{cases_eq, cond-false}
 use Rattle.std.proofs.lemmas.List.Elements.{All-weaker, All-contains}
-use Rattle.rk_types.proofs.NumberMaps.{HasNoMore, each_insert, each_weaker}
-use Rattle.rk_types.specs.NumberMap.{NumberMap, get, insert}
+use Rattle.rk_types.proofs.NumberMaps.{each_weaker}
+use Rattle.rk_types.specs.NumberMap.{NumberMap, get}
 use Rattle.rk_types.specs.declared.call.Call.{Call}
+use Rattle.rk_types.specs.declared.call.Ended.{Ended}
 use Rattle.rk_types.specs.declared.held.Held.{Held}
 use Rattle.rk_types.specs.declared.history.Placed.{Placed}
 use Rattle.rk_outside.specs.Segments.{Segments}
 use Rattle.rk_entry.specs.declared.entry.Entry.{Entry}
 use Rattle.rk_entry.specs.declared.entry.Entry.TheVariants as entries
+use Rattle.rk_done.specs.Completions.{Completions}
 use Rattle.rk_transfer.specs.Handover.{is_serving}
-use Rattle.rk_transfer.specs.declared.role.Role.TheVariants as roles
+use Rattle.rk_transfer.specs.declared.handover.Handover.{Handover}
 use Rattle.rk_tablet_map.specs.declared.row.Row.{Row}
 use Rattle.rk_message.specs.declared.message.Message.{Message}
 use Rattle.rk_world.specs.Base.{Base}
-use Rattle.rk_world.specs.Tablet.{Tablet}
 use Rattle.rk_world.specs.Coordinator.{Handed}
 use Rattle.rk_world.specs.Written.{Written}
-use Rattle.rk_world.specs.Sound.Rows.{Rows, IsFormed}
-use Rattle.rk_world.specs.Sound.Posts.{post_of, speaks, StillCounts}
-use Rattle.rk_world.specs.Sound.Roles.{Roles, RoleFits}
-use Rattle.rk_world.specs.Sound.Handing.{handed_by, handed_for_grant}
-use Rattle.rk_world.specs.Sound.Counters.{Counters, IsFloor, IsNext}
-use Rattle.rk_world.specs.Sound.Messages.{Messages, SaysOf}
-use Rattle.rk_world.specs.Sound.Changes.{IsServed}
-use Rattle.rk_laws_parts.proofs.Changing.{Lane, Freezes, Stages, with_one_more}
-use Rattle.rk_laws_parts.proofs.Differs.{keeps_each, still_counts}
+use Rattle.rk_sound.specs.View.{View, truths, rests}
+use Rattle.rk_sound.specs.Rows.{Rows, IsFormed}
+use Rattle.rk_sound.specs.Posts.{post_of, speaks, StillCounts}
+use Rattle.rk_sound.specs.Roles.{Roles, RoleFits}
+use Rattle.rk_sound.specs.Handing.{handed_by, handed_for_grant}
+use Rattle.rk_sound.specs.Counters.{Counters, IsFloor, IsNext}
+use Rattle.rk_sound.specs.Messages.{Messages, SaysOf}
+use Rattle.rk_sound.specs.Whole.{CountersOf}
+use Rattle.rk_sound.specs.Changes.{IsServed}
+use Rattle.rk_sound.specs.Small.{with_one_more}
+use Rattle.rk_laws_parts.proofs.Changing.{Lane, Stages}
+use Rattle.rk_laws_parts.proofs.Differs.{still_counts}
 use Rattle.rk_laws_parts.proofs.Lists.{all_in}
-use Rattle.rk_laws_parts.proofs.Alike.{AreAlike, alike_all, alike_frozen, speaks_alike, handed_for_grant_alike, handed_by_alike}
+use Rattle.rk_laws_parts.proofs.Alike.{AreAlike, speaks_alike, handed_for_grant_alike, handed_by_alike}
 use Rattle.rk_laws_parts.proofs.Speakers.{speaker_of, speaker_is, none_waits, none_hands}
 use Rattle.rk_laws_parts.proofs.Staged.{Serves, serves_row, staged_alike, staged_speaker}
 use Rattle.rk_laws_parts.proofs.Nexts.{next_of_all, floor_of_all, next_push}
 
--- a message is put on the wire
-pub counters_sent : (base : Base) (rows : List Row) (truths rests : Row → List Entry) (written : ℕ → Written) (tablets : ℕ → ℕ → Tablet) (live : ℕ → Bool) (handed : NumberMap Handed) (journal : List Placed) (wire : NumberMap Message) (number : ℕ) (message : Message) → Counters base rows truths rests written tablets live handed journal wire → All (λ row. IfSome (handed_by row tablets message.body) (λ h. IsFloor row (truths row ++ rests row) written h.floor)) rows → Counters base rows truths rests written tablets live handed journal (insert wire number message)
-counters_sent base rows truths rests written tablets live handed journal wire number message old floors = record {
-  low = old.low;
-  counted = old.counted;
-  handed_on = old.handed_on;
-  sent =
-      each_insert (λ number message. All (λ row. IfSome (handed_by row tablets message.body) (λ h. IsFloor row (truths row ++ rests row) written h.floor)) rows) wire number message
-      old.sent floors;
-}
-
--- fewer messages are on the wire
-pub counters_forgotten : (base : Base) (rows : List Row) (truths rests : Row → List Entry) (written : ℕ → Written) (tablets : ℕ → ℕ → Tablet) (live : ℕ → Bool) (handed : NumberMap Handed) (journal : List Placed) (wire less : NumberMap Message) → Counters base rows truths rests written tablets live handed journal wire → HasNoMore less wire → Counters base rows truths rests written tablets live handed journal less
-counters_forgotten base rows truths rests written tablets live handed journal wire less old no_more = record {
-  low = old.low;
-  counted = old.counted;
-  handed_on = old.handed_on;
-  sent = λ n m found. old.sent n m (no_more n m found);
-}
-
--- a tablet freezes
-pub counters_frozen : (base : Base) (rows : List Row) (truths rests : Row → List Entry) (written : ℕ → Written) (tablets now : ℕ → ℕ → Tablet) (live : ℕ → Bool) (handed : NumberMap Handed) (journal : List Placed) (wire : NumberMap Message) (master number : ℕ) → Counters base rows truths rests written tablets live handed journal wire → (tablets master number).handover.role ≡ roles.Closing → Freezes master number tablets now → Counters base rows truths rests written now live handed journal wire
-counters_frozen base rows truths rests written tablets now live handed journal wire master number old closing freezes =
-    let alike : AreAlike tablets now = alike_all master number _ tablets now freezes (alike_frozen (tablets master number) closing) in
+-- tablets become others that answer alike, with the same counters
+pub counters_alike : (v : View) (now : ℕ → ℕ → Handover) → CountersOf v (truths v) (rests v) → AreAlike v.handovers now → ((q r : ℕ) → (now q r).counter ≡ (v.handovers q r).counter) → CountersOf (record v { handovers = now }) (truths v) (rests v)
+counters_alike v now old alike same =
+    let Floors : Row → Option Handed → Type 0 = λ row given.
+    IfSome given (λ h. IsFloor row (truths v row ++ rests v row) v.written h.floor) in
     record {
       low = old.low;
       counted = λ q.
           All-weaker
-          (λ row. StillCounts (live q) (tablets q row.tablet).handover.term row.term
-          → speaks (post_of row.phase q) (tablets q row.tablet).handover row.term ≡ true
-          → IsNext row.range (truths row ++ rests row) (written q) (tablets q row.tablet).handover.counter)
-          (λ row. StillCounts (live q) (now q row.tablet).handover.term row.term
-          → speaks (post_of row.phase q) (now q row.tablet).handover row.term ≡ true
-          → IsNext row.range (truths row ++ rests row) (written q) (now q row.tablet).handover.counter)
+          (λ row. StillCounts (v.live q) (v.handovers q row.tablet).term row.term
+          → speaks (post_of row.phase q) (v.handovers q row.tablet) row.term ≡ true
+          → IsNext row.range (truths v row ++ rests v row) (v.written q) (v.handovers q row.tablet).counter)
+          (λ row. StillCounts (v.live q) (now q row.tablet).term row.term
+          → speaks (post_of row.phase q) (now q row.tablet) row.term ≡ true
+          → IsNext row.range (truths v row ++ rests v row) (v.written q) (now q row.tablet).counter)
           (λ row next counts says.
-          subst (IsNext row.range (truths row ++ rests row) (written q))
-          (sym (keeps_each (λ old new. new.handover.counter ≡ old.handover.counter) master number _ tablets now freezes (λ tablet. refl) refl q row.tablet))
+          subst (IsNext row.range (truths v row ++ rests v row) (v.written q)) (sym (same q row.tablet))
           (next
-          (still_counts (live q) (tablets q row.tablet).handover.term (now q row.tablet).handover.term row.term (alike q row.tablet).same_term counts)
-          (sym (speaks_alike (post_of row.phase q) row.term (tablets q row.tablet) (now q row.tablet) (alike q row.tablet)) ∙ says)))
-          rows (old.counted q);
+          (still_counts (v.live q) (v.handovers q row.tablet).term (now q row.tablet).term row.term (alike q row.tablet).same_term counts)
+          (sym (speaks_alike (post_of row.phase q) row.term (v.handovers q row.tablet) (now q row.tablet) (alike q row.tablet)) ∙ says)))
+          v.rows (old.counted q);
       handed_on =
-          All-weaker
-          (λ row. IfSome (handed_for_grant row tablets handed) (λ h. IsFloor row (truths row ++ rests row) written h.floor))
-          (λ row. IfSome (handed_for_grant row now handed) (λ h. IsFloor row (truths row ++ rests row) written h.floor))
-          (λ row floor. subst (λ (o : Option Handed). IfSome o (λ h. IsFloor row (truths row ++ rests row) written h.floor)) (sym (handed_for_grant_alike row tablets now handed alike)) floor)
-          rows old.handed_on;
+          All-weaker (λ row. Floors row (handed_for_grant row v.handovers v.handed))
+          (λ row. Floors row (handed_for_grant row now v.handed))
+          (λ row. subst (Floors row) (sym (handed_for_grant_alike row v.handovers now v.handed alike))) v.rows old.handed_on;
       sent =
-          each_weaker
-          (λ number message. All (λ row. IfSome (handed_by row tablets message.body) (λ h. IsFloor row (truths row ++ rests row) written h.floor)) rows)
-          (λ number message. All (λ row. IfSome (handed_by row now message.body) (λ h. IsFloor row (truths row ++ rests row) written h.floor)) rows)
-          wire
+          each_weaker (λ number message. All (λ row. Floors row (handed_by row v.handovers message.body)) v.rows)
+          (λ number message. All (λ row. Floors row (handed_by row now message.body)) v.rows) v.wire
           (λ number message.
-          All-weaker
-          (λ row. IfSome (handed_by row tablets message.body) (λ h. IsFloor row (truths row ++ rests row) written h.floor))
-          (λ row. IfSome (handed_by row now message.body) (λ h. IsFloor row (truths row ++ rests row) written h.floor))
-          (λ row floor. subst (λ (o : Option Handed). IfSome o (λ h. IsFloor row (truths row ++ rests row) written h.floor)) (sym (handed_by_alike row tablets now message.body alike)) floor)
-          rows)
+          All-weaker (λ row. Floors row (handed_by row v.handovers message.body)) (λ row. Floors row (handed_by row now message.body))
+          (λ row. subst (Floors row) (sym (handed_by_alike row v.handovers now message.body alike))) v.rows)
           old.sent;
     }
 
-module _ (rows : List Row) (truths : Row → List Entry) (before after : Lane) (live : ℕ → Bool) (handed : NumberMap Handed) (journal : List Placed) (master : ℕ) (row : Row) (call : Call) (item : Held) (stages : Stages rows before after master row call item) (roles_fit : Roles rows before.tablets before.written live) (rows_fit : Rows rows before.written journal) (here : Serves (before.tablets master) (live master) master row) where
-  alike : AreAlike before.tablets after.tablets
+module _ (rows : List Row) (truths : Row → List Entry) (before after : Lane) (live : ℕ → Bool) (handed : NumberMap Handed) (journal : List Placed) (master : ℕ) (row : Row) (call : Call) (item : Held) (stages : Stages rows before after master row call item) (roles_fit : Roles rows before.handovers before.written live) (rows_fit : Rows rows before.written journal) (here : Serves (before.handovers master) (live master) master row) where
+  alike : AreAlike before.handovers after.handovers
   alike = staged_alike rows before after master row call item stages
 
   speaker : master ≡ speaker_of row.phase
@@ -109,39 +86,39 @@ module _ (rows : List Row) (truths : Row → List Entry) (before after : Lane) (
   -- what a master counts for a row
   abbrev Counts : Lane → ℕ → Row → Type 0
   Counts lane q r =
-      StillCounts (live q) (lane.tablets q r.tablet).handover.term r.term
-      → speaks (post_of r.phase q) (lane.tablets q r.tablet).handover r.term ≡ true → IsNext r.range (truths r ++ lane.rests r) (lane.written q) (lane.tablets q r.tablet).handover.counter
+      StillCounts (live q) (lane.handovers q r.tablet).term r.term
+      → speaks (post_of r.phase q) (lane.handovers q r.tablet) r.term ≡ true → IsNext r.range (truths r ++ lane.rests r) (lane.written q) (lane.handovers q r.tablet).counter
 
   -- of the row itself only the master counts
   counted_here : (q : ℕ) → Counts before q row → Counts after q row
   counted_here q old counts says =
-      let counted : StillCounts (live q) (before.tablets q row.tablet).handover.term row.term =
-      still_counts (live q) (before.tablets q row.tablet).handover.term (after.tablets q row.tablet).handover.term row.term (alike q row.tablet).same_term counts in
-      let said : speaks (post_of row.phase q) (before.tablets q row.tablet).handover row.term ≡ true =
-      sym (speaks_alike (post_of row.phase q) row.term (before.tablets q row.tablet) (after.tablets q row.tablet) (alike q row.tablet)) ∙ says in
-      let fits : RoleFits row q (before.tablets q row.tablet).handover (before.written q).applied =
+      let counted : StillCounts (live q) (before.handovers q row.tablet).term row.term =
+      still_counts (live q) (before.handovers q row.tablet).term (after.handovers q row.tablet).term row.term (alike q row.tablet).same_term counts in
+      let said : speaks (post_of row.phase q) (before.handovers q row.tablet) row.term ≡ true =
+      sym (speaks_alike (post_of row.phase q) row.term (before.handovers q row.tablet) (after.handovers q row.tablet) (alike q row.tablet)) ∙ says in
+      let fits : RoleFits row q (before.handovers q row.tablet) (before.written q).applied =
       All-contains
-      (λ row. StillCounts (live q) (before.tablets q row.tablet).handover.term row.term
-      → RoleFits row q (before.tablets q row.tablet).handover (before.written q).applied) rows row (roles_fit.fitting q) stages.has_row counted in
-      let same : q ≡ master = speaker_is row q (before.tablets q row.tablet).handover (before.written q).applied fits said ∙ sym speaker in
-      let next : IsNext row.range (truths row ++ before.rests row) (before.written master) (before.tablets master row.tablet).handover.counter =
-      subst (λ (m : ℕ). IsNext row.range (truths row ++ before.rests row) (before.written m) (before.tablets m row.tablet).handover.counter) same (old counted said) in
-      let pushed = next_push row.range (truths row) (before.rests row) (before.written master) (before.tablets master row.tablet).handover.counter item stages.version next in
-      subst (λ (m : ℕ). IsNext row.range (truths row ++ after.rests row) (after.written m) (after.tablets m row.tablet).handover.counter) (sym same)
-      (subst (λ (w : Written). IsNext row.range (truths row ++ after.rests row) w (after.tablets master row.tablet).handover.counter) (sym stages.written_differ.here)
-      (subst (λ (t : Tablet). IsNext row.range (truths row ++ after.rests row) (with_one_more (before.written master) (entries.Held item)) t.handover.counter) (sym stages.keeps_differ.here)
-      (subst (λ (l : List Entry). IsNext row.range (truths row ++ l) (with_one_more (before.written master) (entries.Held item)) ((before.tablets master row.tablet).handover.counter + 1)) (sym stages.rest_here) pushed)))
+      (λ row. StillCounts (live q) (before.handovers q row.tablet).term row.term
+      → RoleFits row q (before.handovers q row.tablet) (before.written q).applied) rows row (roles_fit.fitting q) stages.has_row counted in
+      let same : q ≡ master = speaker_is row q (before.handovers q row.tablet) (before.written q).applied fits said ∙ sym speaker in
+      let next : IsNext row.range (truths row ++ before.rests row) (before.written master) (before.handovers master row.tablet).counter =
+      subst (λ (m : ℕ). IsNext row.range (truths row ++ before.rests row) (before.written m) (before.handovers m row.tablet).counter) same (old counted said) in
+      let pushed = next_push row.range (truths row) (before.rests row) (before.written master) (before.handovers master row.tablet).counter item stages.version next in
+      subst (λ (m : ℕ). IsNext row.range (truths row ++ after.rests row) (after.written m) (after.handovers m row.tablet).counter) (sym same)
+      (subst (λ (w : Written). IsNext row.range (truths row ++ after.rests row) w (after.handovers master row.tablet).counter) (sym stages.written_differ.here)
+      (subst (λ (t : Handover). IsNext row.range (truths row ++ after.rests row) (with_one_more (before.written master) (entries.Held item)) t.counter) (sym stages.keeps_differ.here)
+      (subst (λ (l : List Entry). IsNext row.range (truths row ++ l) (with_one_more (before.written master) (entries.Held item)) ((before.handovers master row.tablet).counter + 1)) (sym stages.rest_here) pushed)))
 
   -- of another row all counts as before
   counted_beside : (q : ℕ) (r : Row) → Contains rows r → (r.tablet ≡ row.tablet → ⊥) → Counts before q r → Counts after q r
   counted_beside q r stands apart old counts says =
-      let counted : StillCounts (live q) (before.tablets q r.tablet).handover.term r.term =
-      still_counts (live q) (before.tablets q r.tablet).handover.term (after.tablets q r.tablet).handover.term r.term (alike q r.tablet).same_term counts in
-      let said : speaks (post_of r.phase q) (before.tablets q r.tablet).handover r.term ≡ true =
-      sym (speaks_alike (post_of r.phase q) r.term (before.tablets q r.tablet) (after.tablets q r.tablet) (alike q r.tablet)) ∙ says in
-      subst (λ (t : Tablet). IsNext r.range (truths r ++ after.rests r) (after.written q) t.handover.counter) (sym (stages.keeps_differ.others q r.tablet (λ a b. apart b)))
-      (subst (λ (l : List Entry). IsNext r.range (truths r ++ l) (after.written q) (before.tablets q r.tablet).handover.counter) (sym (stages.rest_others r stands apart))
-      (next_of_all r.range (truths r ++ before.rests r) before.written after.written master (before.tablets q r.tablet).handover.counter item stages.written_differ (stages.outside r stands apart) q (old counted said)))
+      let counted : StillCounts (live q) (before.handovers q r.tablet).term r.term =
+      still_counts (live q) (before.handovers q r.tablet).term (after.handovers q r.tablet).term r.term (alike q r.tablet).same_term counts in
+      let said : speaks (post_of r.phase q) (before.handovers q r.tablet) r.term ≡ true =
+      sym (speaks_alike (post_of r.phase q) r.term (before.handovers q r.tablet) (after.handovers q r.tablet) (alike q r.tablet)) ∙ says in
+      subst (λ (t : Handover). IsNext r.range (truths r ++ after.rests r) (after.written q) t.counter) (sym (stages.keeps_differ.others q r.tablet (λ a b. apart b)))
+      (subst (λ (l : List Entry). IsNext r.range (truths r ++ l) (after.written q) (before.handovers q r.tablet).counter) (sym (stages.rest_others r stands apart))
+      (next_of_all r.range (truths r ++ before.rests r) before.written after.written master (before.handovers q r.tablet).counter item stages.written_differ (stages.outside r stands apart) q (old counted said)))
 
   -- what floors are handed over for a row
   abbrev Floors : Lane → Row → Option Handed → Type 0
@@ -164,17 +141,17 @@ module _ (rows : List Row) (truths : Row → List Entry) (before after : Lane) (
       (λ (apart : r.tablet ≡ row.tablet → ⊥). floors_beside r stands apart (given r) floor)
       (cases_eq r.tablet row.tablet))
 
-  serves_last : is_serving (before.tablets here.last.master row.tablet).handover.role ≡ true
-  serves_last = subst (λ (m : ℕ). is_serving (before.tablets m row.tablet).handover.role ≡ true) (sym here.here) here.serves
+  serves_last : is_serving (before.handovers here.last.master row.tablet).role ≡ true
+  serves_last = subst (λ (m : ℕ). is_serving (before.handovers m row.tablet).role ≡ true) (sym here.here) here.serves
 
-  none_kept : handed_for_grant row before.tablets handed ≡ None
+  none_kept : handed_for_grant row before.handovers handed ≡ None
   none_kept =
       cond-false _ (get handed row.tablet) None
-      (none_waits row before.tablets row.phase here.last formed here.is_last serves_last)
+      (none_waits row before.handovers row.phase here.last formed here.is_last serves_last)
 
-  counters_with : (base : Base) (stored : ℕ → Segments) (wire : NumberMap Message) → Counters base rows truths before.rests before.written before.tablets live handed journal wire → Messages rows before.logs before.written stored before.tablets live handed journal wire
-      → Counters base rows truths after.rests after.written after.tablets live handed journal wire
-  counters_with base stored wire old messages = record {
+  counters_with : (base : Base) (stored : ℕ → Segments) (completions : ℕ → ℕ → Completions) (merged : ℕ → ℕ → List Ended) (wire : NumberMap Message) → Counters base rows truths before.rests before.written before.handovers live handed journal wire → Messages rows before.logs before.written stored before.handovers completions merged live handed journal wire
+      → Counters base rows truths after.rests after.written after.handovers live handed journal wire
+  counters_with base stored completions merged wire old messages = record {
     low = old.low;
     counted = λ q.
         all_in (Counts before q) (Counts after q) rows
@@ -187,26 +164,26 @@ module _ (rows : List Row) (truths : Row → List Entry) (before after : Lane) (
         (cases_eq r.tablet row.tablet))
         (old.counted q);
     handed_on =
-        all_in (λ r. Floors before r (handed_for_grant r before.tablets handed)) (λ r. Floors after r (handed_for_grant r after.tablets handed)) rows
+        all_in (λ r. Floors before r (handed_for_grant r before.handovers handed)) (λ r. Floors after r (handed_for_grant r after.handovers handed)) rows
         (λ r stands floor.
-        floors_kept r stands (λ r. handed_for_grant r before.tablets handed) (λ r. handed_for_grant r after.tablets handed) (λ r. handed_for_grant_alike r before.tablets after.tablets handed alike) none_kept floor)
+        floors_kept r stands (λ r. handed_for_grant r before.handovers handed) (λ r. handed_for_grant r after.handovers handed) (λ r. handed_for_grant_alike r before.handovers after.handovers handed alike) none_kept floor)
         old.handed_on;
     sent = λ number message found.
-        let none : handed_by row before.tablets message.body ≡ None =
-        none_hands row before.logs before.written stored before.tablets live handed message.from message.to message.body here.last
-        (All-contains (λ row. SaysOf row before.logs before.written stored before.tablets live handed message.from message.to message.body) rows row (messages.of_rows number message found) stages.has_row)
+        let none : handed_by row before.handovers message.body ≡ None =
+        none_hands row before.logs before.written stored before.handovers completions merged live handed message.from message.to message.body here.last
+        (All-contains (λ row. SaysOf row before.logs before.written stored before.handovers completions merged live handed message.from message.to message.body) rows row (messages.of_rows number message found) stages.has_row)
         formed here.is_last (here.here ∙ speaker) serves_last in
-        all_in (λ r. Floors before r (handed_by r before.tablets message.body)) (λ r. Floors after r (handed_by r after.tablets message.body)) rows
+        all_in (λ r. Floors before r (handed_by r before.handovers message.body)) (λ r. Floors after r (handed_by r after.handovers message.body)) rows
         (λ r stands floor.
-        floors_kept r stands (λ r. handed_by r before.tablets message.body) (λ r. handed_by r after.tablets message.body) (λ r. handed_by_alike r before.tablets after.tablets message.body alike) none floor)
+        floors_kept r stands (λ r. handed_by r before.handovers message.body) (λ r. handed_by r after.handovers message.body) (λ r. handed_by_alike r before.handovers after.handovers message.body alike) none floor)
         (old.sent number message found);
   }
 
 -- a write is staged
-pub counters_staged : (base : Base) (rows : List Row) (truths : Row → List Entry) (before after : Lane) (stored : ℕ → Segments) (live : ℕ → Bool) (handed : NumberMap Handed) (journal : List Placed) (wire : NumberMap Message) (master : ℕ) (row : Row) (call : Call) (item : Held) → Counters base rows truths before.rests before.written before.tablets live handed journal wire
-    → Stages rows before after master row call item → IsServed rows (before.tablets master) (live master) master item.table item.key → Rows rows before.written journal → Roles rows before.tablets before.written live
-    → Messages rows before.logs before.written stored before.tablets live handed journal wire → Counters base rows truths after.rests after.written after.tablets live handed journal wire
-counters_staged base rows truths before after stored live handed journal wire master row call item old stages served rows_fit roles_fit messages =
+pub counters_staged : (base : Base) (rows : List Row) (truths : Row → List Entry) (before after : Lane) (stored : ℕ → Segments) (completions : ℕ → ℕ → Completions) (merged : ℕ → ℕ → List Ended) (live : ℕ → Bool) (handed : NumberMap Handed) (journal : List Placed) (wire : NumberMap Message) (master : ℕ) (row : Row) (call : Call) (item : Held) → Counters base rows truths before.rests before.written before.handovers live handed journal wire
+    → Stages rows before after master row call item → IsServed rows (before.handovers master) (live master) master item.table item.key → Rows rows before.written journal → Roles rows before.handovers before.written live
+    → Messages rows before.logs before.written stored before.handovers completions merged live handed journal wire → Counters base rows truths after.rests after.written after.handovers live handed journal wire
+counters_staged base rows truths before after stored completions merged live handed journal wire master row call item old stages served rows_fit roles_fit messages =
     counters_with rows truths before after live handed journal master row call item stages roles_fit rows_fit
     (serves_row rows before after master row call item stages (live master) served)
-    base stored wire old messages
+    base stored completions merged wire old messages

@@ -1,63 +1,31 @@
 -- Laws of the part Cover: what a message that is sent, tablets that look the same, and a staged write keep of it.
 use Rattle.std.proofs.Common.{sym, ap, subst, ◌∙◌}
-use Rattle.std.specs.Prelude.{◌≡◌, ◌≤◌, ℕ, Bool, true, List, All, IfSome, is_some}
+use Rattle.std.specs.Prelude.{◌≡◌, ◌≤◌, ℕ, Bool, true, List, All, is_some}
 use Rattle.std.specs.List.{Contains, flat_map}
 use Rattle.std.proofs.lemmas.List.Elements.{All-push}
 use Rattle.std.proofs.lemmas.List.Folds.{list_any_at}
-use Rattle.rk_types.proofs.NumberMaps.{HasNoMore, each_insert}
-use Rattle.rk_types.specs.NumberMap.{NumberMap, insert}
+use Rattle.rk_types.specs.NumberMap.{NumberMap}
 use Rattle.rk_types.specs.Range.{has}
 use Rattle.rk_types.specs.declared.call.Call.{Call}
 use Rattle.rk_types.specs.declared.held.Held.{Held}
 use Rattle.rk_entry.specs.declared.entry.Entry.TheVariants as entries
-use Rattle.rk_transfer.specs.declared.role.Role.TheVariants as roles
+use Rattle.rk_transfer.specs.declared.handover.Handover.{Handover}
 use Rattle.rk_tablet_map.specs.Rows.{row_of, is_covered}
 use Rattle.rk_tablet_map.specs.declared.row.Row.{Row}
 use Rattle.rk_message.specs.declared.message.Message.{Message}
 use Rattle.rk_world.specs.Marks.{Mark}
-use Rattle.rk_world.specs.Tablet.{Tablet}
 use Rattle.rk_world.specs.Written.{Written}
-use Rattle.rk_world.specs.Sound.Terms.{tenure_in, range_in}
-use Rattle.rk_world.specs.Sound.Cover.{Cover, IsWithinRows, IsItemWithin, IsEntryWithin, IsOfWholeRows}
-use Rattle.rk_world.specs.Sound.Changes.{IsServed}
-use Rattle.rk_laws_parts.proofs.Changing.{Lane, Freezes, Stages, with_one_more}
+use Rattle.rk_sound.specs.Cover.{Cover, IsWithinRows, IsItemWithin, IsEntryWithin, IsOfWholeRows}
+use Rattle.rk_sound.specs.Changes.{IsServed}
+use Rattle.rk_sound.specs.Small.{with_one_more}
+use Rattle.rk_laws_parts.proofs.Changing.{Lane, Stages}
 use Rattle.rk_laws_parts.proofs.Differs.{differs_each}
-use Rattle.rk_laws_parts.proofs.Seen.{LooksAs, each_looks_frozen}
+use Rattle.rk_laws_parts.proofs.Seen.{LooksAs}
 use Rattle.rk_laws_parts.proofs.Staged.{staged_looks, written_grown}
 
--- a message is sent whose tablet has a row, and whose range lies in rows
-pub cover_sent : (rows : List Row) (written : ℕ → Written) (tablets : ℕ → ℕ → Tablet) (records : ℕ → List Held) (wire : NumberMap Message) (number : ℕ) (message : Message) → Cover rows written tablets records wire → IfSome (tenure_in message.body) (λ tenure. is_some (row_of rows tenure.tablet) ≡ true) × IfSome (range_in message.body) (IsWithinRows rows) → Cover rows written tablets records (insert wire number message)
-cover_sent rows written tablets records wire number message old within = record {
-  unknown = old.unknown;
-  marks = old.marks;
-  sent =
-      each_insert (λ n m. IfSome (tenure_in m.body) (λ tenure. is_some (row_of rows tenure.tablet) ≡ true)) wire number message
-      old.sent within.0;
-  ranges = old.ranges;
-  ordered = each_insert (λ n m. IfSome (range_in m.body) (IsWithinRows rows)) wire number message old.ordered within.1;
-  entries = old.entries;
-  sides = old.sides;
-  items = old.items;
-  wholes = old.wholes;
-}
-
--- fewer messages are on the wire
-pub cover_forgotten : (rows : List Row) (written : ℕ → Written) (tablets : ℕ → ℕ → Tablet) (records : ℕ → List Held) (wire less : NumberMap Message) → Cover rows written tablets records wire → HasNoMore less wire → Cover rows written tablets records less
-cover_forgotten rows written tablets records wire less old no_more = record {
-  unknown = old.unknown;
-  marks = old.marks;
-  sent = λ n m found. old.sent n m (no_more n m found);
-  ranges = old.ranges;
-  ordered = λ n m found. old.ordered n m (no_more n m found);
-  entries = old.entries;
-  sides = old.sides;
-  items = old.items;
-  wholes = old.wholes;
-}
-
 -- each tablet looks as before
-pub cover_looks : (rows : List Row) (written : ℕ → Written) (tablets tablets' : ℕ → ℕ → Tablet) (records : ℕ → List Held) (wire : NumberMap Message) → Cover rows written tablets records wire → ((q r : ℕ) → LooksAs (tablets q r) (tablets' q r)) → Cover rows written tablets' records wire
-cover_looks rows written tablets tablets' records wire old looks = record {
+pub cover_looks : (rows : List Row) (written : ℕ → Written) (handovers handovers' : ℕ → ℕ → Handover) (records : ℕ → List Held) (wire : NumberMap Message) → Cover rows written handovers records wire → ((q r : ℕ) → LooksAs (handovers q r) (handovers' q r)) → Cover rows written handovers' records wire
+cover_looks rows written handovers handovers' records wire old looks = record {
   unknown = λ q r none. (looks q r).term ∙ old.unknown q r none;
   marks = old.marks;
   sent = old.sent;
@@ -71,11 +39,6 @@ cover_looks rows written tablets tablets' records wire old looks = record {
   wholes = old.wholes;
 }
 
--- a tablet that closes is frozen
-pub cover_frozen : (rows : List Row) (written : ℕ → Written) (tablets now : ℕ → ℕ → Tablet) (records : ℕ → List Held) (wire : NumberMap Message) (master number : ℕ) → Cover rows written tablets records wire → (tablets master number).handover.role ≡ roles.Closing → Freezes master number tablets now → Cover rows written now records wire
-cover_frozen rows written tablets now records wire master number old closing change =
-    cover_looks rows written tablets now records wire old (each_looks_frozen master number tablets now closing change)
-
 -- a hash of a row is covered
 pub covered_by : (rows : List Row) (row : Row) (table hash : ℕ) → Contains rows row → has row.range table hash ≡ true → is_covered rows table hash ≡ true
 covered_by rows row table hash stands here =
@@ -83,8 +46,8 @@ covered_by rows row table hash stands here =
     (ap (λ (r : Row). has r.range table hash) stands.2 ∙ here)
 
 -- each master has written the same marks and side items, and entries that lie in rows and are of whole ones
-cover_written : (rows : List Row) (written written' : ℕ → Written) (tablets : ℕ → ℕ → Tablet) (records : ℕ → List Held) (wire : NumberMap Message) → Cover rows written tablets records wire → ((q : ℕ) → (written' q).marks ≡ (written q).marks) → ((q : ℕ) → (written' q).sides ≡ (written q).sides) → ((q : ℕ) → All (IsEntryWithin rows) (written' q).entries) → ((q : ℕ) → All (IsOfWholeRows rows) (written' q).entries) → Cover rows written' tablets records wire
-cover_written rows written written' tablets records wire old marks sides new wholes = record {
+cover_written : (rows : List Row) (written written' : ℕ → Written) (handovers : ℕ → ℕ → Handover) (records : ℕ → List Held) (wire : NumberMap Message) → Cover rows written handovers records wire → ((q : ℕ) → (written' q).marks ≡ (written q).marks) → ((q : ℕ) → (written' q).sides ≡ (written q).sides) → ((q : ℕ) → All (IsEntryWithin rows) (written' q).entries) → ((q : ℕ) → All (IsOfWholeRows rows) (written' q).entries) → Cover rows written' handovers records wire
+cover_written rows written written' handovers records wire old marks sides new wholes = record {
   unknown = old.unknown;
   marks = λ q. subst (λ (ms : List Mark). All (λ mark. is_some (row_of rows mark.tablet) ≡ true) ms) (sym (marks q)) (old.marks q);
   sent = old.sent;
@@ -98,11 +61,11 @@ cover_written rows written written' tablets records wire old marks sides new who
 }
 
 -- a write is staged at a master that answers calls for its key
-pub cover_staged : (rows : List Row) (before after : Lane) (records : ℕ → List Held) (wire : NumberMap Message) (alive : Bool) (master : ℕ) (row : Row) (call : Call) (item : Held) → Cover rows before.written before.tablets records wire → Stages rows before after master row call item → IsServed rows (before.tablets master) alive master item.table item.key → Cover rows after.written after.tablets records wire
+pub cover_staged : (rows : List Row) (before after : Lane) (records : ℕ → List Held) (wire : NumberMap Message) (alive : Bool) (master : ℕ) (row : Row) (call : Call) (item : Held) → Cover rows before.written before.handovers records wire → Stages rows before after master row call item → IsServed rows (before.handovers master) alive master item.table item.key → Cover rows after.written after.handovers records wire
 cover_staged rows before after records wire alive master row call item old stages served =
     let grown = written_grown rows before after master row call item stages in
-    cover_written rows before.written after.written after.tablets records wire
-    (cover_looks rows before.written before.tablets after.tablets records wire old
+    cover_written rows before.written after.written after.handovers records wire
+    (cover_looks rows before.written before.handovers after.handovers records wire old
     (staged_looks rows before after master row call item stages alive served).each)
     (λ q. (grown q).marks) (λ q. (grown q).sides)
     (λ q.

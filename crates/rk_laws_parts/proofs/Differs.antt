@@ -2,8 +2,8 @@
 use Rattle.std.proofs.Common.{sym, subst, ◌∙◌, ⊎_elim, ◌≡◌, ℕ, ◌⊎◌, ap, inl, inr}
 use Rattle.std.specs.Prelude.{◌≡◌, ℕ, Bool, true}
 use Rattle.std.proofs.lemmas.Bool.{cases_eq}
-use Rattle.rk_world.specs.Tablet.{Tablet}
-use Rattle.rk_world.specs.Sound.Posts.{StillCounts}
+use Rattle.rk_transfer.specs.declared.handover.Handover.{Handover}
+use Rattle.rk_sound.specs.Posts.{StillCounts}
 use Rattle.rk_laws_parts.proofs.Changing.{DiffersAt, KeepsNow}
 
 -- what is kept for each number goes on as what was, where the one that differs does
@@ -17,24 +17,24 @@ differs_each {X} Follows number thing old new change same here q =
     (cases_eq q number)
 
 -- what each master has of a tablet goes on as what it kept, where the one that differs does
-pub keeps_each : (Follows : Tablet → Tablet → Type 0) (master number : ℕ) (tablet : Tablet) (tablets now : ℕ → ℕ → Tablet) → KeepsNow master number tablet tablets now → ((t : Tablet) → Follows t t) → Follows (tablets master number) tablet → (q r : ℕ) → Follows (tablets q r) (now q r)
-keeps_each Follows master number tablet tablets now change same here q r =
-    let unless : (q ≡ master → r ≡ number → ⊥) → Follows (tablets q r) (now q r) =
-    λ apart. subst (Follows (tablets q r)) (sym (change.others q r apart)) (same (tablets q r)) in
+pub keeps_each : (Follows : Handover → Handover → Type 0) (master number : ℕ) (handover : Handover) (handovers now : ℕ → ℕ → Handover) → KeepsNow master number handover handovers now → ((t : Handover) → Follows t t) → Follows (handovers master number) handover → (q r : ℕ) → Follows (handovers q r) (now q r)
+keeps_each Follows master number handover handovers now change same here q r =
+    let unless : (q ≡ master → r ≡ number → ⊥) → Follows (handovers q r) (now q r) =
+    λ apart. subst (Follows (handovers q r)) (sym (change.others q r apart)) (same (handovers q r)) in
     ⊎_elim
     (λ (of_master : q ≡ master).
     ⊎_elim
     (λ (of_number : r ≡ number).
-    subst (Follows (tablets q r)) (sym change.here ∙ sym (λ i. now (of_master i) (of_number i)))
-    (subst (λ (t : Tablet). Follows t tablet) (sym (λ i. tablets (of_master i) (of_number i))) here))
+    subst (Follows (handovers q r)) (sym change.here ∙ sym (λ i. now (of_master i) (of_number i)))
+    (subst (λ (t : Handover). Follows t handover) (sym (λ i. handovers (of_master i) (of_number i))) here))
     (λ (apart : r ≡ number → ⊥). unless (λ _ is. apart is))
     (cases_eq r number))
     (λ (apart : q ≡ master → ⊥). unless (λ is _. apart is))
     (cases_eq q master)
 
 -- a tablet is as it was, or it is the one that changed
-pub now_cases : (change : Tablet → Tablet) (tablets now : ℕ → ℕ → Tablet) (master number : ℕ) → KeepsNow master number (change (tablets master number)) tablets now → (q r : ℕ) → (now q r ≡ tablets q r) ⊎ ((q ≡ master) × (r ≡ number) × (now q r ≡ change (tablets q r)))
-now_cases change tablets now master number differs q r =
+pub now_cases : (change : Handover → Handover) (handovers now : ℕ → ℕ → Handover) (master number : ℕ) → KeepsNow master number (change (handovers master number)) handovers now → (q r : ℕ) → (now q r ≡ handovers q r) ⊎ ((q ≡ master) × (r ≡ number) × (now q r ≡ change (handovers q r)))
+now_cases change handovers now master number differs q r =
     ⊎_elim
     (λ (here : q ≡ master).
     ⊎_elim
@@ -43,7 +43,7 @@ now_cases change tablets now master number differs q r =
       here,
       its,
       ap (λ (n : ℕ). now n r) here ∙ ap (now master) its ∙ differs.here
-          ∙ sym (ap (λ (n : ℕ). change (tablets n r)) here ∙ ap (λ (n : ℕ). change (tablets master n)) its),
+          ∙ sym (ap (λ (n : ℕ). change (handovers n r)) here ∙ ap (λ (n : ℕ). change (handovers master n)) its),
     ))
     (λ (other : r ≡ number → ⊥). inl (differs.others q r (λ at its. other its)))
     (cases_eq r number))
@@ -51,12 +51,12 @@ now_cases change tablets now master number differs q r =
     (cases_eq q master)
 
 -- what does not see the change is the same of all
-pub now_same : {X : Type 0} (f : Tablet → X) (change : Tablet → Tablet) → ((tablet : Tablet) → f (change tablet) ≡ f tablet) → (tablets now : ℕ → ℕ → Tablet) (master number : ℕ) → KeepsNow master number (change (tablets master number)) tablets now → (q r : ℕ) → f (now q r) ≡ f (tablets q r)
-now_same {X} f change alike tablets now master number differs q r =
+pub now_same : {X : Type 0} (f : Handover → X) (change : Handover → Handover) → ((handover : Handover) → f (change handover) ≡ f handover) → (handovers now : ℕ → ℕ → Handover) (master number : ℕ) → KeepsNow master number (change (handovers master number)) handovers now → (q r : ℕ) → f (now q r) ≡ f (handovers q r)
+now_same {X} f change alike handovers now master number differs q r =
     ⊎_elim
-    (λ (same : now q r ≡ tablets q r). ap f same)
-    (λ (at : (q ≡ master) × (r ≡ number) × (now q r ≡ change (tablets q r))). ap f at.2 ∙ alike (tablets q r))
-    (now_cases change tablets now master number differs q r)
+    (λ (same : now q r ≡ handovers q r). ap f same)
+    (λ (at : (q ≡ master) × (r ≡ number) × (now q r ≡ change (handovers q r))). ap f at.2 ∙ alike (handovers q r))
+    (now_cases change handovers now master number differs q r)
 
 -- what is kept for a number is what it was, or it is what changed
 pub differs_cases : {X : Type 0} (change : X → X) (old new : ℕ → X) (number : ℕ) → DiffersAt number (change (old number)) old new → (q : ℕ) → (new q ≡ old q) ⊎ ((q ≡ number) × (new q ≡ change (old q)))

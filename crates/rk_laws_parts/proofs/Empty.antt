@@ -14,23 +14,15 @@ use Rattle.rk_world.specs.Base.{no_base}
 use Rattle.rk_world.specs.Tablet.{Tablet, no_tablet}
 use Rattle.rk_world.specs.RoleTests.{is_absent}
 use Rattle.rk_world.specs.Master.{Master, new_master, tablet_at}
-use Rattle.rk_world.specs.Written.{written_by, truth_of, rest_of}
-use Rattle.rk_world.specs.World.{new_world, master_at, backup_at, tablet_in, written_in, log_in, records_in, calls_in, lives}
-use Rattle.rk_world.specs.Sound.Nodes.{Nodes}
-use Rattle.rk_world.specs.Sound.Terms.{Terms}
-use Rattle.rk_world.specs.Sound.Cover.{Cover, IsEntryWithin, IsItemWithin, IsOfWholeRows}
-use Rattle.rk_world.specs.Sound.Roles.{Roles}
-use Rattle.rk_world.specs.Sound.Logs.{Logs, IsLog, stored_of}
-use Rattle.rk_world.specs.Sound.Truth.{Truth}
-use Rattle.rk_world.specs.Sound.Order.{Order}
-use Rattle.rk_world.specs.Sound.Calls.{Calls, IsKnown, IsStagedEnd}
-use Rattle.rk_world.specs.Sound.Counters.{Counters}
-use Rattle.rk_world.specs.Sound.Rest.{Rest, Waits, IsLast}
-use Rattle.rk_world.specs.Sound.Tables.{Tables}
-use Rattle.rk_world.specs.Sound.Receives.{IsBare, wanted_place}
-use Rattle.rk_world.specs.Sound.Rebuilds.{Rebuilds}
-use Rattle.rk_world.specs.Sound.Asked.{Asked}
-use Rattle.rk_world.specs.Sound.Whole.{IsSound}
+use Rattle.rk_world.specs.Written.{written_by, rest_of}
+use Rattle.rk_world.specs.World.{new_world, backup_at, tablet_in, written_in, records_in}
+use Rattle.rk_sound.specs.View.{View, view, truths, rests}
+use Rattle.rk_sound.specs.Cover.{IsEntryWithin, IsItemWithin, IsOfWholeRows}
+use Rattle.rk_sound.specs.Logs.{IsLog, stored_of}
+use Rattle.rk_sound.specs.Calls.{IsKnown, IsStagedEnd}
+use Rattle.rk_sound.specs.Rest.{Waits, IsLast}
+use Rattle.rk_sound.specs.Receives.{IsBare, wanted_place}
+use Rattle.rk_sound.specs.Whole.{NodesOf, TermsOf, CoverOf, RolesOf, LogsOf, TruthOf, OrderOf, CallsOf, CountersOf, RestOf, TablesOf, RebuildsOf, AskedOf, IsSound}
 use Rattle.rk_laws_parts.proofs.Fresh.{each_fresh, there_fresh, each_backup_fresh}
 
 -- nothing is kept
@@ -60,37 +52,6 @@ pub length_replicated : {X : Type 0} (count : ℕ) (thing : X) → length (repli
 length_replicated zero thing = refl
 length_replicated (suc count) thing = ap (λ (k : ℕ). suc k) (length_replicated count thing)
 
-module _ (lane masters backups : ℕ) where
-  nothing_of : (master tablet : ℕ) → tablet_in (new_world lane masters backups) master tablet ≡ no_tablet
-  nothing_of master tablet = ap (λ (m : Master). tablet_at m tablet) (each_fresh lane masters backups master).is_new
-
-  nodes_empty : 1 ≤ backups → Nodes (master_at (new_world lane masters backups)) masters backups [] [] (lives (new_world lane masters backups))
-  nodes_empty some = record {
-    numbered = λ master. ap (λ (m : Master). m.number) (each_fresh lane masters backups master).is_new;
-    backed = some;
-    known = λ master there.
-        ap (λ (m : Master). length m.log.known) (there_fresh lane masters backups master there)
-        ∙ length_replicated backups nothing;
-    named = λ master. All-nil _;
-    crashed = All-nil _;
-    left = λ master dead. absurd (cc);
-  }
-
-  terms_empty : Terms [] (tablet_in (new_world lane masters backups)) []
-  terms_empty = record {
-    handovers = λ master tablet. All-nil _;
-    apart = λ master a b apart first second. absurd (not_absent _ (nothing_of master a) first);
-    sent = nothing_kept _;
-  }
-
-  roles_empty : Roles [] (tablet_in (new_world lane masters backups)) (written_in (new_world lane masters backups)) (lives (new_world lane masters backups))
-  roles_empty = record {
-    fitting = λ master. All-nil _;
-    ranged = λ master. All-nil _;
-    at_term = All-nil _;
-    known = λ master tablet live apart. absurd (not_absent _ (nothing_of master tablet) apart);
-  }
-
 -- a new log, of which nothing is known, with what was written to it and a backup that stores nothing
 log_empty : (known : List Known) (stored : ℕ → ℕ → List ℕ) → ((place : ℕ) → get_or known place nothing ≡ nothing) → ((backup segment : ℕ) → stored backup segment ≡ []) → IsLog (new_log known) (written_by (new_master 0 known) []) stored
 log_empty known stored nothing_known nothing_stored = record {
@@ -109,7 +70,41 @@ log_empty known stored nothing_known nothing_stored = record {
 }
 
 module _ (lane masters backups : ℕ) where
-  logs_empty : Logs (log_in (new_world lane masters backups)) (written_in (new_world lane masters backups)) (backup_at (new_world lane masters backups)) []
+  -- what is seen of such a world
+  abbrev new : View
+  new = view (new_world lane masters backups)
+
+  nothing_of : (master tablet : ℕ) → tablet_in (new_world lane masters backups) master tablet ≡ no_tablet
+  nothing_of master tablet = ap (λ (m : Master). tablet_at m tablet) (each_fresh lane masters backups master).is_new
+
+  nodes_empty : 1 ≤ backups → NodesOf new
+  nodes_empty some = record {
+    numbered = λ master. ap (λ (m : Master). m.number) (each_fresh lane masters backups master).is_new;
+    backed = some;
+    known = λ master there.
+        ap (λ (m : Master). length m.log.known) (there_fresh lane masters backups master there)
+        ∙ length_replicated backups nothing;
+    named = λ master. All-nil _;
+    crashed = All-nil _;
+    left = λ master dead. absurd (cc);
+  }
+
+  terms_empty : TermsOf new
+  terms_empty = record {
+    kept = λ master tablet. All-nil _;
+    apart = λ master a b apart first second. absurd (not_absent _ (nothing_of master a) first);
+    sent = nothing_kept _;
+  }
+
+  roles_empty : RolesOf new
+  roles_empty = record {
+    fitting = λ master. All-nil _;
+    ranged = λ master. All-nil _;
+    at_term = All-nil _;
+    known = λ master tablet live apart. absurd (not_absent _ (nothing_of master tablet) apart);
+  }
+
+  logs_empty : LogsOf new
   logs_empty = record {
     each = λ master.
         let fresh = each_fresh lane masters backups master in
@@ -121,13 +116,13 @@ module _ (lane masters backups : ℕ) where
     sent = nothing_kept _;
   }
 
-  truth_empty : Truth no_base [] (truth_of no_base (written_in (new_world lane masters backups))) [] (λ client. None)
+  truth_empty : TruthOf new (truths new)
   truth_empty = record { legal = tt; rising = tt; seen = All-nil _; true = All-nil _ }
 
-  order_empty : Order [] (truth_of no_base (written_in (new_world lane masters backups))) (rest_of (written_in (new_world lane masters backups)))
+  order_empty : OrderOf new (truths new) (rests new)
   order_empty = record { above = All-nil _ }
 
-  calls_empty : Calls no_base [] (truth_of no_base (written_in (new_world lane masters backups))) (rest_of (written_in (new_world lane masters backups))) (tablet_in (new_world lane masters backups)) (lives (new_world lane masters backups)) [] [] []
+  calls_empty : CallsOf new (truths new) (rests new)
   calls_empty = record {
     once = λ i j a b first second same. absurd (cc);
     reached = All-nil _;
@@ -141,10 +136,10 @@ module _ (lane masters backups : ℕ) where
         (λ end. IsKnown no_base [] end
         ⊎ IsStagedEnd [] (rest_of (written_in (new_world lane masters backups))) master tablet t.handover.term end)
         (ends_of t.completions))
-        (sym (nothing_of lane masters backups master tablet)) (All-nil _);
+        (sym (nothing_of master tablet)) (All-nil _);
   }
 
-  counters_empty : Counters no_base [] (truth_of no_base (written_in (new_world lane masters backups))) (rest_of (written_in (new_world lane masters backups))) (written_in (new_world lane masters backups)) (tablet_in (new_world lane masters backups)) (lives (new_world lane masters backups)) [] [] []
+  counters_empty : CountersOf new (truths new) (rests new)
   counters_empty = record {
     low = All-nil _;
     counted = λ master. All-nil _;
@@ -152,7 +147,7 @@ module _ (lane masters backups : ℕ) where
     sent = nothing_kept _;
   }
 
-  rest_empty : Rest no_base [] (truth_of no_base (written_in (new_world lane masters backups))) (rest_of (written_in (new_world lane masters backups))) (written_in (new_world lane masters backups)) (tablet_in (new_world lane masters backups)) (calls_in (new_world lane masters backups)) (lives (new_world lane masters backups)) [] (λ client. None)
+  rest_empty : RestOf new (truths new) (rests new)
   rest_empty = record {
     goes_on = All-nil _;
     done = All-nil _;
@@ -161,7 +156,7 @@ module _ (lane masters backups : ℕ) where
     waiting = λ master live.
         subst
         (λ (m : Master). EachIn
-        (λ place call. Waits [] (tablet_in (new_world lane masters backups) master) (written_by m []) master place call) m.calls)
+        (λ place call. Waits [] (new.handovers master) (written_by m []) master place call) m.calls)
         (sym (each_fresh lane masters backups master).is_new) (nothing_kept _);
     are_last = λ master live.
         subst (λ (m : Master). EachIn (λ place call. IsLast None call) m.calls)
@@ -172,24 +167,24 @@ module _ (lane masters backups : ℕ) where
         absurd (cc);
   }
 
-  tables_empty : Tables [] (written_in (new_world lane masters backups)) (tablet_in (new_world lane masters backups)) (records_in (new_world lane masters backups)) (lives (new_world lane masters backups))
+  tables_empty : TablesOf new
   tables_empty = record {
     ordered = λ master. subst (λ (m : Master). IsInScanOrder m.records) (sym (each_fresh lane masters backups master).is_new) in_order_none;
     items = λ master live. All-nil _;
   }
 
-  rebuilds_empty : Rebuilds [] (truth_of no_base (written_in (new_world lane masters backups))) (log_in (new_world lane masters backups)) (written_in (new_world lane masters backups)) (backup_at (new_world lane masters backups)) (tablet_in (new_world lane masters backups)) (records_in (new_world lane masters backups)) (lives (new_world lane masters backups))
+  rebuilds_empty : RebuildsOf new (truths new)
   rebuilds_empty = record { rebuilt = All-nil _; marks = λ master. All-nil _; pieces = λ master. All-nil _ }
 
-  cover_empty : Cover [] (written_in (new_world lane masters backups)) (tablet_in (new_world lane masters backups)) (records_in (new_world lane masters backups)) []
+  cover_empty : CoverOf new
   cover_empty = record {
     unknown = λ master tablet none.
-        ap (λ (t : Tablet). t.handover.term) (nothing_of lane masters backups master tablet);
+        ap (λ (t : Tablet). t.handover.term) (nothing_of master tablet);
     marks = λ master. All-nil _;
     sent = nothing_kept _;
     ranges = λ master tablet some.
         let e : (tablet_in (new_world lane masters backups) master tablet).handover.term ≡ 0 =
-        ap (λ (t : Tablet). t.handover.term) (nothing_of lane masters backups master tablet) in
+        ap (λ (t : Tablet). t.handover.term) (nothing_of master tablet) in
         absurd (omega (arith, some, e));
     ordered = nothing_kept _;
     entries = λ master.
@@ -203,7 +198,7 @@ module _ (lane masters backups : ℕ) where
         subst (λ (m : Master). All (IsOfWholeRows []) m.log.entries) (sym (each_fresh lane masters backups master).is_new) (All-nil _);
   }
 
-  asked_empty : Asked lane (λ client. None) [] [] []
+  asked_empty : AskedOf new
   asked_empty = record {
     last = λ client. tt;
     own_keys = All-nil _;
@@ -215,11 +210,11 @@ module _ (lane masters backups : ℕ) where
 
   pub empty_is_sound : 1 ≤ backups → IsSound (new_world lane masters backups)
   empty_is_sound some = record {
-    nodes = nodes_empty lane masters backups some;
+    nodes = nodes_empty some;
     rows = record { apart = tt; begun = All-nil _; formed = All-nil _; placed = All-nil _; covered = All-nil _ };
-    terms = terms_empty lane masters backups;
+    terms = terms_empty;
     cover = cover_empty;
-    roles = roles_empty lane masters backups;
+    roles = roles_empty;
     logs = logs_empty;
     truth = truth_empty;
     order = order_empty;
@@ -234,7 +229,7 @@ module _ (lane masters backups : ℕ) where
           subst
           (λ (t : Tablet). IfSome (wanted_place t.handover.role)
           (λ from. IsBare t.handover.range from (written_in (new_world lane masters backups) master) (records_in (new_world lane masters backups) master)))
-          (sym (nothing_of lane masters backups master tablet)) tt;
+          (sym (nothing_of master tablet)) tt;
     };
     rebuilds = rebuilds_empty;
     messages = record { of_rows = nothing_kept _; others = nothing_kept _ };

@@ -1,5 +1,5 @@
--- What of a tablet stays the same when one froze.
-use Rattle.std.proofs.Common.{◌≡◌, ℕ, Bool, true, false, List, [], ◌∷◌, ◌⊎◌, refl, ap, ◌∙◌, ⊎_elim}
+-- A master that closes a tablet is of its row's lineage.
+use Rattle.std.proofs.Common.{◌≡◌, ℕ, Bool, true, false, List, [], ◌∷◌, refl}
 use Rattle.std.specs.Prelude.{◌==◌, if◌then◌else◌, Option, Some, None}
 use Rattle.std.proofs.lemmas.Bool.{or_left}
 use Rattle.rk_types.specs.declared.lineage.Member.{Member}
@@ -8,26 +8,7 @@ use Rattle.rk_tablet_map.specs.Phase.{lineage_of}
 use Rattle.rk_tablet_map.specs.declared.phase.Phase.{Phase}
 use Rattle.rk_tablet_map.specs.declared.phase.Phase.TheVariants.{Owned, Opening, Moving, Rebuilding}
 use Rattle.rk_world.specs.Lineage.{is_member}
-use Rattle.rk_world.specs.Tablet.{Tablet}
-use Rattle.rk_world.specs.Sound.Posts.{Owner, OpeningSource, MovingSource, MovingTarget, OnlyRebuilder, FirstRebuilder, LastRebuilder, OutsideRebuilder, FormerMember, Bystander, rebuilder_post, target_post, post_of, bond_of, Holds}
-use Rattle.rk_world.specs.Sound.Small.{as_frozen}
-use Rattle.rk_laws_parts.proofs.Changing.{Freezes}
-use Rattle.rk_laws_parts.proofs.Differs.{now_cases}
-
--- a tablet is as it was, or it is the one that froze
-pub froze_cases : (tablets now : ℕ → ℕ → Tablet) (master number : ℕ) → Freezes master number tablets now → (q r : ℕ) → (now q r ≡ tablets q r) ⊎ ((q ≡ master) × (r ≡ number) × (now q r ≡ as_frozen (tablets q r)))
-froze_cases tablets now master number froze q r = now_cases as_frozen tablets now master number froze q r
-
--- what is alike of a closing tablet and of the frozen one is the same of all
-pub froze_same : {X : Type 0} (f : Tablet → X) → ((tablet : Tablet) → tablet.handover.role ≡ roles.Closing → f (as_frozen tablet) ≡ f tablet) → (tablets now : ℕ → ℕ → Tablet) (master number : ℕ) → (tablets master number).handover.role ≡ roles.Closing → Freezes master number tablets now → (q r : ℕ) → f (now q r) ≡ f (tablets q r)
-froze_same {X} f alike tablets now master number closing froze q r =
-    ⊎_elim
-    (λ (same : now q r ≡ tablets q r). ap f same)
-    (λ (at : (q ≡ master) × (r ≡ number) × (now q r ≡ as_frozen (tablets q r))).
-    ap f at.2
-    ∙ alike (tablets q r)
-    (ap (λ (n : ℕ). (tablets n r).handover.role) at.0 ∙ ap (λ (n : ℕ). (tablets master n).handover.role) at.1 ∙ closing))
-    (froze_cases tablets now master number froze q r)
+use Rattle.rk_sound.specs.Posts.{Owner, OpeningSource, MovingSource, MovingTarget, OnlyRebuilder, FirstRebuilder, LastRebuilder, OutsideRebuilder, FormerMember, Bystander, rebuilder_post, target_post, post_of, bond_of, Holds}
 
 -- the heir of a lineage that closes is its only member
 heir_closes : (lineage : List Member) (master term own applied : ℕ) → Holds (bond_of (rebuilder_post lineage master) roles.Closing) term own applied → is_member lineage master ≡ true

@@ -18,7 +18,7 @@ use Rattle.rk_log.specs.declared.ends.EntryEnd.{EntryEnd}
 use Rattle.rk_world.specs.Ends.{items_in, items_of, told, told_by}
 use Rattle.rk_world.specs.Marks.{Mark, is_marked, unmarked, unmarked_from}
 use Rattle.rk_world.specs.Material.{counts, counting}
-use Rattle.rk_world.specs.Sound.Rebuilds.{TellNoMore, stored_count}
+use Rattle.rk_sound.specs.Rebuilds.{TellNoMore, stored_count}
 use Rattle.rk_laws_parts.proofs.Floors.{floor_append}
 
 -- entries are others with more behind them

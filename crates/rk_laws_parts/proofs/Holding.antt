@@ -8,7 +8,7 @@ use Rattle.rk_log.specs.Known.{Known, known_length}
 use Rattle.rk_log.specs.Log.{Log, IsBackup, known_of}
 use Rattle.rk_log.specs.declared.ends.EntryEnd.{EntryEnd}
 use Rattle.rk_world.specs.Written.{Written}
-use Rattle.rk_world.specs.Sound.Logs.{IsLog}
+use Rattle.rk_sound.specs.Logs.{IsLog}
 
 -- what is known to be stored is stored
 told_stored : (known : Known) (stored : ℕ → List ℕ) → ((segment : ℕ) → known_length known segment ≤ length (stored segment)) → (found : Option EntryEnd) → IfSome found (λ end. end.offset ≤ known_length known end.segment) → IfSome found (λ end. end.offset ≤ length (stored end.segment))

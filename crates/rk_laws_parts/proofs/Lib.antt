@@ -1,3 +1,4 @@
+pub mod Put
 pub mod Masters
 pub mod Changing
 pub mod Differs
@@ -5,9 +6,9 @@ pub mod Lists
 pub mod Fresh
 pub mod Empty
 pub mod Shares
-pub mod WorldFrozen
+pub mod Views
 pub mod Apart
-pub mod WorldStaged
+pub mod Staging
 pub mod Alike
 pub mod Speakers
 pub mod Seen
@@ -25,7 +26,6 @@ pub mod Calls
 pub mod Nexts
 pub mod Counters
 pub mod Messages
-pub mod Asked
 pub mod Serving
 pub mod Freezing
 pub mod Places
@@ -40,11 +40,16 @@ pub mod Tables
 pub mod Receives
 pub mod Rebuilds
 pub mod Rest
-pub mod SoundSent
-pub mod SoundForgotten
-pub mod SoundLedger
-pub mod SoundFrozen
-pub mod SoundStaged
+pub mod Sent
+pub mod Forgotten
+pub mod Come
+pub mod Saved
+pub mod Frozen
+pub mod WriteStaged
+pub mod PullingChanges
+pub mod HashWanted
+pub mod HashesResolved
+pub mod TokenPassed
 pub mod SmallWorld
 pub mod SmallWorldLooks
 pub mod SmallWorldMap

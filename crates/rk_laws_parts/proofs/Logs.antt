@@ -3,8 +3,8 @@ use Rattle.std.proofs.Common.{◌≡◌, ℕ, ◌≤◌, true, List, [], ◌∷�
 use Rattle.std.specs.Prelude.{◌≢◌, All}
 use Rattle.std.proofs.lemmas.Bool.{cases_eq}
 use Rattle.std.proofs.lemmas.List.Elements.{All-nil, All-push, All-weaker}
-use Rattle.rk_types.proofs.NumberMaps.{HasNoMore, each_insert, each_weaker}
-use Rattle.rk_types.specs.NumberMap.{NumberMap, insert}
+use Rattle.rk_types.proofs.NumberMaps.{each_weaker}
+use Rattle.rk_types.specs.NumberMap.{NumberMap}
 use Rattle.rk_types.specs.declared.call.Call.{Call}
 use Rattle.rk_types.specs.declared.held.Held.{Held}
 use Rattle.rk_types.specs.declared.node.Node.{Node}
@@ -22,24 +22,11 @@ use Rattle.rk_message.specs.declared.message.Message.{Message}
 use Rattle.rk_message.specs.declared.replication.Append.{Append}
 use Rattle.rk_world.specs.Marks.{Mark}
 use Rattle.rk_world.specs.Written.{Written}
-use Rattle.rk_world.specs.Sound.Logs.{IsFirstPart, IsCopy, IsKnownBefore, IsLog, IsFromLog, Logs, LogSays, segments_in, stored_of}
-use Rattle.rk_world.specs.Sound.Changes.{HasSegmentLeft}
-use Rattle.rk_laws_parts.proofs.Changing.{Lane, Stages, DiffersAt, with_one_more}
+use Rattle.rk_sound.specs.Logs.{IsFirstPart, IsCopy, IsKnownBefore, IsLog, IsFromLog, Logs, LogSays, segments_in, stored_of}
+use Rattle.rk_sound.specs.Changes.{HasSegmentLeft}
+use Rattle.rk_sound.specs.Small.{with_one_more}
+use Rattle.rk_laws_parts.proofs.Changing.{Lane, Stages, DiffersAt}
 use Rattle.rk_laws_parts.proofs.Segments.{Grows, grows_entry}
-
--- a message is put on the wire
-pub logs_sent : (logs : ℕ → Log) (written : ℕ → Written) (stored : ℕ → Segments) (wire : NumberMap Message) (number : ℕ) (message : Message) → Logs logs written stored wire → LogSays logs stored message.from message.to message.body → Logs logs written stored (insert wire number message)
-logs_sent logs written stored wire number message old says = record {
-  each = old.each;
-  sent = each_insert (λ number message. LogSays logs stored message.from message.to message.body) wire number message old.sent says;
-}
-
--- fewer messages are on the wire
-pub logs_forgotten : (logs : ℕ → Log) (written : ℕ → Written) (stored : ℕ → Segments) (wire less : NumberMap Message) → Logs logs written stored wire → HasNoMore less wire → Logs logs written stored less
-logs_forgotten logs written stored wire less old no_more = record {
-  each = old.each;
-  sent = λ n m found. old.sent n m (no_more n m found);
-}
 
 -- ---- a log grows at its end
 

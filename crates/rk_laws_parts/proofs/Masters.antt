@@ -6,7 +6,8 @@ use Rattle.rk_types.proofs.NumberMaps.{get_same, get_other}
 use Rattle.rk_world.specs.Tablet.{Tablet, no_tablet}
 use Rattle.rk_world.specs.Master.{Master, new_master, tablet_at, with_tablet}
 use Rattle.rk_world.specs.World.{World, master_at, tablet_in, with_master}
-use Rattle.rk_laws_parts.proofs.Changing.{KeepsNow}
+use Rattle.rk_sound.specs.Small.{put2}
+use Rattle.rk_laws_parts.proofs.Put.{put2_is}
 
 -- the master that was put
 pub master_same : (w : World) (number : ℕ) (master : Master) (q : ℕ) → q ≡ number → master_at (with_master w number master) q ≡ master
@@ -39,16 +40,18 @@ pub tablet_apart : (master : Master) (number : ℕ) (tablet : Tablet) (other : �
 tablet_apart master number tablet other apart =
     ap (λ (o : Option Tablet). unwrap_or o no_tablet) (get_other master.tablets number tablet other apart)
 
--- a world where one master keeps another tablet keeps all others as they were
-pub keeps_with : (w : World) (master number : ℕ) (changed : Master) (tablet : Tablet) → tablet_at changed number ≡ tablet → ((r : ℕ) → (r ≡ number → ⊥) → tablet_at changed r ≡ tablet_in w master r) → KeepsNow master number tablet (tablet_in w) (tablet_in (with_master w master changed))
-keeps_with w master number changed tablet here apart = record {
-  here = ap (λ (m : Master). tablet_at m number) (master_same w master changed master refl) ∙ here;
-  others = λ q r differs.
-      ⊎_elim
-      (λ (is : q ≡ master).
-      ap (λ (m : Master). tablet_at m r) (master_same w master changed q is)
-      ∙ apart r (λ same. differs is same)
-      ∙ ap (λ (n : ℕ). tablet_in w n r) (sym is))
-      (λ (other : q ≡ master → ⊥). ap (λ (m : Master). tablet_at m r) (master_other w master changed q other))
-      (cases_eq q master);
-}
+-- what is seen of the tablets of a world where one master keeps another one
+pub keeps_with : {X : Type 0} (f : Tablet → X) (w : World) (master number : ℕ) (changed : Master) (tablet : Tablet) → tablet_at changed number ≡ tablet → ((r : ℕ) → (r ≡ number → ⊥) → tablet_at changed r ≡ tablet_in w master r) → (q r : ℕ) → f (tablet_in (with_master w master changed) q r) ≡ put2 (λ q r. f (tablet_in w q r)) master number (f tablet) q r
+keeps_with {X} f w master number changed tablet here apart q r =
+    put2_is (λ q r. f (tablet_in w q r)) master number (f tablet) q r (f (tablet_in (with_master w master changed) q r))
+    (λ at its.
+    ap (λ (m : Master). f (tablet_at m r)) (master_same w master changed q at)
+    ∙ ap (λ (n : ℕ). f (tablet_at changed n)) its ∙ ap f here)
+    (λ differs.
+    ⊎_elim
+    (λ (at : q ≡ master).
+    ap (λ (m : Master). f (tablet_at m r)) (master_same w master changed q at)
+    ∙ ap f (apart r (λ its. differs at its))
+    ∙ ap (λ (n : ℕ). f (tablet_in w n r)) (sym at))
+    (λ (other : q ≡ master → ⊥). ap (λ (m : Master). f (tablet_at m r)) (master_other w master changed q other))
+    (cases_eq q master))

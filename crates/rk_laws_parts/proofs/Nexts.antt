@@ -18,8 +18,9 @@ use Rattle.rk_world.specs.Ends.{items_in, items_of}
 use Rattle.rk_world.specs.Lineage.{first_of}
 use Rattle.rk_world.specs.Merge.{floor_by, floor_of}
 use Rattle.rk_world.specs.Written.{Written}
-use Rattle.rk_world.specs.Sound.Counters.{items_written, IsNext, IsFloor}
-use Rattle.rk_laws_parts.proofs.Changing.{DiffersAt, with_one_more}
+use Rattle.rk_sound.specs.Counters.{items_written, IsNext, IsFloor}
+use Rattle.rk_sound.specs.Small.{with_one_more}
+use Rattle.rk_laws_parts.proofs.Changing.{DiffersAt}
 use Rattle.rk_laws_parts.proofs.Lists.{all_left, all_right}
 
 -- the items with one more at the end

@@ -13,10 +13,10 @@ use Rattle.rk_world.specs.Ends.{items_of}
 use Rattle.rk_world.specs.Base.{Base}
 use Rattle.rk_world.specs.Merge.{floor_of}
 use Rattle.rk_world.specs.Coordinator.{Handed}
-use Rattle.rk_world.specs.Sound.Posts.{post_of, speaks, StillCounts}
-use Rattle.rk_world.specs.Sound.Order.{Order, AreAbove}
-use Rattle.rk_world.specs.Sound.Counters.{Counters, IsNext}
-use Rattle.rk_world.specs.Sound.Changes.{IsServed}
+use Rattle.rk_sound.specs.Posts.{post_of, speaks, StillCounts}
+use Rattle.rk_sound.specs.Order.{Order, AreAbove}
+use Rattle.rk_sound.specs.Counters.{Counters, IsNext}
+use Rattle.rk_sound.specs.Changes.{IsServed}
 use Rattle.rk_laws_parts.proofs.Changing.{Lane, Stages}
 use Rattle.rk_laws_parts.proofs.Lists.{all_in}
 use Rattle.rk_laws_parts.proofs.Speakers.{speaks_serving}
@@ -26,15 +26,15 @@ use Rattle.rk_laws_parts.proofs.Nexts.{items_push}
 
 -- a write is staged
 pub order_staged : (base : Base) (rows : List Row) (truths : Row → List Entry) (before after : Lane) (live : ℕ → Bool) (handed : NumberMap Handed) (journal : List Placed) (wire : NumberMap Message) (master : ℕ) (row : Row) (call : Call) (item : Held) → Order rows truths before.rests
-    → Stages rows before after master row call item → IsServed rows (before.tablets master) (live master) master item.table item.key → Counters base rows truths before.rests before.written before.tablets live handed journal wire → Order rows truths after.rests
+    → Stages rows before after master row call item → IsServed rows (before.handovers master) (live master) master item.table item.key → Counters base rows truths before.rests before.written before.handovers live handed journal wire → Order rows truths after.rests
 order_staged base rows truths before after live handed journal wire master row call item old stages served counters =
     let here = serves_row rows before after master row call item stages (live master) served in
-    let next : IsNext row.range (truths row ++ before.rests row) (before.written master) (before.tablets master row.tablet).handover.counter =
+    let next : IsNext row.range (truths row ++ before.rests row) (before.written master) (before.handovers master row.tablet).counter =
     All-contains
-    (λ row. StillCounts (live master) (before.tablets master row.tablet).handover.term row.term
-    → speaks (post_of row.phase master) (before.tablets master row.tablet).handover row.term ≡ true → IsNext row.range (truths row ++ before.rests row) (before.written master) (before.tablets master row.tablet).handover.counter)
+    (λ row. StillCounts (live master) (before.handovers master row.tablet).term row.term
+    → speaks (post_of row.phase master) (before.handovers master row.tablet) row.term ≡ true → IsNext row.range (truths row ++ before.rests row) (before.written master) (before.handovers master row.tablet).counter)
     rows row (counters.counted master) stages.has_row (inl here.lives)
-    (speaks_serving (post_of row.phase master) (before.tablets master row.tablet).handover row.term here.serves) in
+    (speaks_serving (post_of row.phase master) (before.handovers master row.tablet) row.term here.serves) in
     let low : floor_of (truths row ++ before.rests row) ≤ item.version = omega (arith, next.low, stages.version) in
     record {
       above =

@@ -14,6 +14,7 @@ use Rattle.rk_entry.specs.declared.entry.Entry.TheVariants as entries
 use Rattle.rk_log.specs.Known.{Known}
 use Rattle.rk_table.specs.Items.{is_in}
 use Rattle.rk_transfer.specs.Handover.{is_serving}
+use Rattle.rk_transfer.specs.declared.handover.Handover.{Handover}
 use Rattle.rk_transfer.specs.declared.role.Role.{Role}
 use Rattle.rk_transfer.specs.declared.role.Role.TheVariants as roles
 use Rattle.rk_tablet_map.specs.declared.row.Row.{Row}
@@ -23,15 +24,15 @@ use Rattle.rk_world.specs.Ends.{items_of}
 use Rattle.rk_world.specs.Marks.{Mark, is_marked, unmarked_from}
 use Rattle.rk_world.specs.Material.{material_of, named, side_entries}
 use Rattle.rk_world.specs.Lineage.{is_member, last_of}
-use Rattle.rk_world.specs.Tablet.{Tablet}
 use Rattle.rk_world.specs.Master.{touches}
-use Rattle.rk_world.specs.Requests.{counted_up}
 use Rattle.rk_world.specs.Rebuilds.{own_place}
 use Rattle.rk_world.specs.Written.{Written, applied_entries}
-use Rattle.rk_world.specs.Sound.Receives.{IsFound}
-use Rattle.rk_world.specs.Sound.Rebuilds.{IsMergedOf, merged_place, IsPieceOf, IsRebuilder, IsRebuildTable, named_items, applied_from}
-use Rattle.rk_world.specs.Sound.Small.{as_frozen}
-use Rattle.rk_laws_parts.proofs.Changing.{with_one_more}
+use Rattle.rk_done.specs.Completions.{Completions}
+use Rattle.rk_types.specs.declared.call.Ended.{Ended}
+use Rattle.rk_world.specs.Gather.{Gather}
+use Rattle.rk_sound.specs.Receives.{IsFound}
+use Rattle.rk_sound.specs.Rebuilds.{IsMergedOf, merged_place, IsPieceOf, IsRebuilder, IsRebuildTable, named_items, applied_from}
+use Rattle.rk_sound.specs.Small.{as_frozen, risen, with_one_more}
 use Rattle.rk_laws_parts.proofs.Shares.{named_same, unmarked_from_last}
 use Rattle.rk_laws_parts.proofs.Places.{behind_none}
 
@@ -58,8 +59,8 @@ piece_push first past xs ys within =
     (cases_lt (length xs) first)
 
 -- the piece of a rebuild stands where it did, and still nothing of its range stands behind it
-piece_staged : (number from : ℕ) (tablet : Tablet) (merged : Merged) (w : Written) (item : Held) (entry : ℕ) → All (λ mark. mark.past ≤ length w.entries) w.marks → has_key tablet.handover.range item.table item.key ≡ false → IsPieceOf number from tablet merged w entry → IsPieceOf number from tablet merged (with_one_more w (entries.Held item)) entry
-piece_staged number from tablet merged w item entry marked outside piece =
+piece_staged : (number from : ℕ) (handover : Handover) (merged : Merged) (w : Written) (item : Held) (entry : ℕ) → All (λ mark. mark.past ≤ length w.entries) w.marks → has_key handover.range item.table item.key ≡ false → IsPieceOf number from handover merged w entry → IsPieceOf number from handover merged (with_one_more w (entries.Held item)) entry
+piece_staged number from handover merged w item entry marked outside piece =
     let inside : piece.mark.past ≤ length w.entries = All-contains (λ (mark : Mark). mark.past ≤ length w.entries) w.marks piece.mark marked piece.marked in
     let within : suc entry ≤ length w.entries = omega (arith, inside, piece.past_is) in
     record {
@@ -71,17 +72,17 @@ piece_staged number from tablet merged w item entry marked outside piece =
       behind = piece.behind;
       alone = piece.alone;
       stands = piece_push piece.mark.first (suc entry) w.entries (entries.Held item ∷ []) within ∙ piece.stands;
-      last = behind_none (touches tablet.handover.range) w.entries (suc entry) (entries.Held item) piece.last outside;
+      last = behind_none (touches handover.range) w.entries (suc entry) (entries.Held item) piece.last outside;
     }
 
 -- what was merged is what it was
-merged_staged : (number from : ℕ) (own : List Entry) (tablet : Tablet) (w : Written) (item : Held) (entry : ℕ) → All (λ mark. mark.past ≤ length w.entries) w.marks → has_key tablet.handover.range item.table item.key ≡ false → IsMergedOf number from own tablet w entry → IsMergedOf number from own tablet (with_one_more w (entries.Held item)) entry
-merged_staged number from own tablet w item entry marked outside merged = record {
+merged_staged : (number from : ℕ) (own : List Entry) (handover : Handover) (completions : Completions) (gather : Gather) (ends : List Ended) (w : Written) (item : Held) (entry : ℕ) → All (λ mark. mark.past ≤ length w.entries) w.marks → has_key handover.range item.table item.key ≡ false → IsMergedOf number from own handover completions gather ends w entry → IsMergedOf number from own handover completions gather ends (with_one_more w (entries.Held item)) entry
+merged_staged number from own handover completions gather ends w item entry marked outside merged = record {
   gathered_all = merged.gathered_all;
   merged = merged.merged;
   merged_is = merged.merged_is;
   ends_are = merged.ends_are;
-  piece = piece_staged number from tablet merged.merged w item entry marked outside merged.piece;
+  piece = piece_staged number from handover merged.merged w item entry marked outside merged.piece;
   counter = merged.counter;
   completions = merged.completions;
 }
@@ -122,18 +123,18 @@ placed_staged : (from : ℕ) (w : Written) (item : Held) → from ≤ length w.e
 placed_staged from w item within = omega (arith, within, length-append w.entries (entries.Held item ∷ []))
 
 -- a master that rebuilds a row, and wrote an item of another one
-pub rebuilder_apart : (row : Row) (lineage : List Member) (master : ℕ) (truth own : List Entry) (known : ℕ → Known) (stored : ℕ → ℕ → List ℕ) (w : Written) (tablet : Tablet) (table : List Held) (item : Held) → w.applied ≤ length w.entries → All (λ mark. mark.past ≤ length w.entries) w.marks → has_key row.range item.table item.key ≡ false → IsRebuilder row lineage master truth own known stored w tablet table → IsRebuilder row lineage master truth own known stored (with_one_more w (entries.Held item)) tablet table
-rebuilder_apart row lineage master truth own known stored w tablet table item fits marked outside was =
-    let from : ℕ = own_place tablet.handover.role in
+pub rebuilder_apart : (row : Row) (lineage : List Member) (master : ℕ) (truth own : List Entry) (known : ℕ → Known) (stored : ℕ → ℕ → List ℕ) (w : Written) (handover : Handover) (completions : Completions) (gather : Gather) (ends : List Ended) (table : List Held) (item : Held) → w.applied ≤ length w.entries → All (λ mark. mark.past ≤ length w.entries) w.marks → has_key row.range item.table item.key ≡ false → IsRebuilder row lineage master truth own known stored w handover completions gather ends table → IsRebuilder row lineage master truth own known stored (with_one_more w (entries.Held item)) handover completions gather ends table
+rebuilder_apart row lineage master truth own known stored w handover completions gather ends table item fits marked outside was =
+    let from : ℕ = own_place handover.role in
     record {
       range_is = was.range_is;
       gather = was.gather;
       read = was.read;
       placed = placed_staged from w item was.placed;
       merged =
-          IfSome_then (merged_place tablet.handover.role) was.merged
+          IfSome_then (merged_place handover.role) was.merged
           (λ entry merged.
-          merged_staged row.tablet from own tablet w item entry marked
+          merged_staged row.tablet from own handover completions gather ends w item entry marked
           (ap (λ (range : Range). has_key range item.table item.key) was.range_is ∙ outside) merged);
       items = records_staged row.range truth from w item table fits was.items;
       sides = sides_staged row.range truth from w item table was.placed was.sides;
@@ -141,26 +142,26 @@ rebuilder_apart row lineage master truth own known stored w tablet table item fi
     }
 
 -- a master that is to rebuild the row and still serves it, as a member of its lineage
-pub rebuilder_serving : (row : Row) (lineage : List Member) (master : ℕ) (truth own own' : List Entry) (known : ℕ → Known) (stored : ℕ → ℕ → List ℕ) (w : Written) (tablet : Tablet) (table : List Held) (item : Held) → w.applied ≤ length w.entries → is_serving tablet.handover.role ≡ true → is_member lineage master ≡ true → IsRebuilder row lineage master truth own known stored w tablet table → IsRebuilder row lineage master truth own' known stored (with_one_more w (entries.Held item)) (counted_up tablet) table
-rebuilder_serving row lineage master truth own own' known stored w tablet table item fits serves member was =
-    let from : ℕ = own_place tablet.handover.role in
+pub rebuilder_serving : (row : Row) (lineage : List Member) (master : ℕ) (truth own own' : List Entry) (known : ℕ → Known) (stored : ℕ → ℕ → List ℕ) (w : Written) (handover : Handover) (completions : Completions) (gather : Gather) (ends : List Ended) (table : List Held) (item : Held) → w.applied ≤ length w.entries → is_serving handover.role ≡ true → is_member lineage master ≡ true → IsRebuilder row lineage master truth own known stored w handover completions gather ends table → IsRebuilder row lineage master truth own' known stored (with_one_more w (entries.Held item)) (risen handover) completions gather ends table
+rebuilder_serving row lineage master truth own own' known stored w handover completions gather ends table item fits serves member was =
+    let from : ℕ = own_place handover.role in
     record {
       range_is = was.range_is;
       gather = was.gather;
       read = was.read;
       placed = placed_staged from w item was.placed;
       merged =
-          subst (λ (place : Option ℕ). IfSome place (λ entry. IsMergedOf row.tablet from own' (counted_up tablet) (with_one_more w (entries.Held item)) entry))
-          (sym (serving_merged tablet.handover.role serves)) tt;
+          subst (λ (place : Option ℕ). IfSome place (λ entry. IsMergedOf row.tablet from own' (risen handover) completions gather ends (with_one_more w (entries.Held item)) entry))
+          (sym (serving_merged handover.role serves)) tt;
       items = records_staged row.range truth from w item table fits was.items;
       sides = sides_staged row.range truth from w item table was.placed was.sides;
       outside = λ apart. absurd (false≢true (sym apart ∙ member));
     }
 
 -- a master that is to rebuild a row, with a tablet that froze
-pub rebuilder_frozen : (row : Row) (lineage : List Member) (master : ℕ) (truth : List Entry) (own : ℕ → List Entry) (known : ℕ → Known) (stored : ℕ → ℕ → List ℕ) (w : Written) (tablet : Tablet) (table : List Held) → tablet.handover.role ≡ roles.Closing → IsRebuilder row lineage master truth (own (own_place tablet.handover.role)) known stored w tablet table → IsRebuilder row lineage master truth (own 0) known stored w (as_frozen tablet) table
-rebuilder_frozen row lineage master truth own known stored w tablet table closing was =
-    let first : own_place tablet.handover.role ≡ 0 = ap own_place closing in
+pub rebuilder_frozen : (row : Row) (lineage : List Member) (master : ℕ) (truth : List Entry) (own : ℕ → List Entry) (known : ℕ → Known) (stored : ℕ → ℕ → List ℕ) (w : Written) (handover : Handover) (completions : Completions) (gather : Gather) (ends : List Ended) (table : List Held) → handover.role ≡ roles.Closing → IsRebuilder row lineage master truth (own (own_place handover.role)) known stored w handover completions gather ends table → IsRebuilder row lineage master truth (own 0) known stored w (as_frozen handover) completions gather ends table
+rebuilder_frozen row lineage master truth own known stored w handover completions gather ends table closing was =
+    let first : own_place handover.role ≡ 0 = ap own_place closing in
     record {
       range_is = was.range_is;
       gather = was.gather;

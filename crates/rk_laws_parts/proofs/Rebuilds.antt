@@ -16,7 +16,7 @@ use Rattle.rk_entry.specs.declared.entry.Entry.TheVariants as entries
 use Rattle.rk_log.specs.Known.{Known}
 use Rattle.rk_log.specs.Log.{Log, known_of, with_entry}
 use Rattle.rk_transfer.specs.Handover.{is_serving}
-use Rattle.rk_transfer.specs.declared.role.Role.TheVariants as roles
+use Rattle.rk_transfer.specs.declared.handover.Handover.{Handover}
 use Rattle.rk_tablet_map.specs.Phase.{lineage_of, member as member_at}
 use Rattle.rk_tablet_map.specs.declared.phase.Phase.{Phase}
 use Rattle.rk_tablet_map.specs.declared.phase.Phase.TheVariants.{Owned, Opening, Moving, Rebuilding}
@@ -26,52 +26,31 @@ use Rattle.rk_world.specs.Ranges.{has_key}
 use Rattle.rk_world.specs.Marks.{Mark, unmarked_from}
 use Rattle.rk_world.specs.Material.{counting}
 use Rattle.rk_world.specs.Lineage.{is_member, last_of}
-use Rattle.rk_world.specs.Tablet.{Tablet}
-use Rattle.rk_world.specs.Requests.{counted_up}
 use Rattle.rk_world.specs.Rebuilds.{own_place}
 use Rattle.rk_world.specs.Written.{Written, member_material}
-use Rattle.rk_world.specs.Sound.Rows.{Rows, AreApart}
-use Rattle.rk_world.specs.Sound.Logs.{Logs, stored_of}
-use Rattle.rk_world.specs.Sound.Rebuilds.{Rebuilds, HasOwnRange, IsOfRange, IsRebuilder, MarkFits, MarkedFit, READ_BACKUP, TellNoMore, has_merged, marked_entries, member_marked, member_stored, stored_count, RowIsRebuilt}
-use Rattle.rk_world.specs.Sound.Changes.{IsServed}
-use Rattle.rk_world.specs.Sound.Small.{as_frozen}
-use Rattle.rk_laws_parts.proofs.Changing.{Lane, Freezes, Stages, with_one_more}
+use Rattle.rk_done.specs.Completions.{Completions}
+use Rattle.rk_types.specs.declared.call.Ended.{Ended}
+use Rattle.rk_world.specs.Gather.{Gather}
+use Rattle.rk_sound.specs.Rows.{Rows, AreApart}
+use Rattle.rk_sound.specs.Logs.{Logs, stored_of}
+use Rattle.rk_sound.specs.Rebuilds.{Rebuilds, HasOwnRange, IsOfRange, IsRebuilder, MarkFits, MarkedFit, READ_BACKUP, TellNoMore, has_merged, marked_entries, member_marked, member_stored, stored_count, RowIsRebuilt}
+use Rattle.rk_sound.specs.Changes.{IsServed}
+use Rattle.rk_sound.specs.Small.{risen, with_one_more}
+use Rattle.rk_laws_parts.proofs.Changing.{Lane, Stages}
 use Rattle.rk_laws_parts.proofs.Differs.{differs_same}
 use Rattle.rk_laws_parts.proofs.Staged.{counted_same, first_apart, formed_apart, row_cases, written_cases, written_grown}
-use Rattle.rk_laws_parts.proofs.Freezing.{froze_cases, froze_same}
 use Rattle.rk_laws_parts.proofs.Applied.{applied_within}
 use Rattle.rk_laws_parts.proofs.Grows.{Extends, counting_extends, extends_behind, extends_itself, stored_push, take_extends, tells_extended}
-use Rattle.rk_laws_parts.proofs.Rebuilders.{last_member, piece_push, rebuilder_apart, rebuilder_serving, rebuilder_frozen}
+use Rattle.rk_laws_parts.proofs.Rebuilders.{last_member, piece_push, rebuilder_apart, rebuilder_serving}
 
 -- a master that rebuilds a row, by what masters have written and backups store
-abbrev IsRebuilderIn : (ℕ → Log) → (ℕ → Written) → (ℕ → Segments) → Row → List Member → ℕ → List Entry → Tablet → List Held → Type 0
-IsRebuilderIn logs written stored row lineage master truth tablet table =
-    IsRebuilder row lineage master truth (member_material written row.range (member_at master (own_place tablet.handover.role)))
-    (λ q. known_of (logs q) READ_BACKUP) (λ q. stored_of stored q READ_BACKUP) (written master) tablet table
-
--- a row that is rebuilt
-rebuilt_frozen : (row : Row) (phase : Phase) (truth : List Entry) (logs : ℕ → Log) (written : ℕ → Written) (stored : ℕ → Segments) (tablets now : ℕ → ℕ → Tablet) (records : ℕ → List Held) (live : ℕ → Bool) (master number : ℕ) → (tablets master number).handover.role ≡ roles.Closing → Freezes master number tablets now → RowIsRebuilt row phase truth logs written stored tablets records live → RowIsRebuilt row phase truth logs written stored now records live
-rebuilt_frozen row (Owned owner from) truth logs written stored tablets now records live master number closing froze fit = tt
-rebuilt_frozen row (Opening source sfrom target dfrom) truth logs written stored tablets now records live master number closing froze fit = tt
-rebuilt_frozen row (Moving source sfrom target dfrom) truth logs written stored tablets now records live master number closing froze fit = tt
-rebuilt_frozen row (Rebuilding lineage to) truth logs written stored tablets now records live master number closing froze fit = (
-  λ term.
-      ⊎_elim
-      (λ (same : now to row.tablet ≡ tablets to row.tablet).
-      subst (λ (tablet : Tablet). IsRebuilderIn logs written stored row lineage to truth tablet (records to)) (sym same)
-      (fit.0 (sym (ap (λ (tablet : Tablet). tablet.handover.term) same) ∙ term)))
-      (λ (at : (to ≡ master) × (row.tablet ≡ number) × (now to row.tablet ≡ as_frozen (tablets to row.tablet))).
-      subst (λ (tablet : Tablet). IsRebuilderIn logs written stored row lineage to truth tablet (records to)) (sym at.2)
-      (rebuilder_frozen row lineage to truth (λ from. member_material written row.range (member_at to from)) (λ q. known_of (logs q) READ_BACKUP)
-      (λ q. stored_of stored q READ_BACKUP) (written to) (tablets to row.tablet) (records to)
-      (ap (λ (n : ℕ). (tablets n row.tablet).handover.role) at.0 ∙ ap (λ (n : ℕ). (tablets master n).handover.role) at.1 ∙ closing)
-      (fit.0 (sym (ap (λ (tablet : Tablet). tablet.handover.term) at.2) ∙ term))))
-      (froze_cases tablets now master number froze to row.tablet),
-  fit.1,
-)
+abbrev pub IsRebuilderIn : (ℕ → Log) → (ℕ → Written) → (ℕ → Segments) → Row → List Member → ℕ → List Entry → Handover → Completions → Gather → List Ended → List Held → Type 0
+IsRebuilderIn logs written stored row lineage master truth handover completions gather ends table =
+    IsRebuilder row lineage master truth (member_material written row.range (member_at master (own_place handover.role)))
+    (λ q. known_of (logs q) READ_BACKUP) (λ q. stored_of stored q READ_BACKUP) (written master) handover completions gather ends table
 
 -- a mark fits a tablet of the same term that has merged as much
-pub mark_same : (row : Row) (master : ℕ) (old new : Tablet) (live : Bool) (mark : Mark) → new.handover.term ≡ old.handover.term → has_merged new.handover.role ≡ has_merged old.handover.role → MarkFits row master old live mark → MarkFits row master new live mark
+pub mark_same : (row : Row) (master : ℕ) (old new : Handover) (live : Bool) (mark : Mark) → new.term ≡ old.term → has_merged new.role ≡ has_merged old.role → MarkFits row master old live mark → MarkFits row master new live mark
 mark_same row master old new live mark term merged fit = record {
   rebuilt = fit.rebuilt;
   within = fit.within;
@@ -79,22 +58,7 @@ mark_same row master old new live mark term merged fit = record {
   by_rebuilder = λ its. let by = fit.by_rebuilder its in (by.0, term ∙ by.1, merged ∙ by.2);
 }
 
--- a tablet freezes
-pub rebuilds_frozen : (rows : List Row) (truths : Row → List Entry) (logs : ℕ → Log) (written : ℕ → Written) (stored : ℕ → Segments) (tablets now : ℕ → ℕ → Tablet) (records : ℕ → List Held) (live : ℕ → Bool) (master number : ℕ) → Rebuilds rows truths logs written stored tablets records live → (tablets master number).handover.role ≡ roles.Closing → Freezes master number tablets now → Rebuilds rows truths logs written stored now records live
-rebuilds_frozen rows truths logs written stored tablets now records live master number old closing froze = record {
-  rebuilt = λ k d within.
-      let row : Row = slice_index_or rows k d in
-      rebuilt_frozen row row.phase (truths row) logs written stored tablets now records live master number closing froze (old.rebuilt k d within);
-  marks = λ q k d within m e inside its.
-      let row : Row = slice_index_or rows k d in
-      mark_same row q (tablets q row.tablet) (now q row.tablet) (live q) (slice_index_or (written q).marks m e)
-      (froze_same (λ (tablet : Tablet). tablet.handover.term) (λ tablet role. refl) tablets now master number closing froze q row.tablet)
-      (froze_same (λ (tablet : Tablet). has_merged tablet.handover.role) (λ tablet role. sym (ap has_merged role)) tablets now master number closing froze q row.tablet)
-      (old.marks q k d within m e inside its);
-  pieces = old.pieces;
-}
-
-module _ (rows : List Row) (before after : Lane) (stored : ℕ → Segments) (records : ℕ → List Held) (live : ℕ → Bool) (master : ℕ) (row : Row) (call : Call) (item : Held) (last : Member) (stages : Stages rows before after master row call item) (is_last : last_of (lineage_of row.phase) ≡ Some last) (here : last.master ≡ master) (lives : live master ≡ true) (serves : is_serving (before.tablets master row.tablet).handover.role ≡ true) (fits : (before.written master).applied ≤ length (before.written master).entries) where
+module _ (rows : List Row) (before after : Lane) (stored : ℕ → Segments) (completions : ℕ → ℕ → Completions) (gathers : ℕ → ℕ → Gather) (merged : ℕ → ℕ → List Ended) (records : ℕ → List Held) (live : ℕ → Bool) (master : ℕ) (row : Row) (call : Call) (item : Held) (last : Member) (stages : Stages rows before after master row call item) (is_last : last_of (lineage_of row.phase) ≡ Some last) (here : last.master ≡ master) (lives : live master ≡ true) (serves : is_serving (before.handovers master row.tablet).role ≡ true) (fits : (before.written master).applied ≤ length (before.written master).entries) where
   -- what is known of backups is what it was
   known_staged : (q : ℕ) → known_of (after.logs q) READ_BACKUP ≡ known_of (before.logs q) READ_BACKUP
   known_staged q = differs_same (λ (log : Log). known_of log READ_BACKUP) (λ (log : Log). with_entry log (entries.Held item)) (λ log. refl) before.logs after.logs master stages.logs_differ q
@@ -108,55 +72,55 @@ module _ (rows : List Row) (before after : Lane) (stored : ℕ → Segments) (re
   fits_at q at = subst (λ (n : ℕ). (before.written n).applied ≤ length (before.written n).entries) (sym at) fits
 
   -- a master goes on to rebuild a row whose range has not the item, or for which it staged nothing
-  rebuilder_still : (other : Row) (lineage : List Member) (to : ℕ) (truth : List Entry) → All (λ mark. mark.past ≤ length (before.written to).entries) (before.written to).marks → (to ≡ master → has_key other.range item.table item.key ≡ false) → after.tablets to other.tablet ≡ before.tablets to other.tablet → IsRebuilderIn before.logs before.written stored other lineage to truth (before.tablets to other.tablet) (records to) → IsRebuilderIn after.logs after.written stored other lineage to truth (after.tablets to other.tablet) (records to)
+  rebuilder_still : (other : Row) (lineage : List Member) (to : ℕ) (truth : List Entry) → All (λ mark. mark.past ≤ length (before.written to).entries) (before.written to).marks → (to ≡ master → has_key other.range item.table item.key ≡ false) → after.handovers to other.tablet ≡ before.handovers to other.tablet → IsRebuilderIn before.logs before.written stored other lineage to truth (before.handovers to other.tablet) (completions to other.tablet) (gathers to other.tablet) (merged to other.tablet) (records to) → IsRebuilderIn after.logs after.written stored other lineage to truth (after.handovers to other.tablet) (completions to other.tablet) (gathers to other.tablet) (merged to other.tablet) (records to)
   rebuilder_still other lineage to truth marked apart same old =
-      let tablet : Tablet = before.tablets to other.tablet in
-      let own : List Entry = member_material before.written other.range (member_at to (own_place tablet.handover.role)) in
+      let handover : Handover = before.handovers to other.tablet in
+      let own : List Entry = member_material before.written other.range (member_at to (own_place handover.role)) in
       let GoesOn : Written → Type 0 = λ (w : Written).
-      IsRebuilder other lineage to truth own (λ q. known_of (before.logs q) READ_BACKUP) (λ q. stored_of stored q READ_BACKUP) w tablet
-      (records to) in
-      subst (λ (tablet : Tablet). IsRebuilderIn after.logs after.written stored other lineage to truth tablet (records to)) (sym same)
+      IsRebuilder other lineage to truth own (λ q. known_of (before.logs q) READ_BACKUP) (λ q. stored_of stored q READ_BACKUP) w handover
+      (completions to other.tablet) (gathers to other.tablet) (merged to other.tablet) (records to) in
+      subst (λ (handover : Handover). IsRebuilderIn after.logs after.written stored other lineage to truth handover (completions to other.tablet) (gathers to other.tablet) (merged to other.tablet) (records to)) (sym same)
       (subst
       (λ (own : List Entry). IsRebuilder other lineage to truth own (λ q. known_of (after.logs q) READ_BACKUP)
-      (λ q. stored_of stored q READ_BACKUP) (after.written to) tablet (records to))
-      (sym (stages.material_same other.range (member_at to (own_place tablet.handover.role)) apart))
+      (λ q. stored_of stored q READ_BACKUP) (after.written to) handover (completions to other.tablet) (gathers to other.tablet) (merged to other.tablet) (records to))
+      (sym (stages.material_same other.range (member_at to (own_place handover.role)) apart))
       (of_known
-      (λ known. IsRebuilder other lineage to truth own known (λ q. stored_of stored q READ_BACKUP) (after.written to) tablet (records to))
+      (λ known. IsRebuilder other lineage to truth own known (λ q. stored_of stored q READ_BACKUP) (after.written to) handover (completions to other.tablet) (gathers to other.tablet) (merged to other.tablet) (records to))
       (⊎_elim
       (λ (same : after.written to ≡ before.written to). subst GoesOn (sym same) old)
       (λ (at : (to ≡ master) × (after.written to ≡ with_one_more (before.written to) (entries.Held item))).
       subst GoesOn (sym at.1)
-      (rebuilder_apart other lineage to truth _ _ _ (before.written to) tablet (records to) item (fits_at to at.0) marked (apart at.0) old))
+      (rebuilder_apart other lineage to truth _ _ _ (before.written to) handover (completions to other.tablet) (gathers to other.tablet) (merged to other.tablet) (records to) item (fits_at to at.0) marked (apart at.0) old))
       (written_cases rows before after master row call item stages to))))
 
   -- a master goes on to serve the row that it is to rebuild
-  rebuilder_here : (other : Row) (lineage : List Member) (to : ℕ) (truth : List Entry) → other ≡ row → to ≡ master → lineage_of other.phase ≡ lineage → IsRebuilderIn before.logs before.written stored other lineage to truth (before.tablets to other.tablet) (records to) → IsRebuilderIn after.logs after.written stored other lineage to truth (after.tablets to other.tablet) (records to)
+  rebuilder_here : (other : Row) (lineage : List Member) (to : ℕ) (truth : List Entry) → other ≡ row → to ≡ master → lineage_of other.phase ≡ lineage → IsRebuilderIn before.logs before.written stored other lineage to truth (before.handovers to other.tablet) (completions to other.tablet) (gathers to other.tablet) (merged to other.tablet) (records to) → IsRebuilderIn after.logs after.written stored other lineage to truth (after.handovers to other.tablet) (completions to other.tablet) (gathers to other.tablet) (merged to other.tablet) (records to)
   rebuilder_here other lineage to truth its at is old =
-      let tablet : before.tablets to other.tablet ≡ before.tablets master row.tablet =
-      ap (λ (n : ℕ). before.tablets n other.tablet) at ∙ ap (λ (r : Row). before.tablets master r.tablet) its in
-      let tablet' : after.tablets to other.tablet ≡ after.tablets master row.tablet =
-      ap (λ (n : ℕ). after.tablets n other.tablet) at ∙ ap (λ (r : Row). after.tablets master r.tablet) its in
-      let counted : after.tablets to other.tablet ≡ counted_up (before.tablets to other.tablet) =
-      tablet' ∙ stages.keeps_differ.here ∙ sym (ap counted_up tablet) in
+      let handover : before.handovers to other.tablet ≡ before.handovers master row.tablet =
+      ap (λ (n : ℕ). before.handovers n other.tablet) at ∙ ap (λ (r : Row). before.handovers master r.tablet) its in
+      let handover' : after.handovers to other.tablet ≡ after.handovers master row.tablet =
+      ap (λ (n : ℕ). after.handovers n other.tablet) at ∙ ap (λ (r : Row). after.handovers master r.tablet) its in
+      let counted : after.handovers to other.tablet ≡ risen (before.handovers to other.tablet) =
+      handover' ∙ stages.keeps_differ.here ∙ sym (ap risen handover) in
       let member : is_member lineage to ≡ true =
       last_member lineage last to
       (ap last_of (sym (sym (ap (λ (r : Row). lineage_of r.phase) its) ∙ is)) ∙ is_last) (here ∙ sym at) in
       let more : after.written to ≡ with_one_more (before.written to) (entries.Held item) =
       ap after.written at ∙ stages.written_differ.here ∙ sym (ap (λ (n : ℕ). with_one_more (before.written n) (entries.Held item)) at) in
-      let own : List Entry = member_material after.written other.range (member_at to (own_place (before.tablets to other.tablet).handover.role)) in
-      subst (λ (t : Tablet). IsRebuilderIn after.logs after.written stored other lineage to truth t (records to)) (sym counted)
+      let own : List Entry = member_material after.written other.range (member_at to (own_place (before.handovers to other.tablet).role)) in
+      subst (λ (t : Handover). IsRebuilderIn after.logs after.written stored other lineage to truth t (completions to other.tablet) (gathers to other.tablet) (merged to other.tablet) (records to)) (sym counted)
       (of_known
       (λ known. IsRebuilder other lineage to truth own known (λ q. stored_of stored q READ_BACKUP) (after.written to)
-      (counted_up (before.tablets to other.tablet)) (records to))
+      (risen (before.handovers to other.tablet)) (completions to other.tablet) (gathers to other.tablet) (merged to other.tablet) (records to))
       (subst
       (λ (w : Written). IsRebuilder other lineage to truth own (λ q. known_of (before.logs q) READ_BACKUP)
-      (λ q. stored_of stored q READ_BACKUP) w (counted_up (before.tablets to other.tablet)) (records to))
+      (λ q. stored_of stored q READ_BACKUP) w (risen (before.handovers to other.tablet)) (completions to other.tablet) (gathers to other.tablet) (merged to other.tablet) (records to))
       (sym more)
-      (rebuilder_serving other lineage to truth _ own _ _ (before.written to) (before.tablets to other.tablet) (records to) item (fits_at to at)
-      (ap (λ (t : Tablet). is_serving t.handover.role) tablet ∙ serves) member old)))
+      (rebuilder_serving other lineage to truth _ own _ _ (before.written to) (before.handovers to other.tablet) (completions to other.tablet) (gathers to other.tablet) (merged to other.tablet) (records to) item (fits_at to at)
+      (ap (λ (t : Handover). is_serving t.role) handover ∙ serves) member old)))
 
   -- a master that rebuilds a row
-  rebuilder_staged : (other : Row) → Contains rows other → (lineage : List Member) (to : ℕ) (truth : List Entry) → All (λ mark. mark.past ≤ length (before.written to).entries) (before.written to).marks → lineage_of other.phase ≡ lineage → IsRebuilderIn before.logs before.written stored other lineage to truth (before.tablets to other.tablet) (records to) → IsRebuilderIn after.logs after.written stored other lineage to truth (after.tablets to other.tablet) (records to)
+  rebuilder_staged : (other : Row) → Contains rows other → (lineage : List Member) (to : ℕ) (truth : List Entry) → All (λ mark. mark.past ≤ length (before.written to).entries) (before.written to).marks → lineage_of other.phase ≡ lineage → IsRebuilderIn before.logs before.written stored other lineage to truth (before.handovers to other.tablet) (completions to other.tablet) (gathers to other.tablet) (merged to other.tablet) (records to) → IsRebuilderIn after.logs after.written stored other lineage to truth (after.handovers to other.tablet) (completions to other.tablet) (gathers to other.tablet) (merged to other.tablet) (records to)
   rebuilder_staged other has lineage to truth marked is old =
       ⊎_elim
       (λ (at : to ≡ master).
@@ -231,7 +195,7 @@ module _ (rows : List Row) (before after : Lane) (stored : ℕ → Segments) (re
       )
 
   -- a row that is rebuilt
-  rebuilt_staged : (other : Row) → Contains rows other → (phase : Phase) (truth : List Entry) → ((q : ℕ) → All (λ mark. mark.past ≤ length (before.written q).entries) (before.written q).marks) → AreApart (lineage_of phase) → other.phase ≡ phase → RowIsRebuilt other phase truth before.logs before.written stored before.tablets records live → RowIsRebuilt other phase truth after.logs after.written stored after.tablets records live
+  rebuilt_staged : (other : Row) → Contains rows other → (phase : Phase) (truth : List Entry) → ((q : ℕ) → All (λ mark. mark.past ≤ length (before.written q).entries) (before.written q).marks) → AreApart (lineage_of phase) → other.phase ≡ phase → RowIsRebuilt other phase truth before.logs before.written stored before.handovers completions gathers merged records live → RowIsRebuilt other phase truth after.logs after.written stored after.handovers completions gathers merged records live
   rebuilt_staged other has (Owned owner from) truth marked apart is fit = tt
   rebuilt_staged other has (Opening source sfrom target dfrom) truth marked apart is fit = tt
   rebuilt_staged other has (Moving source sfrom target dfrom) truth marked apart is fit = tt
@@ -239,21 +203,21 @@ module _ (rows : List Row) (before after : Lane) (stored : ℕ → Segments) (re
     λ term.
         rebuilder_staged other has lineage to truth (marked to) (ap lineage_of is)
         (fit.0
-        (sym (counted_same rows before after master row call item stages (λ (tablet : Tablet). tablet.handover.term) (λ tablet. refl) to other.tablet) ∙ term)),
+        (sym (counted_same rows before after master row call item stages (λ (handover : Handover). handover.term) (λ tablet. refl) to other.tablet) ∙ term)),
     marked_staged other has lineage apart (ap lineage_of is) fit.1,
   )
 
   -- the marks of a master
-  pub marks_staged : (other : Row) (q : ℕ) → All (λ mark. mark.tablet ≡ other.tablet → MarkFits other q (before.tablets q other.tablet) (live q) mark) (before.written q).marks → All (λ mark. mark.tablet ≡ other.tablet → MarkFits other q (after.tablets q other.tablet) (live q) mark) (after.written q).marks
+  pub marks_staged : (other : Row) (q : ℕ) → All (λ mark. mark.tablet ≡ other.tablet → MarkFits other q (before.handovers q other.tablet) (live q) mark) (before.written q).marks → All (λ mark. mark.tablet ≡ other.tablet → MarkFits other q (after.handovers q other.tablet) (live q) mark) (after.written q).marks
   marks_staged other q old =
       let grown = written_grown rows before after master row call item stages q in
-      subst (λ (marks : List Mark). All (λ mark. mark.tablet ≡ other.tablet → MarkFits other q (after.tablets q other.tablet) (live q) mark) marks) (sym grown.marks)
-      (All-weaker (λ (mark : Mark). mark.tablet ≡ other.tablet → MarkFits other q (before.tablets q other.tablet) (live q) mark)
-      (λ (mark : Mark). mark.tablet ≡ other.tablet → MarkFits other q (after.tablets q other.tablet) (live q) mark)
+      subst (λ (marks : List Mark). All (λ mark. mark.tablet ≡ other.tablet → MarkFits other q (after.handovers q other.tablet) (live q) mark) marks) (sym grown.marks)
+      (All-weaker (λ (mark : Mark). mark.tablet ≡ other.tablet → MarkFits other q (before.handovers q other.tablet) (live q) mark)
+      (λ (mark : Mark). mark.tablet ≡ other.tablet → MarkFits other q (after.handovers q other.tablet) (live q) mark)
       (λ (mark : Mark) fits its.
-      mark_same other q (before.tablets q other.tablet) (after.tablets q other.tablet) (live q) mark
-      (counted_same rows before after master row call item stages (λ (tablet : Tablet). tablet.handover.term) (λ tablet. refl) q other.tablet)
-      (counted_same rows before after master row call item stages (λ (tablet : Tablet). has_merged tablet.handover.role) (λ tablet. refl) q other.tablet)
+      mark_same other q (before.handovers q other.tablet) (after.handovers q other.tablet) (live q) mark
+      (counted_same rows before after master row call item stages (λ (handover : Handover). handover.term) (λ tablet. refl) q other.tablet)
+      (counted_same rows before after master row call item stages (λ (handover : Handover). has_merged handover.role) (λ tablet. refl) q other.tablet)
       (fits its))
       (before.written q).marks old)
 
@@ -273,20 +237,20 @@ module _ (rows : List Row) (before after : Lane) (stored : ℕ → Segments) (re
       (written_cases rows before after master row call item stages q)
 
 -- a write is staged
-pub rebuilds_staged : (rows : List Row) (truths : Row → List Entry) (before after : Lane) (stored : ℕ → Segments) (records : ℕ → List Held) (live : ℕ → Bool) (journal : List Placed) (wire : NumberMap Message) (master table : ℕ) (key : List ℕ) (call : Call) (item : Held) → Rebuilds rows truths before.logs before.written stored before.tablets records live → Rows rows before.written journal → Logs before.logs before.written stored wire → (served : IsServed rows (before.tablets master) (live master) master table key) → Stages rows before after master served.row call item → Rebuilds rows truths after.logs after.written stored after.tablets records live
-rebuilds_staged rows truths before after stored records live journal wire master table key call item old placed held served stages =
+pub rebuilds_staged : (rows : List Row) (truths : Row → List Entry) (before after : Lane) (stored : ℕ → Segments) (completions : ℕ → ℕ → Completions) (gathers : ℕ → ℕ → Gather) (merged : ℕ → ℕ → List Ended) (records : ℕ → List Held) (live : ℕ → Bool) (journal : List Placed) (wire : NumberMap Message) (master table : ℕ) (key : List ℕ) (call : Call) (item : Held) → Rebuilds rows truths before.logs before.written stored before.handovers completions gathers merged records live → Rows rows before.written journal → Logs before.logs before.written stored wire → (served : IsServed rows (before.handovers master) (live master) master table key) → Stages rows before after master served.row call item → Rebuilds rows truths after.logs after.written stored after.handovers completions gathers merged records live
+rebuilds_staged rows truths before after stored completions gathers merged records live journal wire master table key call item old placed held served stages =
     let marked : (q : ℕ) → All (λ mark. mark.past ≤ length (before.written q).entries) (before.written q).marks = λ q. let log = held.each q in log.marked in
     let fits : (before.written master).applied ≤ length (before.written master).entries =
     applied_within (before.logs master) (before.written master) (stored_of stored master) (held.each master) in
     record {
       rebuilt = λ k d within.
           let other : Row = slice_index_or rows k d in
-          rebuilt_staged rows before after stored records live master served.row call item served.last stages served.is_last served.here served.lives served.serves fits other
+          rebuilt_staged rows before after stored completions gathers merged records live master served.row call item served.last stages served.is_last served.here served.lives served.serves fits other
           (Contains-get_or rows k d within) other.phase (truths other) marked (formed_apart other.phase (placed.formed k d within)) refl (old.rebuilt k d within);
       marks = λ q k d within.
-          marks_staged rows before after stored records live master served.row call item served.last stages served.is_last served.here served.lives served.serves fits (slice_index_or rows k d) q
+          marks_staged rows before after stored completions gathers merged records live master served.row call item served.last stages served.is_last served.here served.lives served.serves fits (slice_index_or rows k d) q
           (old.marks q k d within);
       pieces = λ q k d within.
-          pieces_staged rows before after stored records live master served.row call item served.last stages served.is_last served.here served.lives served.serves fits (slice_index_or rows k d) q
+          pieces_staged rows before after stored completions gathers merged records live master served.row call item served.last stages served.is_last served.here served.lives served.serves fits (slice_index_or rows k d) q
           (marked q) (old.pieces q k d within);
     }

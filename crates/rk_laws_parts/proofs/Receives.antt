@@ -14,8 +14,9 @@ use Rattle.rk_types.specs.declared.range.Range.{Range}
 use Rattle.rk_outside.specs.Segments.{Segments}
 use Rattle.rk_entry.specs.declared.entry.Entry.{Entry}
 use Rattle.rk_entry.specs.declared.entry.Entry.TheVariants as entries
-use Rattle.rk_done.specs.Completions.{ends_of}
+use Rattle.rk_done.specs.Completions.{Completions, ends_of}
 use Rattle.rk_transfer.specs.Handover.{is_serving}
+use Rattle.rk_transfer.specs.declared.handover.Handover.{Handover}
 use Rattle.rk_transfer.specs.declared.role.Role.{Role}
 use Rattle.rk_transfer.specs.declared.role.Role.TheVariants as roles
 use Rattle.rk_tablet_map.specs.Phase.{lineage_of}
@@ -26,91 +27,43 @@ use Rattle.rk_world.specs.Ends.{items_of}
 use Rattle.rk_world.specs.Lineage.{is_member, last_of}
 use Rattle.rk_world.specs.Base.{Base}
 use Rattle.rk_world.specs.Merge.{floor_of}
-use Rattle.rk_world.specs.Tablet.{Tablet}
+use Rattle.rk_world.specs.Tablet.{Pulling}
 use Rattle.rk_world.specs.RoleTests.{is_absent}
-use Rattle.rk_world.specs.Requests.{counted_up}
 use Rattle.rk_world.specs.Coordinator.{Handed}
 use Rattle.rk_world.specs.Written.{Written, lineage_truth, member_material, member_truth, truth_of}
-use Rattle.rk_world.specs.Sound.Rows.{Rows, AreApart, IsPlaced}
-use Rattle.rk_world.specs.Sound.Terms.{Terms}
-use Rattle.rk_world.specs.Sound.Posts.{StillCounts}
-use Rattle.rk_world.specs.Sound.Roles.{Roles}
-use Rattle.rk_world.specs.Sound.Logs.{Logs, stored_of}
-use Rattle.rk_world.specs.Sound.Counters.{Counters}
-use Rattle.rk_world.specs.Sound.Rest.{FirstIsDone}
-use Rattle.rk_world.specs.Sound.Receives.{Receives, IsBare, IsTarget, MembersFit, HandedFits, is_granted, wanted_place}
-use Rattle.rk_world.specs.Sound.Changes.{IsServed}
-use Rattle.rk_world.specs.Sound.Small.{as_frozen}
-use Rattle.rk_laws_parts.proofs.Changing.{Lane, Freezes, Stages, with_one_more}
+use Rattle.rk_sound.specs.Rows.{Rows, AreApart, IsPlaced}
+use Rattle.rk_sound.specs.Terms.{Terms}
+use Rattle.rk_sound.specs.Posts.{StillCounts}
+use Rattle.rk_sound.specs.Roles.{Roles}
+use Rattle.rk_sound.specs.Logs.{Logs, stored_of}
+use Rattle.rk_sound.specs.Counters.{Counters}
+use Rattle.rk_sound.specs.Rest.{FirstIsDone}
+use Rattle.rk_sound.specs.Receives.{Receives, IsBare, IsTarget, MembersFit, HandedFits, is_granted, wanted_place}
+use Rattle.rk_sound.specs.Changes.{IsServed}
+use Rattle.rk_sound.specs.Small.{risen, with_one_more}
+use Rattle.rk_laws_parts.proofs.Changing.{Lane, Stages}
 use Rattle.rk_laws_parts.proofs.Differs.{now_cases}
 use Rattle.rk_laws_parts.proofs.Apart.{key_outside}
 use Rattle.rk_laws_parts.proofs.Staged.{counter_low, counted_same, first_apart, formed_apart, row_cases, written_cases}
 use Rattle.rk_laws_parts.proofs.Serving.{present}
-use Rattle.rk_laws_parts.proofs.Freezing.{froze_cases, froze_same}
 use Rattle.rk_laws_parts.proofs.Floors.{floor_above, floor_append}
 use Rattle.rk_laws_parts.proofs.Applied.{applied_within}
 use Rattle.rk_laws_parts.proofs.Targets.{AreBelow, bare_pushed, target_counted, target_pushed}
 use Rattle.rk_laws_parts.proofs.Rebuilders.{last_member}
 
 -- what a source tells of a tablet
-abbrev pub handed_of : Tablet → Handed
-handed_of tablet = record { floor = tablet.handover.counter; ends = ends_of tablet.completions }
+abbrev pub handed_of : Handover → Completions → Handed
+handed_of handover completions = record { floor = handover.counter; ends = ends_of completions }
 
 -- a target of a row, by what its source and it have written
-abbrev pub IsTargetIn : (ℕ → Written) → Row → Member → Member → Tablet → Option Handed → List Held → Type 0
-IsTargetIn written row source target tablet handed table =
+abbrev pub IsTargetIn : (ℕ → Written) → Row → Member → Member → Handover → Pulling → Option Handed → List Held → Type 0
+IsTargetIn written row source target handover pulling handed table =
     IsTarget row.range source.master (member_truth written row.range source) (member_material written row.range source)
-    target.from (written target.master) tablet handed table
-
--- a target that was granted its tablet is not the one that froze
-members_frozen : (row : Row) (written : ℕ → Written) (tablets now : ℕ → ℕ → Tablet) (records : ℕ → List Held) (handed : NumberMap Handed) (master number : ℕ) → Freezes master number tablets now → (lineage : List Member) → MembersFit row written tablets records handed lineage → MembersFit row written now records handed lineage
-members_frozen row written tablets now records handed master number froze [] fit = tt
-members_frozen row written tablets now records handed master number froze (only ∷ []) fit = tt
-members_frozen row written tablets now records handed master number froze (source ∷ target ∷ []) fit = λ granted.
-    ⊎_elim
-    (λ (same : now target.master row.tablet ≡ tablets target.master row.tablet).
-    subst (λ (tablet : Tablet). IsTargetIn written row source target tablet (get handed row.tablet) (records target.master)) (sym same)
-    (fit (sym (ap (λ (tablet : Tablet). is_granted tablet.handover.role) same) ∙ granted)))
-    (λ (at : (target.master ≡ master) × (row.tablet ≡ number) × (now target.master row.tablet ≡ as_frozen (tablets target.master row.tablet))).
-    absurd (false≢true (sym (ap (λ (tablet : Tablet). is_granted tablet.handover.role) at.2) ∙ granted)))
-    (froze_cases tablets now master number froze target.master row.tablet)
-members_frozen row written tablets now records handed master number froze (source ∷ target ∷ third ∷ more) fit = tt
-
--- what a source told is what it keeps
-handed_frozen : (row : Row) (tablets now : ℕ → ℕ → Tablet) (handed : NumberMap Handed) (master number : ℕ) → (tablets master number).handover.role ≡ roles.Closing → Freezes master number tablets now → (lineage : List Member) → HandedFits row tablets handed lineage → HandedFits row now handed lineage
-handed_frozen row tablets now handed master number closing froze [] fit = tt
-handed_frozen row tablets now handed master number closing froze (only ∷ []) fit = tt
-handed_frozen row tablets now handed master number closing froze (source ∷ target ∷ []) fit = λ term.
-    let terms : (q : ℕ) → (now q row.tablet).handover.term ≡ (tablets q row.tablet).handover.term = λ q.
-    froze_same (λ (tablet : Tablet). tablet.handover.term) (λ tablet role. refl) tablets now master number closing froze q row.tablet in
-    fit (sym (terms target.master) ∙ term ∙ terms source.master)
-    ∙ sym (ap Some (froze_same handed_of (λ tablet role. refl) tablets now master number closing froze source.master row.tablet))
-handed_frozen row tablets now handed master number closing froze (source ∷ target ∷ third ∷ more) fit = tt
+    target.from (written target.master) handover pulling handed table
 
 -- a master that made ready for a tablet has nothing of it
-abbrev IsBareOf : Tablet → Written → List Held → Type 0
-IsBareOf tablet written table = IfSome (wanted_place tablet.handover.role) (λ from. IsBare tablet.handover.range from written table)
-
--- and a tablet that froze waits for nothing
-bare_frozen : (written : ℕ → Written) (tablets now : ℕ → ℕ → Tablet) (records : ℕ → List Held) (master number : ℕ) → Freezes master number tablets now → (q r : ℕ) → IsBareOf (tablets q r) (written q) (records q) → IsBareOf (now q r) (written q) (records q)
-bare_frozen written tablets now records master number froze q r bare =
-    ⊎_elim
-    (λ (same : now q r ≡ tablets q r). subst (λ (tablet : Tablet). IsBareOf tablet (written q) (records q)) (sym same) bare)
-    (λ (at : (q ≡ master) × (r ≡ number) × (now q r ≡ as_frozen (tablets q r))).
-    subst (λ (tablet : Tablet). IsBareOf tablet (written q) (records q)) (sym at.2) tt)
-    (froze_cases tablets now master number froze q r)
-
--- a tablet freezes
-pub receives_frozen : (rows : List Row) (written : ℕ → Written) (tablets now : ℕ → ℕ → Tablet) (records : ℕ → List Held) (handed : NumberMap Handed) (master number : ℕ) → Receives rows written tablets records handed → (tablets master number).handover.role ≡ roles.Closing → Freezes master number tablets now → Receives rows written now records handed
-receives_frozen rows written tablets now records handed master number old closing froze = record {
-  targets = λ k d within.
-      let row : Row = slice_index_or rows k d in
-      members_frozen row written tablets now records handed master number froze (lineage_of row.phase) (old.targets k d within);
-  handed_on = λ k d within.
-      let row : Row = slice_index_or rows k d in
-      handed_frozen row tablets now handed master number closing froze (lineage_of row.phase) (old.handed_on k d within);
-  bare = λ q r. bare_frozen written tablets now records master number froze q r (old.bare q r);
-}
+abbrev pub IsBareOf : Handover → Written → List Held → Type 0
+IsBareOf handover written table = IfSome (wanted_place handover.role) (λ from. IsBare handover.range from written table)
 
 -- an item with the tablet's counter is above each item of the source
 above_source : (base : Base) (range : Range) (written : ℕ → Written) (rest : List Entry) (source target : Member) (more : List Member) (item : Held) (counter : ℕ) → item.version ≡ counter → floor_of (lineage_truth base written range (source ∷ target ∷ more) ++ rest) ≤ counter → member_material written range source ≡ member_truth written range source → AreBelow (items_of (member_material written range source)) item
@@ -126,7 +79,7 @@ above_source base range written rest source target more item counter version low
     (λ (other : Held) at. let below = floor_above first other at in omega (arith, below, under, low, version))
     (items_of first) (All-contains_itself (items_of first)))
 
-module _ (base : Base) (rows : List Row) (before after : Lane) (records : ℕ → List Held) (handed : NumberMap Handed) (master : ℕ) (row : Row) (call : Call) (item : Held) (last : Member) (stages : Stages rows before after master row call item) (is_last : last_of (lineage_of row.phase) ≡ Some last) (here : last.master ≡ master) where
+module _ (base : Base) (rows : List Row) (before after : Lane) (completions : ℕ → ℕ → Completions) (pullings : ℕ → ℕ → Pulling) (records : ℕ → List Held) (handed : NumberMap Handed) (master : ℕ) (row : Row) (call : Call) (item : Held) (last : Member) (stages : Stages rows before after master row call item) (is_last : last_of (lineage_of row.phase) ≡ Some last) (here : last.master ≡ master) where
   -- the source of a row has nothing of the item
   source_apart : (other : Row) → Contains rows other → (source target : Member) (more : List Member) → AreApart (source ∷ target ∷ more) → lineage_of other.phase ≡ source ∷ target ∷ more → source.master ≡ master → has_key other.range item.table item.key ≡ false
   source_apart = first_apart rows before after master row call item stages last is_last here
@@ -135,77 +88,77 @@ module _ (base : Base) (rows : List Row) (before after : Lane) (records : ℕ �
   all_of first second more done = done.all
 
   -- the item is above each one of the source of its row
-  item_above : floor_of (truth_of base before.written row ++ before.rests row) ≤ (before.tablets master row.tablet).handover.counter → FirstIsDone before.written row.range (lineage_of row.phase) → (other : Row) → Contains rows other → (source target : Member) → lineage_of other.phase ≡ source ∷ target ∷ [] → has_key other.range item.table item.key ≡ true → AreBelow (items_of (member_material before.written other.range source)) item
+  item_above : floor_of (truth_of base before.written row ++ before.rests row) ≤ (before.handovers master row.tablet).counter → FirstIsDone before.written row.range (lineage_of row.phase) → (other : Row) → Contains rows other → (source target : Member) → lineage_of other.phase ≡ source ∷ target ∷ [] → has_key other.range item.table item.key ≡ true → AreBelow (items_of (member_material before.written other.range source)) item
   item_above low done other has source target lineage inside =
       ⊎_elim
       (λ (same : other ≡ row).
       let its : lineage_of row.phase ≡ source ∷ target ∷ [] = sym (ap (λ (r : Row). lineage_of r.phase) same) ∙ lineage in
       subst (λ (r : Row). AreBelow (items_of (member_material before.written r.range source)) item) (sym same)
-      (above_source base row.range before.written (before.rests row) source target [] item (before.tablets master row.tablet).handover.counter stages.version
-      (subst (λ (members : List Member). floor_of (lineage_truth base before.written row.range members ++ before.rests row) ≤ (before.tablets master row.tablet).handover.counter) its low)
+      (above_source base row.range before.written (before.rests row) source target [] item (before.handovers master row.tablet).counter stages.version
+      (subst (λ (members : List Member). floor_of (lineage_truth base before.written row.range members ++ before.rests row) ≤ (before.handovers master row.tablet).counter) its low)
       (all_of source target [] (subst (FirstIsDone before.written row.range) its done))))
       (λ (apart : other.tablet ≡ row.tablet → ⊥).
       absurd (false≢true (sym (stages.outside other has apart) ∙ inside)))
       (row_cases rows before after master row call item stages other has)
 
   -- a target with a log that may have grown
-  target_staged : floor_of (truth_of base before.written row ++ before.rests row) ≤ (before.tablets master row.tablet).handover.counter → FirstIsDone before.written row.range (lineage_of row.phase) → (before.written master).applied ≤ length (before.written master).entries → (other : Row) → Contains rows other → (source target : Member) → AreApart (source ∷ target ∷ []) → lineage_of other.phase ≡ source ∷ target ∷ [] → IsPlaced before.written target → (tablet : Tablet) → IsTargetIn before.written other source target tablet (get handed other.tablet) (records target.master) → IsTargetIn after.written other source target tablet (get handed other.tablet) (records target.master)
-  target_staged low done fits other has source target apart lineage placed tablet old =
+  target_staged : floor_of (truth_of base before.written row ++ before.rests row) ≤ (before.handovers master row.tablet).counter → FirstIsDone before.written row.range (lineage_of row.phase) → (before.written master).applied ≤ length (before.written master).entries → (other : Row) → Contains rows other → (source target : Member) → AreApart (source ∷ target ∷ []) → lineage_of other.phase ≡ source ∷ target ∷ [] → IsPlaced before.written target → (handover : Handover) (pulling : Pulling) → IsTargetIn before.written other source target handover pulling (get handed other.tablet) (records target.master) → IsTargetIn after.written other source target handover pulling (get handed other.tablet) (records target.master)
+  target_staged low done fits other has source target apart lineage placed handover pulling old =
       let range : Range = other.range in
       let kept : Option Handed = get handed other.tablet in
       let truth : List Entry = member_truth before.written range source in
       let material : List Entry = member_material before.written range source in
-      subst (λ (list : List Entry). IsTarget range source.master list (member_material after.written range source) target.from (after.written target.master) tablet kept (records target.master))
+      subst (λ (list : List Entry). IsTarget range source.master list (member_material after.written range source) target.from (after.written target.master) handover pulling kept (records target.master))
       (sym (stages.truth_same range source))
-      (subst (λ (list : List Entry). IsTarget range source.master truth list target.from (after.written target.master) tablet kept (records target.master))
+      (subst (λ (list : List Entry). IsTarget range source.master truth list target.from (after.written target.master) handover pulling kept (records target.master))
       (sym (stages.material_same range source (source_apart other has source target [] apart lineage)))
       (⊎_elim
       (λ (same : after.written target.master ≡ before.written target.master).
-      subst (λ (w : Written). IsTarget range source.master truth material target.from w tablet kept (records target.master)) (sym same) old)
+      subst (λ (w : Written). IsTarget range source.master truth material target.from w handover pulling kept (records target.master)) (sym same) old)
       (λ (at : (target.master ≡ master) × (after.written target.master ≡ with_one_more (before.written target.master) (entries.Held item))).
-      subst (λ (w : Written). IsTarget range source.master truth material target.from w tablet kept (records target.master)) (sym at.1)
-      (target_pushed range source.master truth material target.from (before.written target.master) tablet kept (records target.master) item
+      subst (λ (w : Written). IsTarget range source.master truth material target.from w handover pulling kept (records target.master)) (sym at.1)
+      (target_pushed range source.master truth material target.from (before.written target.master) handover pulling kept (records target.master) item
       (subst (λ (n : ℕ). (before.written n).applied ≤ length (before.written n).entries) (sym at.0) fits) placed
       (item_above low done other has source target lineage) old))
       (written_cases rows before after master row call item stages target.master)))
 
   -- what holds of the members of a row
-  members_staged : floor_of (truth_of base before.written row ++ before.rests row) ≤ (before.tablets master row.tablet).handover.counter → FirstIsDone before.written row.range (lineage_of row.phase) → (before.written master).applied ≤ length (before.written master).entries → (other : Row) → Contains rows other → (lineage : List Member) → AreApart lineage → lineage_of other.phase ≡ lineage → All (IsPlaced before.written) lineage → MembersFit other before.written before.tablets records handed lineage → MembersFit other after.written after.tablets records handed lineage
+  members_staged : floor_of (truth_of base before.written row ++ before.rests row) ≤ (before.handovers master row.tablet).counter → FirstIsDone before.written row.range (lineage_of row.phase) → (before.written master).applied ≤ length (before.written master).entries → (other : Row) → Contains rows other → (lineage : List Member) → AreApart lineage → lineage_of other.phase ≡ lineage → All (IsPlaced before.written) lineage → MembersFit other before.written before.handovers pullings records handed lineage → MembersFit other after.written after.handovers pullings records handed lineage
   members_staged low done fits other has [] apart lineage placed fit = tt
   members_staged low done fits other has (only ∷ []) apart lineage placed fit = tt
   members_staged low done fits other has (source ∷ target ∷ []) apart lineage placed fit = λ granted.
-      let kept : is_granted (after.tablets target.master other.tablet).handover.role ≡ is_granted (before.tablets target.master other.tablet).handover.role =
-      counted_same rows before after master row call item stages (λ (tablet : Tablet). is_granted tablet.handover.role) (λ tablet. refl) target.master other.tablet in
+      let kept : is_granted (after.handovers target.master other.tablet).role ≡ is_granted (before.handovers target.master other.tablet).role =
+      counted_same rows before after master row call item stages (λ (handover : Handover). is_granted handover.role) (λ tablet. refl) target.master other.tablet in
       let its : IsPlaced before.written target = All-head (IsPlaced before.written) target [] (All-tail (IsPlaced before.written) source (target ∷ []) placed) in
-      let new : IsTargetIn after.written other source target (before.tablets target.master other.tablet) (get handed other.tablet) (records target.master) =
-      target_staged low done fits other has source target apart lineage its (before.tablets target.master other.tablet) (fit (sym kept ∙ granted)) in
+      let new : IsTargetIn after.written other source target (before.handovers target.master other.tablet) (pullings target.master other.tablet) (get handed other.tablet) (records target.master) =
+      target_staged low done fits other has source target apart lineage its (before.handovers target.master other.tablet) (pullings target.master other.tablet) (fit (sym kept ∙ granted)) in
       ⊎_elim
-      (λ (same : after.tablets target.master other.tablet ≡ before.tablets target.master other.tablet).
-      subst (λ (tablet : Tablet). IsTargetIn after.written other source target tablet (get handed other.tablet) (records target.master)) (sym same) new)
-      (λ (at : (target.master ≡ master) × (other.tablet ≡ row.tablet) × (after.tablets target.master other.tablet ≡ counted_up (before.tablets target.master other.tablet))).
-      subst (λ (tablet : Tablet). IsTargetIn after.written other source target tablet (get handed other.tablet) (records target.master)) (sym at.2)
+      (λ (same : after.handovers target.master other.tablet ≡ before.handovers target.master other.tablet).
+      subst (λ (handover : Handover). IsTargetIn after.written other source target handover (pullings target.master other.tablet) (get handed other.tablet) (records target.master)) (sym same) new)
+      (λ (at : (target.master ≡ master) × (other.tablet ≡ row.tablet) × (after.handovers target.master other.tablet ≡ risen (before.handovers target.master other.tablet))).
+      subst (λ (handover : Handover). IsTargetIn after.written other source target handover (pullings target.master other.tablet) (get handed other.tablet) (records target.master)) (sym at.2)
       (target_counted other.range source.master (member_truth after.written other.range source) (member_material after.written other.range source) target.from (after.written target.master)
-      (before.tablets target.master other.tablet) (get handed other.tablet) (records target.master) new))
-      (now_cases counted_up before.tablets after.tablets master row.tablet stages.keeps_differ target.master other.tablet)
+      (before.handovers target.master other.tablet) (pullings target.master other.tablet) (get handed other.tablet) (records target.master) new))
+      (now_cases risen before.handovers after.handovers master row.tablet stages.keeps_differ target.master other.tablet)
   members_staged low done fits other has (source ∷ target ∷ third ∷ more) apart lineage placed fit = tt
 
   -- what the source of a row told
-  told_staged : (other : Row) → Contains rows other → (lineage : List Member) → AreApart lineage → lineage_of other.phase ≡ lineage → HandedFits other before.tablets handed lineage → HandedFits other after.tablets handed lineage
+  told_staged : (other : Row) → Contains rows other → (lineage : List Member) → AreApart lineage → lineage_of other.phase ≡ lineage → HandedFits other before.handovers completions handed lineage → HandedFits other after.handovers completions handed lineage
   told_staged other has [] apart lineage fit = tt
   told_staged other has (only ∷ []) apart lineage fit = tt
   told_staged other has (source ∷ target ∷ []) apart lineage fit = λ term.
-      let terms : (q : ℕ) → (after.tablets q other.tablet).handover.term ≡ (before.tablets q other.tablet).handover.term = λ q.
-      counted_same rows before after master row call item stages (λ (tablet : Tablet). tablet.handover.term) (λ tablet. refl) q other.tablet in
-      let was : get handed other.tablet ≡ Some (handed_of (before.tablets source.master other.tablet)) =
+      let terms : (q : ℕ) → (after.handovers q other.tablet).term ≡ (before.handovers q other.tablet).term = λ q.
+      counted_same rows before after master row call item stages (λ (handover : Handover). handover.term) (λ tablet. refl) q other.tablet in
+      let was : get handed other.tablet ≡ Some (handed_of (before.handovers source.master other.tablet) (completions source.master other.tablet)) =
       fit (sym (terms target.master) ∙ term ∙ terms source.master) in
       ⊎_elim
-      (λ (same : after.tablets source.master other.tablet ≡ before.tablets source.master other.tablet). was ∙ sym (ap (λ (tablet : Tablet). Some (handed_of tablet)) same))
-      (λ (at : (source.master ≡ master) × (other.tablet ≡ row.tablet) × (after.tablets source.master other.tablet ≡ counted_up (before.tablets source.master other.tablet))).
+      (λ (same : after.handovers source.master other.tablet ≡ before.handovers source.master other.tablet). was ∙ sym (ap (λ (handover : Handover). Some (handed_of handover (completions source.master other.tablet))) same))
+      (λ (at : (source.master ≡ master) × (other.tablet ≡ row.tablet) × (after.handovers source.master other.tablet ≡ risen (before.handovers source.master other.tablet))).
       absurd
       (false≢true
       (sym (source_apart other has source target [] apart lineage at.0)
       ∙ ap (λ (r : Row). has_key r.range item.table item.key) (stages.same_row other has at.1) ∙ stages.inside)))
-      (now_cases counted_up before.tablets after.tablets master row.tablet stages.keeps_differ source.master other.tablet)
+      (now_cases risen before.handovers after.handovers master row.tablet stages.keeps_differ source.master other.tablet)
   told_staged other has (source ∷ target ∷ third ∷ more) apart lineage fit = tt
 
 -- a role that serves waits for nothing
@@ -218,74 +171,74 @@ waits_then : (role : Role) (P Q : ℕ → Type 0) → (is_absent role ≡ false 
 waits_then (roles.Wanting from) P Q then holds = then refl from holds
 waits_then role P Q then holds = tt
 
-module _ (rows : List Row) (before after : Lane) (records : ℕ → List Held) (live : ℕ → Bool) (wire : NumberMap Message) (master : ℕ) (row : Row) (call : Call) (item : Held) (last : Member) (stages : Stages rows before after master row call item) (is_last : last_of (lineage_of row.phase) ≡ Some last) (here : last.master ≡ master) (lives : live master ≡ true) (serves : is_serving (before.tablets master row.tablet).handover.role ≡ true) (terms : Terms rows before.tablets wire) (fitting : Roles rows before.tablets before.written live) where
+module _ (rows : List Row) (before after : Lane) (records : ℕ → List Held) (live : ℕ → Bool) (wire : NumberMap Message) (master : ℕ) (row : Row) (call : Call) (item : Held) (last : Member) (stages : Stages rows before after master row call item) (is_last : last_of (lineage_of row.phase) ≡ Some last) (here : last.master ≡ master) (lives : live master ≡ true) (serves : is_serving (before.handovers master row.tablet).role ≡ true) (terms : Terms rows before.handovers wire) (fitting : Roles rows before.handovers before.written live) where
   -- the master keeps the row's range
-  row_range : (before.tablets master row.tablet).handover.range ≡ row.range
+  row_range : (before.handovers master row.tablet).range ≡ row.range
   row_range =
       All-contains
-      (λ (other : Row). StillCounts (live master) (before.tablets master other.tablet).handover.term other.term
-      → is_member (lineage_of other.phase) master ≡ true → (before.tablets master other.tablet).handover.range ≡ other.range)
+      (λ (other : Row). StillCounts (live master) (before.handovers master other.tablet).term other.term
+      → is_member (lineage_of other.phase) master ≡ true → (before.handovers master other.tablet).range ≡ other.range)
       rows row (fitting.ranged master) stages.has_row (inl lives) (last_member (lineage_of row.phase) last master is_last here)
 
   -- so no other tablet that is there has the item
-  tablet_outside : (number : ℕ) → (number ≡ row.tablet → ⊥) → is_absent (before.tablets master number).handover.role ≡ false → has_key (before.tablets master number).handover.range item.table item.key ≡ false
+  tablet_outside : (number : ℕ) → (number ≡ row.tablet → ⊥) → is_absent (before.handovers master number).role ≡ false → has_key (before.handovers master number).range item.table item.key ≡ false
   tablet_outside number apart there =
-      key_outside (before.tablets master number).handover.range row.range item.table item.key
-      (subst (λ (range : Range). meets (before.tablets master number).handover.range range ≡ false) row_range
-      (terms.apart master number row.tablet apart there (present (before.tablets master row.tablet).handover.role serves)))
+      key_outside (before.handovers master number).range row.range item.table item.key
+      (subst (λ (range : Range). meets (before.handovers master number).range range ≡ false) row_range
+      (terms.apart master number row.tablet apart there (present (before.handovers master row.tablet).role serves)))
       stages.inside
 
   -- the master has nothing of what it made ready for
-  bare_here : (number : ℕ) → IsBareOf (before.tablets master number) (before.written master) (records master) → IsBareOf (before.tablets master number) (with_one_more (before.written master) (entries.Held item)) (records master)
+  bare_here : (number : ℕ) → IsBareOf (before.handovers master number) (before.written master) (records master) → IsBareOf (before.handovers master number) (with_one_more (before.written master) (entries.Held item)) (records master)
   bare_here number bare =
       ⊎_elim
       (λ (its : number ≡ row.tablet).
-      serving_waits (before.tablets master number).handover.role _ (ap (λ (n : ℕ). is_serving (before.tablets master n).handover.role) its ∙ serves))
+      serving_waits (before.handovers master number).role _ (ap (λ (n : ℕ). is_serving (before.handovers master n).role) its ∙ serves))
       (λ (apart : number ≡ row.tablet → ⊥).
-      waits_then (before.tablets master number).handover.role
-      (λ from. IsBare (before.tablets master number).handover.range from (before.written master) (records master)) _
+      waits_then (before.handovers master number).role
+      (λ from. IsBare (before.handovers master number).range from (before.written master) (records master)) _
       (λ there from.
-      bare_pushed (before.tablets master number).handover.range from (before.written master) (records master) item (tablet_outside number apart there))
+      bare_pushed (before.handovers master number).range from (before.written master) (records master) item (tablet_outside number apart there))
       bare)
       (cases_eq number row.tablet)
 
   -- and each other one has as little as before
-  bare_written : (q r : ℕ) → IsBareOf (before.tablets q r) (before.written q) (records q) → IsBareOf (before.tablets q r) (after.written q) (records q)
+  bare_written : (q r : ℕ) → IsBareOf (before.handovers q r) (before.written q) (records q) → IsBareOf (before.handovers q r) (after.written q) (records q)
   bare_written q r bare =
       ⊎_elim
-      (λ (same : after.written q ≡ before.written q). subst (λ (w : Written). IsBareOf (before.tablets q r) w (records q)) (sym same) bare)
+      (λ (same : after.written q ≡ before.written q). subst (λ (w : Written). IsBareOf (before.handovers q r) w (records q)) (sym same) bare)
       (λ (at : (q ≡ master) × (after.written q ≡ with_one_more (before.written q) (entries.Held item))).
-      subst (λ (w : Written). IsBareOf (before.tablets q r) w (records q)) (sym at.1)
+      subst (λ (w : Written). IsBareOf (before.handovers q r) w (records q)) (sym at.1)
       (subst
-      (λ (n : ℕ). IsBareOf (before.tablets n r) (before.written n) (records n)
-      → IsBareOf (before.tablets n r) (with_one_more (before.written n) (entries.Held item)) (records n))
+      (λ (n : ℕ). IsBareOf (before.handovers n r) (before.written n) (records n)
+      → IsBareOf (before.handovers n r) (with_one_more (before.written n) (entries.Held item)) (records n))
       (sym at.0) (bare_here r) bare))
       (written_cases rows before after master row call item stages q)
 
   -- a counter that rises tells nothing of it
-  bare_staged : (q r : ℕ) → IsBareOf (before.tablets q r) (before.written q) (records q) → IsBareOf (after.tablets q r) (after.written q) (records q)
+  bare_staged : (q r : ℕ) → IsBareOf (before.handovers q r) (before.written q) (records q) → IsBareOf (after.handovers q r) (after.written q) (records q)
   bare_staged q r bare =
       ⊎_elim
-      (λ (same : after.tablets q r ≡ before.tablets q r).
-      subst (λ (tablet : Tablet). IsBareOf tablet (after.written q) (records q)) (sym same) (bare_written q r bare))
-      (λ (at : (q ≡ master) × (r ≡ row.tablet) × (after.tablets q r ≡ counted_up (before.tablets q r))).
-      subst (λ (tablet : Tablet). IsBareOf tablet (after.written q) (records q)) (sym at.2) (bare_written q r bare))
-      (now_cases counted_up before.tablets after.tablets master row.tablet stages.keeps_differ q r)
+      (λ (same : after.handovers q r ≡ before.handovers q r).
+      subst (λ (handover : Handover). IsBareOf handover (after.written q) (records q)) (sym same) (bare_written q r bare))
+      (λ (at : (q ≡ master) × (r ≡ row.tablet) × (after.handovers q r ≡ risen (before.handovers q r))).
+      subst (λ (handover : Handover). IsBareOf handover (after.written q) (records q)) (sym at.2) (bare_written q r bare))
+      (now_cases risen before.handovers after.handovers master row.tablet stages.keeps_differ q r)
 
 -- a write is staged
-pub receives_staged : (base : Base) (rows : List Row) (before after : Lane) (stored : ℕ → Segments) (records : ℕ → List Held) (live : ℕ → Bool) (handed : NumberMap Handed) (journal : List Placed) (wire : NumberMap Message) (master table : ℕ) (key : List ℕ) (call : Call) (item : Held) → Receives rows before.written before.tablets records handed → Rows rows before.written journal → Logs before.logs before.written stored wire → Counters base rows (truth_of base before.written) before.rests before.written before.tablets live handed journal wire → Terms rows before.tablets wire → Roles rows before.tablets before.written live → (served : IsServed rows (before.tablets master) (live master) master table key) → Stages rows before after master served.row call item → FirstIsDone before.written served.row.range (lineage_of served.row.phase) → Receives rows after.written after.tablets records handed
-receives_staged base rows before after stored records live handed journal wire master table key call item old placed held counters terms roles served stages done =
-    let low = counter_low base rows (truth_of base before.written) before.rests before.written before.tablets live handed journal wire master table key counters served in
+pub receives_staged : (base : Base) (rows : List Row) (before after : Lane) (stored : ℕ → Segments) (completions : ℕ → ℕ → Completions) (pullings : ℕ → ℕ → Pulling) (records : ℕ → List Held) (live : ℕ → Bool) (handed : NumberMap Handed) (journal : List Placed) (wire : NumberMap Message) (master table : ℕ) (key : List ℕ) (call : Call) (item : Held) → Receives rows before.written before.handovers completions pullings records handed → Rows rows before.written journal → Logs before.logs before.written stored wire → Counters base rows (truth_of base before.written) before.rests before.written before.handovers live handed journal wire → Terms rows before.handovers wire → Roles rows before.handovers before.written live → (served : IsServed rows (before.handovers master) (live master) master table key) → Stages rows before after master served.row call item → FirstIsDone before.written served.row.range (lineage_of served.row.phase) → Receives rows after.written after.handovers completions pullings records handed
+receives_staged base rows before after stored completions pullings records live handed journal wire master table key call item old placed held counters terms roles served stages done =
+    let low = counter_low base rows (truth_of base before.written) before.rests before.written before.handovers live handed journal wire master table key counters served in
     let fits : (before.written master).applied ≤ length (before.written master).entries =
     applied_within (before.logs master) (before.written master) (stored_of stored master) (held.each master) in
     record {
       targets = λ k d within.
           let other : Row = slice_index_or rows k d in
-          members_staged base rows before after records handed master served.row call item served.last stages served.is_last served.here low done fits other
+          members_staged base rows before after completions pullings records handed master served.row call item served.last stages served.is_last served.here low done fits other
           (Contains-get_or rows k d within) (lineage_of other.phase) (formed_apart other.phase (placed.formed k d within)) refl (placed.placed k d within) (old.targets k d within);
       handed_on = λ k d within.
           let other : Row = slice_index_or rows k d in
-          told_staged base rows before after records handed master served.row call item served.last stages served.is_last served.here other
+          told_staged base rows before after completions pullings records handed master served.row call item served.last stages served.is_last served.here other
           (Contains-get_or rows k d within) (lineage_of other.phase) (formed_apart other.phase (placed.formed k d within)) refl (old.handed_on k d within);
       bare = λ q r.
           bare_staged rows before after records live wire master served.row call item served.last stages served.is_last served.here served.lives

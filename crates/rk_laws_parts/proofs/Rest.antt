@@ -1,5 +1,5 @@
 -- Laws of the part Rest: what a frozen tablet and a staged write keep of it.
-use Rattle.std.proofs.Common.{◌≡◌, ℕ, ◌≤◌, Bool, true, false, List, ◌++◌, length, Option, refl, sym, ap, ◌∙◌, subst, ⊎_elim, inl}
+use Rattle.std.proofs.Common.{◌≡◌, ℕ, ◌≤◌, Bool, true, false, List, ◌++◌, length, Option, Some, refl, sym, ap, ◌∙◌, subst, ⊎_elim, inl}
 use Rattle.std.specs.Prelude.{slice_index_or, drop}
 use Rattle.std.specs.List.{Contains, list_any}
 use Rattle.std.proofs.lemmas.Bool.{false≢true}
@@ -10,63 +10,69 @@ use Rattle.rk_types.specs.declared.held.Held.{Held}
 use Rattle.rk_types.specs.declared.history.Placed.{Placed}
 use Rattle.rk_types.specs.declared.range.Range.{Range}
 use Rattle.rk_outside.specs.Segments.{Segments}
+use Rattle.rk_model.specs.Machine.{change_of}
 use Rattle.rk_entry.specs.declared.entry.Entry.{Entry}
 use Rattle.rk_entry.specs.declared.entry.Entry.TheVariants as entries
-use Rattle.rk_transfer.specs.declared.role.Role.TheVariants as roles
+use Rattle.rk_transfer.specs.declared.handover.Handover.{Handover}
 use Rattle.rk_tablet_map.specs.Phase.{lineage_of}
 use Rattle.rk_tablet_map.specs.declared.row.Row.{Row}
 use Rattle.rk_message.specs.declared.message.Message.{Message}
 use Rattle.rk_world.specs.Ranges.{has_key}
 use Rattle.rk_world.specs.Marks.{is_marked}
 use Rattle.rk_world.specs.Lineage.{is_member}
-use Rattle.rk_world.specs.Base.{Base}
+use Rattle.rk_world.specs.Ends.{end_of_item, outcome_of}
+use Rattle.rk_world.specs.Base.{Base, map_entry_of}
 use Rattle.rk_world.specs.Merge.{floor_of}
-use Rattle.rk_world.specs.Tablet.{Tablet}
 use Rattle.rk_world.specs.RoleTests.{is_idle, may_have_staged}
 use Rattle.rk_world.specs.Master.{touches}
 use Rattle.rk_world.specs.Requests.{item_of}
 use Rattle.rk_world.specs.Coordinator.{Handed}
 use Rattle.rk_world.specs.Ledger.{LastCall}
-use Rattle.rk_world.specs.Written.{Written}
-use Rattle.rk_world.specs.Sound.Rows.{Rows}
-use Rattle.rk_world.specs.Sound.Posts.{post_of, bond_of, Holds, StillCounts}
-use Rattle.rk_world.specs.Sound.Roles.{Roles, RoleFits}
-use Rattle.rk_world.specs.Sound.Logs.{Logs, stored_of}
-use Rattle.rk_world.specs.Sound.Counters.{Counters}
-use Rattle.rk_world.specs.Sound.Rest.{Rest, IsRest, IsEntryOf, IsLast, IsLastAsked}
-use Rattle.rk_world.specs.Sound.Changes.{MayBeStaged}
-use Rattle.rk_world.specs.Sound.Moves.{IsSettledIn}
-use Rattle.rk_world.specs.Sound.Small.{as_frozen}
-use Rattle.rk_laws_parts.proofs.Changing.{Lane, Freezes, Stages}
+use Rattle.rk_sound.specs.View.{View, truths, rests}
+use Rattle.rk_sound.specs.Rows.{Rows}
+use Rattle.rk_sound.specs.Posts.{post_of, bond_of, Holds, StillCounts}
+use Rattle.rk_sound.specs.Roles.{RoleFits}
+use Rattle.rk_sound.specs.Logs.{Logs, stored_of}
+use Rattle.rk_sound.specs.Counters.{Counters}
+use Rattle.rk_sound.specs.Rest.{Rest, IsRest, IsEntryOf, IsLast, IsLastAsked}
+use Rattle.rk_sound.specs.Whole.{RestOf, RolesOf}
+use Rattle.rk_sound.specs.Changes.{IsServed, MayEnd}
+use Rattle.rk_sound.specs.Moves.{IsSettledIn, MayFreeze}
+use Rattle.rk_sound.specs.Small.{as_frozen, frozen}
+use Rattle.rk_laws_parts.proofs.Changing.{Lane, Stages}
 use Rattle.rk_laws_parts.proofs.Differs.{still_counts}
 use Rattle.rk_laws_parts.proofs.Shares.{marked_none}
 use Rattle.rk_laws_parts.proofs.Staged.{counter_low, row_cases, counted_same}
-use Rattle.rk_laws_parts.proofs.Freezing.{froze_cases, closing_member}
+use Rattle.rk_laws_parts.proofs.Freezing.{closing_member}
+use Rattle.rk_laws_parts.proofs.Put.{put2_by}
 use Rattle.rk_laws_parts.proofs.Places.{behind_any}
 use Rattle.rk_laws_parts.proofs.Histories.{is_rest_staged}
 use Rattle.rk_laws_parts.proofs.Applied.{applied_within}
 use Rattle.rk_laws_parts.proofs.Waiting.{done_staged, idle_staged, waiting_staged, found_staged, unnamed_staged, asked_staged}
 
 -- nothing of the row of a tablet that closes is staged, where nothing of the range is that it keeps
-settled_row : (rows : List Row) (tablets : ℕ → ℕ → Tablet) (written : ℕ → Written) (live : ℕ → Bool) (master number : ℕ) → Roles rows tablets written live → live master ≡ true → (tablets master number).handover.role ≡ roles.Closing → IsSettledIn (tablets master number).handover.range (written master) → (q : ℕ) (row : Row) → Contains rows row → q ≡ master → row.tablet ≡ number → list_any (touches row.range) (drop (written q).applied (written q).entries) ≡ false
-settled_row rows tablets written live master number fits lives closing settled q row has here its =
-    let at : tablets master row.tablet ≡ tablets master number = ap (tablets master) its in
-    let fit : RoleFits row master (tablets master row.tablet).handover (written master).applied =
+settled_row : (v : View) (master number : ℕ) → RolesOf v → MayFreeze v master number → (q : ℕ) (row : Row) → Contains v.rows row → q ≡ master → row.tablet ≡ number → list_any (touches row.range) (drop (v.written q).applied (v.written q).entries) ≡ false
+settled_row v master number fits may q row has here its =
+    let at : v.handovers master row.tablet ≡ v.handovers master number = ap (v.handovers master) its in
+    let fit : RoleFits row master (v.handovers master row.tablet) (v.written master).applied =
     All-contains
-    (λ row. StillCounts (live master) (tablets master row.tablet).handover.term row.term
-    → RoleFits row master (tablets master row.tablet).handover (written master).applied) rows row (fits.fitting master) has (inl lives) in
+    (λ row. StillCounts (v.live master) (v.handovers master row.tablet).term row.term
+    → RoleFits row master (v.handovers master row.tablet) (v.written master).applied) v.rows row (fits.fitting master) has
+    (inl may.lives) in
     let member : is_member (lineage_of row.phase) master ≡ true =
-    closing_member row.phase master row.term (tablets master row.tablet).handover.term (written master).applied
-    (subst (λ role. Holds (bond_of (post_of row.phase master) role) row.term (tablets master row.tablet).handover.term (written master).applied)
-    (ap (λ (tablet : Tablet). tablet.handover.role) at ∙ closing) fit) in
-    let range : (tablets master row.tablet).handover.range ≡ row.range =
+    closing_member row.phase master row.term (v.handovers master row.tablet).term (v.written master).applied
+    (subst
+    (λ role. Holds (bond_of (post_of row.phase master) role) row.term (v.handovers master row.tablet).term (v.written master).applied)
+    (ap (λ (handover : Handover). handover.role) at ∙ may.closing) fit) in
+    let range : (v.handovers master row.tablet).range ≡ row.range =
     All-contains
-    (λ row. StillCounts (live master) (tablets master row.tablet).handover.term row.term
-    → is_member (lineage_of row.phase) master ≡ true → (tablets master row.tablet).handover.range ≡ row.range) rows row
-    (fits.ranged master) has (inl lives) member in
-    let same : (tablets master number).handover.range ≡ row.range = sym (ap (λ (tablet : Tablet). tablet.handover.range) at) ∙ range in
-    subst (λ (n : ℕ). list_any (touches row.range) (drop (written n).applied (written n).entries) ≡ false) (sym here)
-    (subst (λ (range : Range). IsSettledIn range (written master)) same settled)
+    (λ row. StillCounts (v.live master) (v.handovers master row.tablet).term row.term
+    → is_member (lineage_of row.phase) master ≡ true → (v.handovers master row.tablet).range ≡ row.range) v.rows row
+    (fits.ranged master) has (inl may.lives) member in
+    let same : (v.handovers master number).range ≡ row.range =
+    sym (ap (λ (handover : Handover). handover.range) at) ∙ range in
+    subst (λ (n : ℕ). list_any (touches row.range) (drop (v.written n).applied (v.written n).entries) ≡ false) (sym here)
+    (subst (λ (range : Range). IsSettledIn range (v.written master)) same may.settled)
 
 -- an entry of a call is of each range that has the call's key
 own_touches : (range : Range) (call : Call) (entry : Entry) → IsEntryOf call entry → has_key range call.table call.key ≡ true → touches range entry ≡ true
@@ -78,24 +84,19 @@ own_touches range call (entries.Carried carried) own inside = absurd own
 own_touches range call (entries.Joined joined) own inside = absurd own
 
 -- a tablet freezes of which nothing is staged
-pub rest_frozen : (base : Base) (rows : List Row) (truths rests : Row → List Entry) (written : ℕ → Written) (tablets now : ℕ → ℕ → Tablet) (calls : ℕ → NumberMap Call) (live : ℕ → Bool) (journal : List Placed) (asked : ℕ → Option LastCall) (master number : ℕ) → Rest base rows truths rests written tablets calls live journal asked → Roles rows tablets written live → live master ≡ true → (tablets master number).handover.role ≡ roles.Closing → Freezes master number tablets now → IsSettledIn (tablets master number).handover.range (written master) → Rest base rows truths rests written now calls live journal asked
-rest_frozen base rows truths rests written tablets now calls live journal asked master number old fits lives closing froze settled =
-    let quiet = settled_row rows tablets written live master number fits lives closing settled in
+pub rest_frozen : (v : View) (master number : ℕ) → RestOf v (truths v) (rests v) → RolesOf v → MayFreeze v master number → RestOf (frozen v master number) (truths v) (rests v)
+rest_frozen v master number old fits may =
+    let quiet = settled_row v master number fits may in
     record {
       goes_on = old.goes_on;
       done = old.done;
       unnamed = old.unnamed;
-      idle = λ q k d within counts idles.
-          let row : Row = slice_index_or rows k d in
-          ⊎_elim
-          (λ (same : now q row.tablet ≡ tablets q row.tablet).
-          old.idle q k d within
-          (still_counts (live q) (tablets q row.tablet).handover.term (now q row.tablet).handover.term row.term
-          (ap (λ (tablet : Tablet). tablet.handover.term) same) counts)
-          (sym (ap (λ (tablet : Tablet). is_idle tablet.handover.role) same) ∙ idles))
-          (λ (at : (q ≡ master) × (row.tablet ≡ number) × (now q row.tablet ≡ as_frozen (tablets q row.tablet))).
-          quiet q row (Contains-get_or rows k d within) at.0 at.1)
-          (froze_cases tablets now master number froze q row.tablet);
+      idle = λ q k d within.
+          let row : Row = slice_index_or v.rows k d in
+          put2_by v.handovers master number as_frozen
+          (λ kept. StillCounts (v.live q) kept.term row.term → is_idle kept.role ≡ true
+          → list_any (touches row.range) (drop (v.written q).applied (v.written q).entries) ≡ false) q row.tablet
+          (λ at its counts idles. quiet q row (Contains-get_or v.rows k d within) at its) (λ apart. old.idle q k d within);
       waiting = λ q alive place call there.
           let wait = old.waiting q alive place call there in record {
             behind = wait.behind;
@@ -110,16 +111,14 @@ rest_frozen base rows truths rests written tablets now calls live journal asked 
             is_last = wait.is_last;
             here = wait.here;
             may_stage =
-                ⊎_elim
-                (λ (same : now q wait.row.tablet ≡ tablets q wait.row.tablet).
-                ap (λ (tablet : Tablet). may_have_staged tablet.handover.role) same ∙ wait.may_stage)
-                (λ (at : (q ≡ master) × (wait.row.tablet ≡ number) × (now q wait.row.tablet ≡ as_frozen (tablets q wait.row.tablet))).
+                put2_by v.handovers master number as_frozen (λ kept. may_have_staged kept.role ≡ true) q wait.row.tablet
+                (λ at its.
                 absurd
                 (false≢true
-                (sym (quiet q wait.row wait.has_row at.0 at.1)
-                ∙ behind_any (touches wait.row.range) (written q).entries (written q).applied place wait.entry wait.behind wait.stands
+                (sym (quiet q wait.row wait.has_row at its)
+                ∙ behind_any (touches wait.row.range) (v.written q).entries (v.written q).applied place wait.entry wait.behind wait.stands
                 (own_touches wait.row.range call wait.entry wait.own wait.in_row))))
-                (froze_cases tablets now master number froze q wait.row.tablet);
+                (λ apart. wait.may_stage);
           };
       are_last = old.are_last;
       found = old.found;
@@ -130,20 +129,19 @@ last_asked : (asked : ℕ → Option LastCall) (journal : List Placed) (call : C
 last_asked asked journal call last same = subst (λ (o : Option LastCall). IsLast o call) (sym last.asked_is) same
 
 -- a write is staged
-pub rest_staged : (base : Base) (rows : List Row) (truths : Row → List Entry) (before after : Lane) (stored : ℕ → Segments) (live : ℕ → Bool) (handed : NumberMap Handed) (journal : List Placed) (asked : ℕ → Option LastCall) (wire : NumberMap Message) (master : ℕ) (call : Call) (value : Option (List ℕ)) → Rest base rows truths before.rests before.written before.tablets before.calls live journal asked → Rows rows before.written journal → Logs before.logs before.written stored wire → Counters base rows truths before.rests before.written before.tablets live handed journal wire → (may : MayBeStaged base rows before.rests (before.logs master) (before.tablets master) (live master) journal asked master call value) → Stages rows before after master may.served.row call (item_of call (before.tablets master may.served.row.tablet).handover.counter value) → Rest base rows truths after.rests after.written after.tablets after.calls live journal asked
-rest_staged base rows truths before after stored live handed journal asked wire master call value old placed held counters may stages =
-    let served = may.served in
+pub rest_staged : (base : Base) (rows : List Row) (truths : Row → List Entry) (before after : Lane) (stored : ℕ → Segments) (live : ℕ → Bool) (handed : NumberMap Handed) (journal : List Placed) (asked : ℕ → Option LastCall) (wire : NumberMap Message) (master : ℕ) (call : Call) (value : Option (List ℕ)) → Rest base rows truths before.rests before.written before.handovers before.calls live journal asked → Rows rows before.written journal → Logs before.logs before.written stored wire → Counters base rows truths before.rests before.written before.handovers live handed journal wire → (served : IsServed rows (before.handovers master) (live master) master call.table call.key) → MayEnd base (before.rests served.row) journal asked call (outcome_of (end_of_item (before.handovers master served.row.tablet).counter value)) → change_of call.op (outcome_of (end_of_item (before.handovers master served.row.tablet).counter value)) ≡ Some (map_entry_of (item_of call (before.handovers master served.row.tablet).counter value) value) → Stages rows before after master served.row call (item_of call (before.handovers master served.row.tablet).counter value) → Rest base rows truths after.rests after.written after.handovers after.calls live journal asked
+rest_staged base rows truths before after stored live handed journal asked wire master call value old placed held counters served ends leaves stages =
     let row : Row = served.row in
-    let counter : ℕ = (before.tablets master row.tablet).handover.counter in
+    let counter : ℕ = (before.handovers master row.tablet).counter in
     let item : Held = item_of call counter value in
     let own : IsEntryOf call (entries.Held item) = record { client_is = refl; seq_is = refl; table_is = refl; key_is = refl } in
     let low : floor_of (truths row ++ before.rests row) ≤ counter =
-    counter_low base rows truths before.rests before.written before.tablets live handed journal wire master call.table call.key counters served in
+    counter_low base rows truths before.rests before.written before.handovers live handed journal wire master call.table call.key counters served in
     let goes : IsRest base row.range (truths row) (after.rests row) journal asked =
     subst (λ (list : List Entry). IsRest base row.range (truths row) list journal asked) (sym stages.rest_here)
     (is_rest_staged base row.range (truths row) (before.rests row) journal asked call counter value
     (All-contains (λ r. IsRest base r.range (truths r) (before.rests r) journal asked) rows row old.goes_on served.has_row)
-    may.ends may.leaves low) in
+    ends leaves low) in
     let fits : (before.written master).applied ≤ length (before.written master).entries =
     applied_within (before.logs master) (before.written master) (stored_of stored master) (held.each master) in
     let unmarked : is_marked (before.written master).marks (length (before.written master).entries) ≡ false =
@@ -165,14 +163,14 @@ rest_staged base rows truths before after stored live handed journal asked wire 
           let other : Row = slice_index_or rows k d in
           idle_staged rows before after master row call item served.last stages served.is_last served.here served.serves q other (Contains-get_or rows k d within)
           (old.idle q k d within
-          (still_counts (live q) (before.tablets q other.tablet).handover.term (after.tablets q other.tablet).handover.term other.term
-          (counted_same rows before after master row call item stages (λ (tablet : Tablet). tablet.handover.term) (λ tablet. refl) q other.tablet) counts));
+          (still_counts (live q) (before.handovers q other.tablet).term (after.handovers q other.tablet).term other.term
+          (counted_same rows before after master row call item stages (λ (handover : Handover). handover.term) (λ tablet. refl) q other.tablet) counts));
       waiting = λ q alive.
           waiting_staged rows before after master row call item served.last stages served.is_last served.here served.serves own served.in_row fits unmarked q
           (old.waiting q alive);
       are_last = λ q alive.
           asked_staged rows before after master row call item served.last stages served.is_last served.here served.serves asked
-          (last_asked asked journal call may.ends.last may.ends.same_call) q (old.are_last q alive);
+          (last_asked asked journal call ends.last ends.same_call) q (old.are_last q alive);
       found = λ q alive.
           found_staged rows before after master row call item served.last stages served.is_last served.here served.serves own q (old.found q alive);
     }

@@ -1,31 +1,30 @@
 -- Laws of the part Roles: what tablets that look the same keep of it.
-use Rattle.std.proofs.Common.{Some, None, sym, subst, ◌∙◌, refl}
+use Rattle.std.proofs.Common.{Some, None, sym, subst, ◌∙◌}
 use Rattle.std.specs.Prelude.{◌≡◌, ℕ, Bool, true, List}
 use Rattle.std.proofs.lemmas.List.Elements.{All-weaker}
 use Rattle.rk_types.specs.declared.call.Call.{Call}
 use Rattle.rk_types.specs.declared.held.Held.{Held}
-use Rattle.rk_transfer.specs.declared.role.Role.TheVariants as roles
+use Rattle.rk_transfer.specs.declared.handover.Handover.{Handover}
 use Rattle.rk_tablet_map.specs.Phase.{lineage_of}
 use Rattle.rk_tablet_map.specs.declared.phase.Phase.{Phase}
 use Rattle.rk_tablet_map.specs.declared.phase.Phase.TheVariants.{Owned, Opening, Moving, Rebuilding}
 use Rattle.rk_tablet_map.specs.declared.row.Row.{Row}
 use Rattle.rk_world.specs.Lineage.{is_member}
-use Rattle.rk_world.specs.Tablet.{Tablet}
 use Rattle.rk_world.specs.Written.{Written}
-use Rattle.rk_world.specs.Sound.Posts.{post_of, bond_of, Holds, StillCounts}
-use Rattle.rk_world.specs.Sound.Roles.{Roles, RoleFits, KeepTerm}
-use Rattle.rk_world.specs.Sound.Changes.{IsServed}
-use Rattle.rk_laws_parts.proofs.Changing.{Lane, Freezes, Stages}
+use Rattle.rk_sound.specs.Posts.{post_of, bond_of, Holds, StillCounts}
+use Rattle.rk_sound.specs.Roles.{Roles, RoleFits, KeepTerm}
+use Rattle.rk_sound.specs.Changes.{IsServed}
+use Rattle.rk_laws_parts.proofs.Changing.{Lane, Stages}
 use Rattle.rk_laws_parts.proofs.Differs.{still_counts}
-use Rattle.rk_laws_parts.proofs.Seen.{LooksAs, each_looks_frozen}
+use Rattle.rk_laws_parts.proofs.Seen.{LooksAs}
 use Rattle.rk_laws_parts.proofs.Staged.{staged_looks}
 
 -- a tablet that looks as before fits its master's post as before
-role_looks : (row : Row) (master : ℕ) (old new : Tablet) (applied applied' : ℕ) → LooksAs old new → applied' ≡ applied → RoleFits row master old.handover applied → RoleFits row master new.handover applied'
+role_looks : (row : Row) (master : ℕ) (old new : Handover) (applied applied' : ℕ) → LooksAs old new → applied' ≡ applied → RoleFits row master old applied → RoleFits row master new applied'
 role_looks row master old new applied applied' looks same fits =
-    subst (λ (count : ℕ). RoleFits row master new.handover count) (sym same)
-    (subst (λ (term : ℕ). Holds (bond_of (post_of row.phase master) new.handover.role) row.term term applied) (sym looks.term)
-    (looks.role.fits (post_of row.phase master) row.term old.handover.term applied fits))
+    subst (λ (count : ℕ). RoleFits row master new count) (sym same)
+    (subst (λ (term : ℕ). Holds (bond_of (post_of row.phase master) new.role) row.term term applied) (sym looks.term)
+    (looks.role.fits (post_of row.phase master) row.term old.term applied fits))
 
 -- who hands a tablet over and who takes it keep the row's term as before
 terms_look : (phase : Phase) (terms terms' : ℕ → ℕ) (term : ℕ) → ((q : ℕ) → terms' q ≡ terms q) → KeepTerm phase terms term → KeepTerm phase terms' term
@@ -36,50 +35,45 @@ terms_look (Moving source sfrom target dfrom) terms terms' term same at = (same 
 terms_look (Rebuilding lineage to) terms terms' term same at = tt
 
 -- each tablet looks as before, and as much is applied
-pub roles_looks : (rows : List Row) (tablets tablets' : ℕ → ℕ → Tablet) (written written' : ℕ → Written) (live : ℕ → Bool) → Roles rows tablets written live → ((q r : ℕ) → LooksAs (tablets q r) (tablets' q r)) → ((q : ℕ) → (written' q).applied ≡ (written q).applied) → Roles rows tablets' written' live
-roles_looks rows tablets tablets' written written' live old looks same = record {
+pub roles_looks : (rows : List Row) (handovers handovers' : ℕ → ℕ → Handover) (written written' : ℕ → Written) (live : ℕ → Bool) → Roles rows handovers written live → ((q r : ℕ) → LooksAs (handovers q r) (handovers' q r)) → ((q : ℕ) → (written' q).applied ≡ (written q).applied) → Roles rows handovers' written' live
+roles_looks rows handovers handovers' written written' live old looks same = record {
   fitting = λ master.
       All-weaker
-      (λ row. StillCounts (live master) (tablets master row.tablet).handover.term row.term
-      → RoleFits row master (tablets master row.tablet).handover (written master).applied)
-      (λ row. StillCounts (live master) (tablets' master row.tablet).handover.term row.term
-      → RoleFits row master (tablets' master row.tablet).handover (written' master).applied)
+      (λ row. StillCounts (live master) (handovers master row.tablet).term row.term
+      → RoleFits row master (handovers master row.tablet) (written master).applied)
+      (λ row. StillCounts (live master) (handovers' master row.tablet).term row.term
+      → RoleFits row master (handovers' master row.tablet) (written' master).applied)
       (λ row fits counts.
-      role_looks row master (tablets master row.tablet) (tablets' master row.tablet) (written master).applied
+      role_looks row master (handovers master row.tablet) (handovers' master row.tablet) (written master).applied
       (written' master).applied (looks master row.tablet) (same master)
-      (fits (still_counts (live master) (tablets master row.tablet).handover.term (tablets' master row.tablet).handover.term row.term
+      (fits (still_counts (live master) (handovers master row.tablet).term (handovers' master row.tablet).term row.term
       (looks master row.tablet).term counts)))
       rows (old.fitting master);
   ranged = λ master.
       All-weaker
-      (λ row. StillCounts (live master) (tablets master row.tablet).handover.term row.term
-      → is_member (lineage_of row.phase) master ≡ true → (tablets master row.tablet).handover.range ≡ row.range)
-      (λ row. StillCounts (live master) (tablets' master row.tablet).handover.term row.term
-      → is_member (lineage_of row.phase) master ≡ true → (tablets' master row.tablet).handover.range ≡ row.range)
+      (λ row. StillCounts (live master) (handovers master row.tablet).term row.term
+      → is_member (lineage_of row.phase) master ≡ true → (handovers master row.tablet).range ≡ row.range)
+      (λ row. StillCounts (live master) (handovers' master row.tablet).term row.term
+      → is_member (lineage_of row.phase) master ≡ true → (handovers' master row.tablet).range ≡ row.range)
       (λ row ranged counts member.
       (looks master row.tablet).range
-      ∙ ranged (still_counts (live master) (tablets master row.tablet).handover.term (tablets' master row.tablet).handover.term row.term
+      ∙ ranged (still_counts (live master) (handovers master row.tablet).term (handovers' master row.tablet).term row.term
       (looks master row.tablet).term counts) member)
       rows (old.ranged master);
   at_term =
       All-weaker
-      (λ row. KeepTerm row.phase (λ q. (tablets q row.tablet).handover.term) row.term)
-      (λ row. KeepTerm row.phase (λ q. (tablets' q row.tablet).handover.term) row.term)
-      (λ row. terms_look row.phase (λ q. (tablets q row.tablet).handover.term) (λ q. (tablets' q row.tablet).handover.term) row.term
+      (λ row. KeepTerm row.phase (λ q. (handovers q row.tablet).term) row.term)
+      (λ row. KeepTerm row.phase (λ q. (handovers' q row.tablet).term) row.term)
+      (λ row. terms_look row.phase (λ q. (handovers q row.tablet).term) (λ q. (handovers' q row.tablet).term) row.term
       (λ q. (looks q row.tablet).term))
       rows old.at_term;
   known = λ master number lives there. old.known master number lives (sym (looks master number).role.absent ∙ there);
 }
 
--- a tablet that closes is frozen
-pub roles_frozen : (rows : List Row) (tablets now : ℕ → ℕ → Tablet) (written : ℕ → Written) (live : ℕ → Bool) (master number : ℕ) → Roles rows tablets written live → (tablets master number).handover.role ≡ roles.Closing → Freezes master number tablets now → Roles rows now written live
-roles_frozen rows tablets now written live master number old closing change =
-    roles_looks rows tablets now written written live old (each_looks_frozen master number tablets now closing change) (λ q. refl)
-
 -- a write is staged at a master that answers calls for its key
-pub roles_staged : (rows : List Row) (before after : Lane) (live : ℕ → Bool) (alive : Bool) (master : ℕ) (row : Row) (call : Call) (item : Held) → Roles rows before.tablets before.written live → Stages rows before after master row call item → IsServed rows (before.tablets master) alive master item.table item.key → Roles rows after.tablets after.written live
+pub roles_staged : (rows : List Row) (before after : Lane) (live : ℕ → Bool) (alive : Bool) (master : ℕ) (row : Row) (call : Call) (item : Held) → Roles rows before.handovers before.written live → Stages rows before after master row call item → IsServed rows (before.handovers master) alive master item.table item.key → Roles rows after.handovers after.written live
 roles_staged rows before after live alive master row call item old stages served =
     let looks =
     staged_looks rows before after master row call item stages
     alive served in
-    roles_looks rows before.tablets after.tablets before.written after.written live old looks.each looks.applied
+    roles_looks rows before.handovers after.handovers before.written after.written live old looks.each looks.applied

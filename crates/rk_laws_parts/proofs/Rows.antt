@@ -8,7 +8,7 @@ use Rattle.rk_types.specs.declared.history.Placed.{Placed}
 use Rattle.rk_tablet_map.specs.Phase.{lineage_of}
 use Rattle.rk_tablet_map.specs.declared.row.Row.{Row}
 use Rattle.rk_world.specs.Written.{Written}
-use Rattle.rk_world.specs.Sound.Rows.{Rows, IsPlaced}
+use Rattle.rk_sound.specs.Rows.{Rows, IsPlaced}
 use Rattle.rk_laws_parts.proofs.Changing.{Lane, Stages}
 use Rattle.rk_laws_parts.proofs.Staged.{staged_grown}
 

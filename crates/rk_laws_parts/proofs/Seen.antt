@@ -1,23 +1,20 @@
--- What rows and messages see of a tablet: its term, its range and its role, and of a frozen one its counter and its ends.
+-- What rows and messages see of a handover: its term, its range and its role, and of a frozen one its counter.
 use Rattle.std.proofs.Common.{refl, sym, ap, subst}
 use Rattle.std.specs.Prelude.{◌≡◌, ℕ, true}
 use Rattle.std.proofs.lemmas.Bool.{both_ways}
 use Rattle.rk_types.specs.declared.lineage.Member.{Member}
 use Rattle.rk_types.specs.declared.range.Range.{Range}
 use Rattle.rk_transfer.specs.Handover.{is_serving}
+use Rattle.rk_transfer.specs.declared.handover.Handover.{Handover}
 use Rattle.rk_transfer.specs.declared.role.Role.{Role}
 use Rattle.rk_transfer.specs.declared.role.Role.TheVariants as roles
-use Rattle.rk_world.specs.Tablet.{Tablet}
 use Rattle.rk_world.specs.RoleTests.{is_absent}
-use Rattle.rk_world.specs.Requests.{counted_up}
 use Rattle.rk_world.specs.Written.{Written, member_truth}
-use Rattle.rk_world.specs.Sound.Posts.{Post, bond_of, Holds}
-use Rattle.rk_world.specs.Sound.Posts.Post.{Owner, OpeningSource, InvitedTarget, ReadyTarget, MovingSource, MovingTarget, OnlyRebuilder, FirstRebuilder, LastRebuilder, OutsideRebuilder, FormerMember, Bystander}
-use Rattle.rk_world.specs.Sound.Handing.{is_wanting}
-use Rattle.rk_world.specs.Sound.Messages.{HasJoined, HasRebuilt}
-use Rattle.rk_world.specs.Sound.Small.{as_frozen}
-use Rattle.rk_laws_parts.proofs.Changing.{Freezes}
-use Rattle.rk_laws_parts.proofs.Differs.{keeps_each}
+use Rattle.rk_sound.specs.Posts.{Post, bond_of, Holds}
+use Rattle.rk_sound.specs.Posts.Post.{Owner, OpeningSource, InvitedTarget, ReadyTarget, MovingSource, MovingTarget, OnlyRebuilder, FirstRebuilder, LastRebuilder, OutsideRebuilder, FormerMember, Bystander}
+use Rattle.rk_sound.specs.Handing.{is_wanting}
+use Rattle.rk_sound.specs.Messages.{HasJoined, HasRebuilt}
+use Rattle.rk_sound.specs.Small.{as_frozen, risen}
 
 -- a role stands for rows and messages as another one did
 pub record GoesOn (old new : Role) : Type 0 where
@@ -32,17 +29,15 @@ pub record GoesOn (old new : Role) : Type 0 where
       → Holds (bond_of post old) term own applied → Holds (bond_of post new) term own applied
 
 -- a tablet is seen as another was
-pub record LooksAs (old new : Tablet) : Type 0 where
-  pub term : new.handover.term ≡ old.handover.term
-  pub range : new.handover.range ≡ old.handover.range
-  pub role : GoesOn old.handover.role new.handover.role
-  pub merged : new.merged_ends ≡ old.merged_ends
-  pub counter : old.handover.role ≡ roles.Frozen → new.handover.counter ≡ old.handover.counter
-  pub completions : old.handover.role ≡ roles.Frozen → new.completions ≡ old.completions
+pub record LooksAs (old new : Handover) : Type 0 where
+  pub term : new.term ≡ old.term
+  pub range : new.range ≡ old.range
+  pub role : GoesOn old.role new.role
+  pub counter : old.role ≡ roles.Frozen → new.counter ≡ old.counter
 
 -- each tablet is seen as it was, as much is applied, and that counts as before
-pub record AllLook (written written' : ℕ → Written) (tablets tablets' : ℕ → ℕ → Tablet) : Type 0 where
-  pub each : (q r : ℕ) → LooksAs (tablets q r) (tablets' q r)
+pub record AllLook (written written' : ℕ → Written) (handovers handovers' : ℕ → ℕ → Handover) : Type 0 where
+  pub each : (q r : ℕ) → LooksAs (handovers q r) (handovers' q r)
   pub applied : (q : ℕ) → (written' q).applied ≡ (written q).applied
   pub truths : (range : Range) (member : Member) → member_truth written' range member ≡ member_truth written range member
 
@@ -59,14 +54,12 @@ goes_on_same role = record {
 }
 
 -- a tablet looks as itself
-pub looks_same : (tablet : Tablet) → LooksAs tablet tablet
-looks_same tablet = record {
+pub looks_same : (handover : Handover) → LooksAs handover handover
+looks_same handover = record {
   term = refl;
   range = refl;
-  role = goes_on_same tablet.handover.role;
-  merged = refl;
+  role = goes_on_same handover.role;
   counter = λ _. refl;
-  completions = λ _. refl;
 }
 
 -- a post that takes a role that closes takes a frozen one at the same terms
@@ -97,29 +90,19 @@ closing_goes_on = record {
 }
 
 -- a tablet that closes looks the same once it is frozen
-pub frozen_looks : (tablet : Tablet) → tablet.handover.role ≡ roles.Closing → LooksAs tablet (as_frozen tablet)
-frozen_looks tablet closing = record {
+pub frozen_looks : (handover : Handover) → handover.role ≡ roles.Closing → LooksAs handover (as_frozen handover)
+frozen_looks handover closing = record {
   term = refl;
   range = refl;
   role = subst (λ (role : Role). GoesOn role roles.Frozen) (sym closing) closing_goes_on;
-  merged = refl;
   counter = λ _. refl;
-  completions = λ _. refl;
 }
 
 -- a tablet that is served looks the same once its counter rose
-pub counted_looks : (tablet : Tablet) → is_serving tablet.handover.role ≡ true → LooksAs tablet (counted_up tablet)
-counted_looks tablet serves = record {
+pub counted_looks : (handover : Handover) → is_serving handover.role ≡ true → LooksAs handover (risen handover)
+counted_looks handover serves = record {
   term = refl;
   range = refl;
-  role = goes_on_same tablet.handover.role;
-  merged = refl;
-  counter = λ frozen. absurd (both_ways (is_serving tablet.handover.role) (ap is_serving frozen) serves);
-  completions = λ _. refl;
+  role = goes_on_same handover.role;
+  counter = λ frozen. absurd (both_ways (is_serving handover.role) (ap is_serving frozen) serves);
 }
-
--- where a tablet that closes is frozen, each looks as it did
-pub each_looks_frozen : (master number : ℕ) (tablets now : ℕ → ℕ → Tablet) → (tablets master number).handover.role ≡ roles.Closing → Freezes master number tablets now → (q r : ℕ) → LooksAs (tablets q r) (now q r)
-each_looks_frozen master number tablets now closing change =
-    keeps_each LooksAs master number (as_frozen (tablets master number)) tablets now change looks_same
-    (frozen_looks (tablets master number) closing)

@@ -12,7 +12,7 @@ use Rattle.rk_entry.specs.declared.lists.TheConstants.{FIRST_SIDE_SEGMENT}
 use Rattle.rk_log.proofs.Cuts.{cut_push, cut_filled, length-le-bytes, room_some}
 use Rattle.rk_log.specs.Cut.{last_of, has_room, in_last, with_bytes, cut}
 use Rattle.rk_log.specs.Log.{Log, bytes_of, numbered, segment_bytes, segment_of, side_segments, with_entry}
-use Rattle.rk_world.specs.Sound.Logs.{IsFirstPart, is_main}
+use Rattle.rk_sound.specs.Logs.{IsFirstPart, is_main}
 
 -- ---- segments by their numbers
 

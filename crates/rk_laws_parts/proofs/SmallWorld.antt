@@ -33,6 +33,7 @@ use Rattle.rk_world.specs.Backup.{no_segments, with_stored}
 use Rattle.rk_world.specs.Ledger.{Ledger, LastCall}
 use Rattle.rk_world.specs.Written.{truth_of, rest_of}
 use Rattle.rk_world.specs.World.{World, written_in}
+use Rattle.rk_sound.specs.View.{View, view}
 
 -- all hashes of table 1
 abbrev pub small_range : Range
@@ -164,6 +165,10 @@ small_world = record {
   top = 4;
   base = no_base;
 }
+
+-- what is seen of it
+abbrev pub small_view : View
+small_view = view small_world
 
 -- the truth of each row, and what is behind it
 abbrev pub small_truths : Row → List Entry

@@ -23,12 +23,13 @@ use Rattle.rk_world.specs.RoleTests.{is_idle}
 use Rattle.rk_world.specs.Master.{Master, tablet_at, new_master, touches}
 use Rattle.rk_world.specs.Ledger.{asked_by}
 use Rattle.rk_world.specs.Written.{written_by, member_truth}
-use Rattle.rk_world.specs.World.{tablet_in, written_in, calls_in, records_in, lives}
-use Rattle.rk_world.specs.Sound.Posts.{Post, post_of, StillCounts}
-use Rattle.rk_world.specs.Sound.Calls.{Calls, IsKnown, IsReached, IsStagedEnd, ReachAll, TellAll, is_record_in}
-use Rattle.rk_world.specs.Sound.Rest.{Rest, IsRest, FirstIsDone, OnlyIsUnnamed, IsLast, Waits, HasCall, EachHasCall, is_call_entry}
-use Rattle.rk_world.specs.Sound.Tables.{Tables, HasItems, IsTableOf, has_all_items}
-use Rattle.rk_laws_parts.proofs.SmallWorld.{small_world, small_ledger, small_end, small_entry, small_item, small_journal, small_map, small_master, small_placed, small_range, small_rests, small_row, small_truths, small_wire}
+use Rattle.rk_world.specs.World.{tablet_in, written_in, calls_in, lives}
+use Rattle.rk_sound.specs.Posts.{Post, post_of, StillCounts}
+use Rattle.rk_sound.specs.Calls.{IsKnown, IsReached, IsStagedEnd, ReachAll, TellAll, is_record_in}
+use Rattle.rk_sound.specs.Rest.{IsRest, FirstIsDone, OnlyIsUnnamed, IsLast, Waits, HasCall, EachHasCall, is_call_entry}
+use Rattle.rk_sound.specs.Tables.{HasItems, IsTableOf, has_all_items}
+use Rattle.rk_sound.specs.Whole.{CallsOf, RestOf, TablesOf}
+use Rattle.rk_laws_parts.proofs.SmallWorld.{small_world, small_ledger, small_end, small_entry, small_item, small_journal, small_map, small_master, small_placed, small_range, small_rests, small_row, small_truths, small_view}
 use Rattle.rk_laws_parts.proofs.SmallWorldLooks.{all_one, each_master, each_none, each_speaking, each_tablet, first_place, nothing_kept, nothing_sent, one_stands, only_one, post_elsewhere}
 use Rattle.rk_laws_parts.proofs.SmallWorldHistory.{truth_is, small_live, small_legal}
 
@@ -63,7 +64,7 @@ known_one = inl (record {
 })
 
 -- the put has one record, and the truth and the completions tell its end
-pub small_calls : Calls no_base small_map small_truths small_rests (tablet_in small_world) (lives small_world) [] small_journal small_wire
+pub small_calls : CallsOf small_view small_truths small_rests
 small_calls = record {
   once = λ i j a b first second same. first_place small_placed a i first ∙ sym (first_place small_placed b j second);
   reached = all_one (λ row. TellAll row.range small_journal (small_truths row)) small_row
@@ -100,11 +101,11 @@ nothing_touched =
     (λ n apart. all_one (IsIdle n (new_master n [])) small_row (λ counts idle. refl))
 
 -- no call waits
-nothing_waits : (q : ℕ) → EachIn (λ place call. Waits small_map (tablet_in small_world q) (written_in small_world q) q place call) (calls_in small_world q)
+nothing_waits : (q : ℕ) → EachIn (λ place call. Waits small_map (small_view.handovers q) (written_in small_world q) q place call) (calls_in small_world q)
 nothing_waits =
-    each_master (λ n m. EachIn (λ place call. Waits small_map (tablet_at m) (written_by m []) n place call) m.calls)
-    (each_none (λ place call. Waits small_map (tablet_at small_master) (written_by small_master []) 1 place call))
-    (λ n apart. each_none (λ place call. Waits small_map (tablet_at (new_master n [])) (written_by (new_master n []) []) n place call))
+    each_master (λ n m. EachIn (λ place call. Waits small_map (λ r. (tablet_at m r).handover) (written_by m []) n place call) m.calls)
+    (each_none (λ place call. Waits small_map (λ r. (tablet_at small_master r).handover) (written_by small_master []) 1 place call))
+    (λ n apart. each_none (λ place call. Waits small_map (λ r. (tablet_at (new_master n []) r).handover) (written_by (new_master n []) []) n place call))
 
 -- and so none that was not asked
 none_unasked : (q : ℕ) → EachIn (λ place call. IsLast (asked_by small_ledger call.client) call) (calls_in small_world q)
@@ -122,7 +123,7 @@ nothing_behind q place entry =
     (λ n apart behind stands call unmarked. absurd (cc)) q
 
 -- the rest of the row is empty, and goes on lawfully
-pub small_rest : Rest no_base small_map small_truths small_rests (written_in small_world) (tablet_in small_world) (calls_in small_world) (lives small_world) small_journal (asked_by small_ledger)
+pub small_rest : RestOf small_view small_truths small_rests
 small_rest = record {
   goes_on = all_one (λ row. IsRest no_base row.range (small_truths row) (small_rests row) small_journal (asked_by small_ledger)) small_row rest_one;
   done = all_one (λ row. FirstIsDone (written_in small_world) row.range (lineage_of row.phase)) small_row tt;
@@ -181,7 +182,7 @@ unfolding IsStrictlySortedBy
 order_none = tt
 
 -- the tables are in order, and the owner's has all items
-pub small_tables : Tables small_map (written_in small_world) (tablet_in small_world) (records_in small_world) (lives small_world)
+pub small_tables : TablesOf small_view
 small_tables = record {
   ordered = each_master (λ n m. IsInScanOrder m.records) (order_one small_item) (λ n apart. order_none);
   items = λ q live. each_master (λ n m. All (IsFull n m) small_map)

@@ -17,11 +17,12 @@ use Rattle.rk_world.specs.Merge.{floor_of}
 use Rattle.rk_world.specs.Master.{tablet_at}
 use Rattle.rk_world.specs.Ledger.{asked_by}
 use Rattle.rk_world.specs.Written.{written_by}
-use Rattle.rk_world.specs.World.{tablet_in, written_in, lives}
-use Rattle.rk_world.specs.Sound.Truth.{Truth, IsTruth, IsAfterSeen}
-use Rattle.rk_world.specs.Sound.Order.{Order, AreAbove}
-use Rattle.rk_world.specs.Sound.Counters.{Counters, IsNext, AreAboveMap, IsFloor}
-use Rattle.rk_laws_parts.proofs.SmallWorld.{small_world, small_ledger, small_entry, small_item, small_key, small_placed, small_range, small_row, small_map, small_journal, small_truths, small_rests, small_value, small_wire}
+use Rattle.rk_world.specs.World.{written_in}
+use Rattle.rk_sound.specs.Truth.{Truth, IsTruth, IsAfterSeen}
+use Rattle.rk_sound.specs.Order.{Order, AreAbove}
+use Rattle.rk_sound.specs.Counters.{IsNext, AreAboveMap, IsFloor}
+use Rattle.rk_sound.specs.Whole.{CountersOf}
+use Rattle.rk_laws_parts.proofs.SmallWorld.{small_world, small_ledger, small_entry, small_item, small_key, small_placed, small_range, small_row, small_map, small_journal, small_truths, small_rests, small_value, small_view}
 use Rattle.rk_laws_parts.proofs.SmallWorldLooks.{each_speaking, nothing_kept, nothing_sent, all_one, only_one}
 
 -- the truth of the row is the put alone
@@ -96,7 +97,7 @@ next_one = record {
 }
 
 -- the next version is above all that were given
-pub small_counters : Counters no_base small_map small_truths small_rests (written_in small_world) (tablet_in small_world) (lives small_world) [] small_journal small_wire
+pub small_counters : CountersOf small_view small_truths small_rests
 small_counters = record {
   low = all_one (λ row. AreAboveMap row.range (map_after (base_map no_base) small_journal) (small_truths row)) small_row low_one;
   counted = λ q. each_speaking

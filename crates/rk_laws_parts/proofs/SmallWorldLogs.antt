@@ -12,7 +12,7 @@ use Rattle.rk_log.specs.Log.{new_log, bytes_of, committed, known_of, is_side_sto
 use Rattle.rk_world.specs.Master.{new_master}
 use Rattle.rk_world.specs.Written.{written_by}
 use Rattle.rk_world.specs.World.{backup_at, log_in, written_in}
-use Rattle.rk_world.specs.Sound.Logs.{Logs, IsLog, IsCopy, IsFirstPart, IsKnownBefore, IsFromLog, LogSays, segments_in, stored_of}
+use Rattle.rk_sound.specs.Logs.{Logs, IsLog, IsCopy, IsFirstPart, IsKnownBefore, IsFromLog, LogSays, segments_in, stored_of}
 use Rattle.rk_laws_parts.proofs.SmallWorld.{small_world, small_bytes, small_entry, small_known, small_log, small_master, small_piece, small_stored, small_wire}
 use Rattle.rk_laws_parts.proofs.SmallWorldLooks.{each_master, each_message, all_one}
 

@@ -15,9 +15,9 @@ use Rattle.rk_world.specs.Coordinator.{Handed}
 use Rattle.rk_world.specs.Backup.{no_segments}
 use Rattle.rk_world.specs.Ledger.{LastCall, asked_by}
 use Rattle.rk_world.specs.World.{master_at, backup_at, tablet_in, lives}
-use Rattle.rk_world.specs.Sound.Posts.{Post, Owner, Bystander, post_of, speaks, StillCounts}
-use Rattle.rk_world.specs.Sound.Handing.{handed_by, handed_for_grant}
-use Rattle.rk_laws_parts.proofs.SmallWorld.{small_world, small_master, small_tablet, small_stored, small_last, small_wire, small_request, small_append, small_told, small_reply, small_ledger, small_row, small_map}
+use Rattle.rk_sound.specs.Posts.{Post, Owner, Bystander, post_of, speaks, StillCounts}
+use Rattle.rk_sound.specs.Handing.{handed_by, handed_for_grant}
+use Rattle.rk_laws_parts.proofs.SmallWorld.{small_world, small_master, small_tablet, small_stored, small_last, small_wire, small_request, small_append, small_told, small_reply, small_ledger, small_row, small_map, small_view}
 
 -- what is found in a table of one thing
 found_one : {X : Type 0} (number : ℕ) (thing : X) (q : ℕ) → get ((number, thing) ∷ []) q ≡ cond (eqb q number) (Some thing) None
@@ -125,9 +125,9 @@ each_speaking P here q =
         in let f : true ≡ false = sym says ∙ e in absurd (cc)
 
 -- nothing that was handed over is kept
-pub nothing_kept : (F : Row → Handed → Type 0) → All (λ row. IfSome (handed_for_grant row (tablet_in small_world) []) (F row)) small_map
-nothing_kept F = all_one (λ row. IfSome (handed_for_grant row (tablet_in small_world) []) (F row)) small_row tt
+pub nothing_kept : (F : Row → Handed → Type 0) → All (λ row. IfSome (handed_for_grant row small_view.handovers []) (F row)) small_map
+nothing_kept F = all_one (λ row. IfSome (handed_for_grant row small_view.handovers []) (F row)) small_row tt
 
 -- and no message hands anything over
-pub nothing_sent : (F : Row → Handed → Type 0) → EachIn (λ number message. All (λ row. IfSome (handed_by row (tablet_in small_world) message.body) (F row)) small_map) small_wire
-nothing_sent F = each_sent (λ row message. IfSome (handed_by row (tablet_in small_world) message.body) (F row)) tt tt tt tt
+pub nothing_sent : (F : Row → Handed → Type 0) → EachIn (λ number message. All (λ row. IfSome (handed_by row small_view.handovers message.body) (F row)) small_map) small_wire
+nothing_sent F = each_sent (λ row message. IfSome (handed_by row small_view.handovers message.body) (F row)) tt tt tt tt

@@ -1,5 +1,5 @@
 -- The small world keeps the parts Nodes, Rows, Terms, Cover and Roles.
-use Rattle.std.proofs.Common.{[], ◌≡◌, ℕ, ◌≤◌, Bool, true, false, eqb, ◌||◌, length, None, refl, sym, ap, subst, ◌∙◌, arith}
+use Rattle.std.proofs.Common.{◌≡◌, ℕ, ◌≤◌, Bool, true, false, eqb, ◌||◌, length, None, refl, sym, ap, subst, ◌∙◌, arith}
 use Rattle.std.specs.Prelude.{All, IfSome, is_some}
 use Rattle.std.specs.List.{flat_map}
 use Rattle.std.proofs.lemmas.Bool.{eqb-true}
@@ -14,15 +14,15 @@ use Rattle.rk_world.specs.Tablet.{no_tablet}
 use Rattle.rk_world.specs.RoleTests.{is_absent}
 use Rattle.rk_world.specs.Master.{tablet_at}
 use Rattle.rk_world.specs.Notices.{names}
-use Rattle.rk_world.specs.World.{master_at, tablet_in, records_in, written_in, lives}
+use Rattle.rk_world.specs.World.{tablet_in, written_in, lives}
 use Rattle.rk_world.specs.Premises.{IsMaster}
-use Rattle.rk_world.specs.Sound.Nodes.{Nodes}
-use Rattle.rk_world.specs.Sound.Rows.{Rows, IsFormed, IsPlaced}
-use Rattle.rk_world.specs.Sound.Terms.{Terms, HandoverFits, SentFits, IsWithinTerm, IsBelowOthers, tenure_in, range_in}
-use Rattle.rk_world.specs.Sound.Cover.{Cover, IsWithinRows, IsItemWithin, IsEntryWithin, IsOfWholeRows}
-use Rattle.rk_world.specs.Sound.Posts.{Post, Holds, bond_of, StillCounts}
-use Rattle.rk_world.specs.Sound.Roles.{Roles, RoleFits, KeepTerm}
-use Rattle.rk_laws_parts.proofs.SmallWorld.{small_world, small_entry, small_item, small_key, small_master, small_range, small_tablet, small_row, small_map, small_journal, small_placed, small_wire, small_request, small_append, small_told, small_reply}
+use Rattle.rk_sound.specs.Rows.{IsFormed, IsPlaced}
+use Rattle.rk_sound.specs.Terms.{HandoverFits, SentFits, IsWithinTerm, IsBelowOthers, tenure_in, range_in}
+use Rattle.rk_sound.specs.Cover.{IsWithinRows, IsItemWithin, IsEntryWithin, IsOfWholeRows}
+use Rattle.rk_sound.specs.Posts.{Post, Holds, bond_of, StillCounts}
+use Rattle.rk_sound.specs.Roles.{RoleFits, KeepTerm}
+use Rattle.rk_sound.specs.Whole.{NodesOf, RowsOf, TermsOf, CoverOf, RolesOf}
+use Rattle.rk_laws_parts.proofs.SmallWorld.{small_world, small_entry, small_item, small_key, small_master, small_range, small_tablet, small_row, small_map, small_placed, small_request, small_append, small_told, small_reply, small_view}
 use Rattle.rk_laws_parts.proofs.SmallWorldLooks.{each_master, each_message, each_tablet, each_sent, all_one, not_owner, post_elsewhere}
 
 -- a master that the row names is the one that is there
@@ -32,7 +32,7 @@ named_is_there q named =
     subst (λ (n : ℕ). IsMaster 1 n) is (record { first = omega arith; last = omega arith })
 
 -- one master with one backup, and nobody was noticed dead
-pub small_nodes : Nodes (master_at small_world) 1 1 small_map [] (lives small_world)
+pub small_nodes : NodesOf small_view
 small_nodes = record {
   numbered = each_master (λ q m. m.number ≡ q) refl (λ q apart. refl);
   backed = omega arith;
@@ -49,7 +49,7 @@ unfolding hash_of
 covered_one = refl
 
 -- one row, whose owner has its place at the front of its log
-pub small_rows : Rows small_map (written_in small_world) small_journal
+pub small_rows : RowsOf small_view
 small_rows = record {
   apart = (tt, tt);
   begun = all_one (λ row. 1 ≤ row.term) small_row (omega arith);
@@ -88,9 +88,9 @@ no_tenure body none = record {
 }
 
 -- no term is ahead of the row, and no two tablets meet
-pub small_terms : Terms small_map (tablet_in small_world) small_wire
+pub small_terms : TermsOf small_view
 small_terms = record {
-  handovers = each_tablet (λ q r tablet. All (λ row. HandoverFits row r tablet.handover) small_map)
+  kept = each_tablet (λ q r tablet. All (λ row. HandoverFits row r tablet.handover) small_map)
       (all_one (λ row. HandoverFits row 1 small_tablet.handover) small_row handover_here)
       (λ q r apart. all_one (λ row. HandoverFits row r no_tablet.handover) small_row (handover_nowhere r));
   apart = λ q a b apart first second. absurd (apart ((present_one q a first).1 ∙ sym (present_one q b second).1));
@@ -104,7 +104,7 @@ within_one : IsWithinRows small_map small_range
 within_one hash here = ap (λ (b : Bool). b || false) here
 
 -- the tablet has a row, and nothing is spoken of that lies in none
-pub small_cover : Cover small_map (written_in small_world) (tablet_in small_world) (records_in small_world) small_wire
+pub small_cover : CoverOf small_view
 small_cover = record {
   unknown = each_tablet (λ q r tablet. row_of small_map r ≡ None → tablet.handover.term ≡ 0) (λ none. absurd (cc)) (λ q r apart none. refl);
   marks = λ q. All-nil _;
@@ -137,7 +137,7 @@ not_member q apart there =
     let f : true ≡ false = sym there ∙ e in absurd (cc)
 
 -- the owner serves, and each other master is absent
-pub small_roles : Roles small_map (tablet_in small_world) (written_in small_world) (lives small_world)
+pub small_roles : RolesOf small_view
 small_roles = record {
   fitting = λ q. each_master
       (λ n m. All (λ row. StillCounts (lives small_world q) (tablet_at m row.tablet).handover.term row.term → RoleFits row n (tablet_at m row.tablet).handover m.applied) small_map)

@@ -18,7 +18,7 @@ use Rattle.rk_world.specs.declared.event.Event.TheVariants as events
 use Rattle.rk_world.proofs.Scene.{Scene, Does, Calls, Asks, Delivers, played}
 use Rattle.rk_world.specs.Client.{Session, new_session}
 use Rattle.rk_world.specs.World.{new_world}
-use Rattle.rk_world.specs.Sound.Whole.{IsSound}
+use Rattle.rk_sound.specs.Whole.{IsSound}
 use Rattle.rk_laws_parts.proofs.SmallWorld.{small_world, small_range, small_key, small_value, small_request, small_append, small_told, small_reply}
 use Rattle.rk_laws_parts.proofs.SmallWorldSound.{small_is_sound}
 

@@ -8,8 +8,8 @@ use Rattle.rk_entry.specs.Numbers.{number_bytes}
 use Rattle.rk_entry.specs.Spelling.{head_bytes, held_bytes, body_length, front_bytes, spelled, mark_of}
 use Rattle.rk_entry.specs.Texts.{key_bytes, value_bytes}
 use Rattle.rk_world.specs.World.{bytes_of_logs, standing}
-use Rattle.rk_world.specs.Sound.Room.{AreAtMost, numbers_of, numbers_told}
-use Rattle.rk_world.specs.Sound.Whole.{HasRoom}
+use Rattle.rk_sound.specs.Room.{AreAtMost, numbers_of, numbers_told}
+use Rattle.rk_sound.specs.Whole.{HasRoom}
 use Rattle.rk_laws_parts.proofs.SmallWorld.{small_entry, small_request, small_world}
 use Rattle.rk_laws_parts.proofs.SmallWorldLooks.{all_one, each_master, each_message, each_none, each_request}
 

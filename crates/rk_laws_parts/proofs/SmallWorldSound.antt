@@ -1,5 +1,5 @@
 -- The small world is sound: it keeps each part.
-use Rattle.rk_world.specs.Sound.Whole.{IsSound}
+use Rattle.rk_sound.specs.Whole.{IsSound}
 use Rattle.rk_laws_parts.proofs.SmallWorld.{small_world}
 use Rattle.rk_laws_parts.proofs.SmallWorldMap.{small_nodes, small_rows, small_terms, small_cover, small_roles}
 use Rattle.rk_laws_parts.proofs.SmallWorldLogs.{small_logs}

@@ -8,32 +8,33 @@ use Rattle.rk_types.specs.declared.call.Outcome.TheVariants as outcomes
 use Rattle.rk_model.specs.Merged.{lane_of_key}
 use Rattle.rk_tablet_map.specs.Phase.{lineage_of}
 use Rattle.rk_world.specs.Ledger.{asked_by}
-use Rattle.rk_world.specs.World.{backup_at, tablet_in, lives, log_in, records_in, written_in}
-use Rattle.rk_world.specs.Sound.Receives.{Receives, HandedFits, IsBare, MembersFit, wanted_place}
-use Rattle.rk_world.specs.Sound.Rebuilds.{Rebuilds, HasOwnRange, MarkFits, RowIsRebuilt}
-use Rattle.rk_world.specs.Sound.Messages.{Messages, IsRecordAt, Says, SaysOf}
-use Rattle.rk_world.specs.Sound.Asked.{Asked, IsLastCall, IsRequest, RequestFits, RequestSays, WasAsked}
-use Rattle.rk_laws_parts.proofs.SmallWorld.{small_answer, small_asks, small_ledger, small_journal, small_key, small_map, small_placed, small_row, small_truths, small_wire, small_world}
+use Rattle.rk_world.specs.World.{backup_at, lives, log_in, records_in, written_in}
+use Rattle.rk_sound.specs.Receives.{HandedFits, IsBare, MembersFit, wanted_place}
+use Rattle.rk_sound.specs.Rebuilds.{HasOwnRange, MarkFits, RowIsRebuilt}
+use Rattle.rk_sound.specs.Messages.{IsRecordAt, Says, SaysOf}
+use Rattle.rk_sound.specs.Asked.{Asked, IsLastCall, IsRequest, RequestFits, RequestSays, WasAsked}
+use Rattle.rk_sound.specs.Whole.{ReceivesOf, RebuildsOf, MessagesOf}
+use Rattle.rk_laws_parts.proofs.SmallWorld.{small_answer, small_asks, small_ledger, small_journal, small_key, small_placed, small_row, small_truths, small_wire, small_world, small_view}
 use Rattle.rk_laws_parts.proofs.SmallWorldLooks.{all_one, each_client, each_message, each_request, each_sent, each_tablet, first_place}
 
 -- nothing moves, and nobody made ready for a tablet
-pub small_receives : Receives small_map (written_in small_world) (tablet_in small_world) (records_in small_world) []
+pub small_receives : ReceivesOf small_view
 small_receives = record {
-  targets = all_one (λ row. MembersFit row (written_in small_world) (tablet_in small_world) (records_in small_world) [] (lineage_of row.phase)) small_row tt;
-  handed_on = all_one (λ row. HandedFits row (tablet_in small_world) [] (lineage_of row.phase)) small_row tt;
+  targets = all_one (λ row. MembersFit row (written_in small_world) small_view.handovers small_view.pullings (records_in small_world) [] (lineage_of row.phase)) small_row tt;
+  handed_on = all_one (λ row. HandedFits row small_view.handovers small_view.completions [] (lineage_of row.phase)) small_row tt;
   bare = λ q r. each_tablet
       (λ n t tablet. IfSome (wanted_place tablet.handover.role) (λ from. IsBare tablet.handover.range from (written_in small_world q) (records_in small_world q)))
       tt (λ n t apart. tt) q r;
 }
 
 -- nothing is rebuilt, and nothing is marked
-pub small_rebuilds : Rebuilds small_map small_truths (log_in small_world) (written_in small_world) (backup_at small_world) (tablet_in small_world) (records_in small_world) (lives small_world)
+pub small_rebuilds : RebuildsOf small_view small_truths
 small_rebuilds = record {
   rebuilt = all_one
-      (λ row. RowIsRebuilt row row.phase (small_truths row) (log_in small_world) (written_in small_world) (backup_at small_world) (tablet_in small_world) (records_in small_world) (lives small_world))
+      (λ row. RowIsRebuilt row row.phase (small_truths row) (log_in small_world) (written_in small_world) (backup_at small_world) small_view.handovers small_view.completions small_view.gathers small_view.merged (records_in small_world) (lives small_world))
       small_row tt;
   marks = λ q. all_one
-      (λ row. All (λ mark. mark.tablet ≡ row.tablet → MarkFits row q (tablet_in small_world q row.tablet) (lives small_world q) mark) (written_in small_world q).marks)
+      (λ row. All (λ mark. mark.tablet ≡ row.tablet → MarkFits row q (small_view.handovers q row.tablet) (lives small_world q) mark) (written_in small_world q).marks)
       small_row (All-nil _);
   pieces = λ q. all_one
       (λ row. All (λ mark. mark.tablet ≡ row.tablet → HasOwnRange row.range (written_in small_world q).entries mark) (written_in small_world q).marks)
@@ -52,10 +53,10 @@ reply_one = record {
 }
 
 -- no message speaks of the row, and the reply is that of the record
-pub small_messages : Messages small_map (log_in small_world) (written_in small_world) (backup_at small_world) (tablet_in small_world) (lives small_world) [] small_journal small_wire
+pub small_messages : MessagesOf small_view
 small_messages = record {
   of_rows = each_sent
-      (λ row message. SaysOf row (log_in small_world) (written_in small_world) (backup_at small_world) (tablet_in small_world) (lives small_world) [] message.from message.to message.body)
+      (λ row message. SaysOf row (log_in small_world) (written_in small_world) (backup_at small_world) small_view.handovers small_view.completions small_view.merged (lives small_world) [] message.from message.to message.body)
       tt tt tt tt;
   others = each_message (λ number message. Says small_journal message.to message.body) tt tt tt reply_one;
 }

@@ -3,11 +3,13 @@ use Rattle.std.proofs.Common.{◌≡◌, ℕ, Bool, true, false, ◌&&◌, ltb, 
 use Rattle.std.specs.Prelude.{⊤}
 use Rattle.std.proofs.lemmas.Bool.{cases_eq, ne_eqb, eqb-true, cond-false, cond_both, or_left, and_left, and_right}
 use Rattle.rk_types.specs.NumberMap.{NumberMap}
+use Rattle.rk_types.specs.declared.call.Ended.{Ended}
 use Rattle.rk_types.specs.declared.lineage.Member.{Member}
 use Rattle.rk_types.specs.declared.node.Node.{Node}
 use Rattle.rk_types.specs.declared.node.Node.TheVariants as nodes
 use Rattle.rk_outside.specs.Segments.{Segments}
 use Rattle.rk_log.specs.Log.{Log}
+use Rattle.rk_done.specs.Completions.{Completions}
 use Rattle.rk_transfer.specs.Handover.{is_serving}
 use Rattle.rk_transfer.specs.declared.handover.Handover.{Handover}
 use Rattle.rk_transfer.specs.declared.role.Role.{Role}
@@ -20,15 +22,14 @@ use Rattle.rk_message.specs.declared.handover.Transfer.{Transfer}
 use Rattle.rk_message.specs.declared.message.Body.{Body}
 use Rattle.rk_message.specs.declared.message.Body.TheVariants as bodies
 use Rattle.rk_world.specs.Lineage.{is_member, second_of, last_of}
-use Rattle.rk_world.specs.Tablet.{Tablet}
 use Rattle.rk_world.specs.RoleTests.{is_rebuilding}
 use Rattle.rk_world.specs.Coordinator.{Handed}
 use Rattle.rk_world.specs.Written.{Written}
-use Rattle.rk_world.specs.Sound.Rows.{AreApart, IsFormed}
-use Rattle.rk_world.specs.Sound.Posts.{Post, Owner, OpeningSource, InvitedTarget, ReadyTarget, MovingSource, MovingTarget, OnlyRebuilder, FirstRebuilder, LastRebuilder, OutsideRebuilder, FormerMember, Bystander, target_post, rebuilder_post, post_of, bond_of, Holds, speaks}
-use Rattle.rk_world.specs.Sound.Roles.{RoleFits}
-use Rattle.rk_world.specs.Sound.Handing.{is_wanting, is_opening, second_has, is_waiting, is_waiting_at, handed_by}
-use Rattle.rk_world.specs.Sound.Messages.{SaysOf, TransferIn}
+use Rattle.rk_sound.specs.Rows.{AreApart, IsFormed}
+use Rattle.rk_sound.specs.Posts.{Post, Owner, OpeningSource, InvitedTarget, ReadyTarget, MovingSource, MovingTarget, OnlyRebuilder, FirstRebuilder, LastRebuilder, OutsideRebuilder, FormerMember, Bystander, target_post, rebuilder_post, post_of, bond_of, Holds, speaks}
+use Rattle.rk_sound.specs.Roles.{RoleFits}
+use Rattle.rk_sound.specs.Handing.{is_wanting, is_opening, second_has, is_waiting, is_waiting_at, handed_by}
+use Rattle.rk_sound.specs.Messages.{SaysOf, TransferIn}
 
 -- a master that serves speaks, whatever its post
 pub speaks_serving : (post : Post) (handover : Handover) (term : ℕ) → is_serving handover.role ≡ true → speaks post handover term ≡ true
@@ -117,22 +118,22 @@ serving_wants (roles.Wanting from) serves = absurd (cc)
 serving_wants _ serves = refl
 
 -- no second member waits while the last member of the lineage serves
-second_serves : (row : Row) (tablets : ℕ → ℕ → Tablet) (last member : Member) → is_serving (tablets last.master row.tablet).handover.role ≡ true → Some member ≡ Some last → is_wanting (tablets member.master row.tablet).handover.role ≡ false
-second_serves row tablets last member serves is =
+second_serves : (row : Row) (handovers : ℕ → ℕ → Handover) (last member : Member) → is_serving (handovers last.master row.tablet).role ≡ true → Some member ≡ Some last → is_wanting (handovers member.master row.tablet).role ≡ false
+second_serves row handovers last member serves is =
     let same : member ≡ last = cc in
-    serving_wants (tablets member.master row.tablet).handover.role (ap (λ (m : Member). is_serving (tablets m.master row.tablet).handover.role) same ∙ serves)
+    serving_wants (handovers member.master row.tablet).role (ap (λ (m : Member). is_serving (handovers m.master row.tablet).role) same ∙ serves)
 
-lineage_waits : (row : Row) (tablets : ℕ → ℕ → Tablet) (lineage : List Member) (last : Member) → AreApart lineage → last_of lineage ≡ Some last → is_serving (tablets last.master row.tablet).handover.role ≡ true → is_waiting (second_has tablets row (second_of lineage)) ≡ false
-lineage_waits row tablets [] last formed is serves = refl
-lineage_waits row tablets (only ∷ []) last formed is serves = refl
-lineage_waits row tablets (first ∷ second ∷ []) last formed is serves = second_serves row tablets last second serves is
-lineage_waits row tablets (first ∷ second ∷ third ∷ more) last formed is serves = absurd formed
+lineage_waits : (row : Row) (handovers : ℕ → ℕ → Handover) (lineage : List Member) (last : Member) → AreApart lineage → last_of lineage ≡ Some last → is_serving (handovers last.master row.tablet).role ≡ true → is_waiting (second_has handovers row (second_of lineage)) ≡ false
+lineage_waits row handovers [] last formed is serves = refl
+lineage_waits row handovers (only ∷ []) last formed is serves = refl
+lineage_waits row handovers (first ∷ second ∷ []) last formed is serves = second_serves row handovers last second serves is
+lineage_waits row handovers (first ∷ second ∷ third ∷ more) last formed is serves = absurd formed
 
-pub none_waits : (row : Row) (tablets : ℕ → ℕ → Tablet) (phase : Phase) (last : Member) → IsFormed phase → last_of (lineage_of phase) ≡ Some last → is_serving (tablets last.master row.tablet).handover.role ≡ true → is_waiting (second_has tablets row (second_of (lineage_of phase))) ≡ false
-none_waits row tablets (Owned owner from) last formed is serves = refl
-none_waits row tablets (Opening source sfrom target dfrom) last formed is serves = refl
-none_waits row tablets (Moving source sfrom target dfrom) last formed is serves = second_serves row tablets last (record { master = target; from = dfrom }) serves is
-none_waits row tablets (Rebuilding lineage to) last formed is serves = lineage_waits row tablets lineage last formed is serves
+pub none_waits : (row : Row) (handovers : ℕ → ℕ → Handover) (phase : Phase) (last : Member) → IsFormed phase → last_of (lineage_of phase) ≡ Some last → is_serving (handovers last.master row.tablet).role ≡ true → is_waiting (second_has handovers row (second_of (lineage_of phase))) ≡ false
+none_waits row handovers (Owned owner from) last formed is serves = refl
+none_waits row handovers (Opening source sfrom target dfrom) last formed is serves = refl
+none_waits row handovers (Moving source sfrom target dfrom) last formed is serves = second_serves row handovers last (record { master = target; from = dfrom }) serves is
+none_waits row handovers (Rebuilding lineage to) last formed is serves = lineage_waits row handovers lineage last formed is serves
 
 -- what waits at no term waits at none
 waiting_at : (other : Option Handover) (term : ℕ) → is_waiting other ≡ false → is_waiting_at other term ≡ false
@@ -140,39 +141,39 @@ waiting_at None term none = refl
 waiting_at (Some handover) term none = and_left (is_wanting handover.role) (eqb handover.term term) none
 
 -- no Transfer counts for a row whose source serves
-opening_hands : (phase : Phase) (tablet : ℕ) (tablets : ℕ → ℕ → Tablet) (term sender : ℕ) (transfer : Transfer) (of_tablet of_term : Bool) (given : Handed)
-    → (of_tablet ≡ true → of_term ≡ true → TransferIn phase (tablets sender tablet) term sender transfer) → is_serving (tablets (speaker_of phase) tablet).handover.role ≡ true
+opening_hands : (phase : Phase) (tablet : ℕ) (handovers : ℕ → ℕ → Handover) (completions : Completions) (term sender : ℕ) (transfer : Transfer) (of_tablet of_term : Bool) (given : Handed)
+    → (of_tablet ≡ true → of_term ≡ true → TransferIn phase (handovers sender tablet) completions term sender transfer) → is_serving (handovers (speaker_of phase) tablet).role ≡ true
     → cond (is_opening phase && of_tablet && of_term) (Some given) None ≡ None
-opening_hands (Opening source sfrom target dfrom) tablet tablets term sender transfer true true given says serves =
+opening_hands (Opening source sfrom target dfrom) tablet handovers completions term sender transfer true true given says serves =
     let said = says refl refl in
-    let frozen : is_serving (tablets source tablet).handover.role ≡ false = ap (λ (m : ℕ). is_serving (tablets m tablet).handover.role) said.0 ∙ ap is_serving said.1.role_is in
+    let frozen : is_serving (handovers source tablet).role ≡ false = ap (λ (m : ℕ). is_serving (handovers m tablet).role) said.0 ∙ ap is_serving said.1.role_is in
     absurd (cc)
-opening_hands (Opening source sfrom target dfrom) tablet tablets term sender transfer true false given says serves = refl
-opening_hands (Opening source sfrom target dfrom) tablet tablets term sender transfer false of_term given says serves = refl
-opening_hands (Owned owner from) tablet tablets term sender transfer of_tablet of_term given says serves = refl
-opening_hands (Moving source sfrom target dfrom) tablet tablets term sender transfer of_tablet of_term given says serves = refl
-opening_hands (Rebuilding lineage to) tablet tablets term sender transfer of_tablet of_term given says serves = refl
+opening_hands (Opening source sfrom target dfrom) tablet handovers completions term sender transfer true false given says serves = refl
+opening_hands (Opening source sfrom target dfrom) tablet handovers completions term sender transfer false of_term given says serves = refl
+opening_hands (Owned owner from) tablet handovers completions term sender transfer of_tablet of_term given says serves = refl
+opening_hands (Moving source sfrom target dfrom) tablet handovers completions term sender transfer of_tablet of_term given says serves = refl
+opening_hands (Rebuilding lineage to) tablet handovers completions term sender transfer of_tablet of_term given says serves = refl
 
-transfer_hands : (row : Row) (logs : ℕ → Log) (written : ℕ → Written) (stored : ℕ → Segments) (tablets : ℕ → ℕ → Tablet) (live : ℕ → Bool) (handed : NumberMap Handed) (from to : Node) (transfer : Transfer)
-    → SaysOf row logs written stored tablets live handed from to (bodies.Transfer transfer) → is_serving (tablets (speaker_of row.phase) row.tablet).handover.role ≡ true
-    → handed_by row tablets (bodies.Transfer transfer) ≡ None
-transfer_hands row logs written stored tablets live handed (nodes.Master sender) to transfer says serves =
-    opening_hands row.phase row.tablet tablets row.term sender transfer (eqb transfer.tenure.tablet row.tablet) (eqb transfer.tenure.term row.term)
+transfer_hands : (row : Row) (logs : ℕ → Log) (written : ℕ → Written) (stored : ℕ → Segments) (handovers : ℕ → ℕ → Handover) (completions : ℕ → ℕ → Completions) (merged : ℕ → ℕ → List Ended) (live : ℕ → Bool) (handed : NumberMap Handed) (from to : Node) (transfer : Transfer)
+    → SaysOf row logs written stored handovers completions merged live handed from to (bodies.Transfer transfer) → is_serving (handovers (speaker_of row.phase) row.tablet).role ≡ true
+    → handed_by row handovers (bodies.Transfer transfer) ≡ None
+transfer_hands row logs written stored handovers completions merged live handed (nodes.Master sender) to transfer says serves =
+    opening_hands row.phase row.tablet handovers (completions sender row.tablet) row.term sender transfer (eqb transfer.tenure.tablet row.tablet) (eqb transfer.tenure.term row.term)
     (record { floor = transfer.floor; ends = transfer.ends })
     (λ a b. says (record { tablet = eqb-true transfer.tenure.tablet row.tablet a; term = eqb-true transfer.tenure.term row.term b }))
     serves
-transfer_hands row logs written stored tablets live handed (nodes.Client client) to transfer says serves = absurd says
-transfer_hands row logs written stored tablets live handed nodes.Coordinator to transfer says serves = absurd says
-transfer_hands row logs written stored tablets live handed (nodes.Backup backup) to transfer says serves = absurd says
+transfer_hands row logs written stored handovers completions merged live handed (nodes.Client client) to transfer says serves = absurd says
+transfer_hands row logs written stored handovers completions merged live handed nodes.Coordinator to transfer says serves = absurd says
+transfer_hands row logs written stored handovers completions merged live handed (nodes.Backup backup) to transfer says serves = absurd says
 
 -- of a row no message hands anything over while the last member of its lineage, its speaker, serves
-pub none_hands : (row : Row) (logs : ℕ → Log) (written : ℕ → Written) (stored : ℕ → Segments) (tablets : ℕ → ℕ → Tablet) (live : ℕ → Bool) (handed : NumberMap Handed) (from to : Node) (body : Body) (last : Member)
-    → SaysOf row logs written stored tablets live handed from to body → IsFormed row.phase → last_of (lineage_of row.phase) ≡ Some last → last.master ≡ speaker_of row.phase
-    → is_serving (tablets last.master row.tablet).handover.role ≡ true → handed_by row tablets body ≡ None
-none_hands row logs written stored tablets live handed from to (bodies.Transfer transfer) last says formed is speaker serves =
-    transfer_hands row logs written stored tablets live handed from to transfer says (subst (λ (m : ℕ). is_serving (tablets m row.tablet).handover.role ≡ true) speaker serves)
-none_hands row logs written stored tablets live handed from to (bodies.Grant grant) last says formed is speaker serves =
+pub none_hands : (row : Row) (logs : ℕ → Log) (written : ℕ → Written) (stored : ℕ → Segments) (handovers : ℕ → ℕ → Handover) (completions : ℕ → ℕ → Completions) (merged : ℕ → ℕ → List Ended) (live : ℕ → Bool) (handed : NumberMap Handed) (from to : Node) (body : Body) (last : Member)
+    → SaysOf row logs written stored handovers completions merged live handed from to body → IsFormed row.phase → last_of (lineage_of row.phase) ≡ Some last → last.master ≡ speaker_of row.phase
+    → is_serving (handovers last.master row.tablet).role ≡ true → handed_by row handovers body ≡ None
+none_hands row logs written stored handovers completions merged live handed from to (bodies.Transfer transfer) last says formed is speaker serves =
+    transfer_hands row logs written stored handovers completions merged live handed from to transfer says (subst (λ (m : ℕ). is_serving (handovers m row.tablet).role ≡ true) speaker serves)
+none_hands row logs written stored handovers completions merged live handed from to (bodies.Grant grant) last says formed is speaker serves =
     cond-false _ (Some (record { floor = grant.floor; ends = grant.ends })) None
-    (and_right (eqb grant.tenure.tablet row.tablet) (is_waiting_at (second_has tablets row (second_of (lineage_of row.phase))) grant.tenure.term)
-    (waiting_at (second_has tablets row (second_of (lineage_of row.phase))) grant.tenure.term (none_waits row tablets row.phase last formed is serves)))
-none_hands row logs written stored tablets live handed from to _ last says formed is speaker serves = refl
+    (and_right (eqb grant.tenure.tablet row.tablet) (is_waiting_at (second_has handovers row (second_of (lineage_of row.phase))) grant.tenure.term)
+    (waiting_at (second_has handovers row (second_of (lineage_of row.phase))) grant.tenure.term (none_waits row handovers row.phase last formed is serves)))
+none_hands row logs written stored handovers completions merged live handed from to _ last says formed is speaker serves = refl

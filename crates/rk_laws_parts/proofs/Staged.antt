@@ -14,6 +14,7 @@ use Rattle.rk_entry.specs.declared.entry.Entry.{Entry}
 use Rattle.rk_entry.specs.declared.entry.Entry.TheVariants as entries
 use Rattle.rk_log.specs.Log.{with_entry}
 use Rattle.rk_transfer.specs.Handover.{is_serving}
+use Rattle.rk_transfer.specs.declared.handover.Handover.{Handover}
 use Rattle.rk_tablet_map.specs.Phase.{lineage_of}
 use Rattle.rk_tablet_map.specs.declared.phase.Phase.{Phase}
 use Rattle.rk_tablet_map.specs.declared.phase.Phase.TheVariants.{Owned, Opening, Moving, Rebuilding}
@@ -23,31 +24,30 @@ use Rattle.rk_world.specs.Ranges.{has_key}
 use Rattle.rk_world.specs.Lineage.{last_of}
 use Rattle.rk_world.specs.Base.{Base}
 use Rattle.rk_world.specs.Merge.{floor_of}
-use Rattle.rk_world.specs.Tablet.{Tablet}
-use Rattle.rk_world.specs.Requests.{counted_up}
 use Rattle.rk_world.specs.Coordinator.{Handed}
 use Rattle.rk_world.specs.Written.{Written}
-use Rattle.rk_world.specs.Sound.Rows.{AreApart, IsFormed}
-use Rattle.rk_world.specs.Sound.Posts.{post_of, speaks, StillCounts}
-use Rattle.rk_world.specs.Sound.Roles.{Roles, RoleFits}
-use Rattle.rk_world.specs.Sound.Counters.{Counters, IsNext}
-use Rattle.rk_world.specs.Sound.Changes.{IsServed}
-use Rattle.rk_laws_parts.proofs.Changing.{Lane, Stages, with_one_more}
+use Rattle.rk_sound.specs.Rows.{AreApart, IsFormed}
+use Rattle.rk_sound.specs.Posts.{post_of, speaks, StillCounts}
+use Rattle.rk_sound.specs.Roles.{Roles, RoleFits}
+use Rattle.rk_sound.specs.Counters.{Counters, IsNext}
+use Rattle.rk_sound.specs.Changes.{IsServed}
+use Rattle.rk_sound.specs.Small.{risen, with_one_more}
+use Rattle.rk_laws_parts.proofs.Changing.{Lane, Stages}
 use Rattle.rk_laws_parts.proofs.Differs.{differs_each, keeps_each, now_same, differs_cases}
 use Rattle.rk_laws_parts.proofs.Alike.{AreAlike, alike_all, alike_counted}
 use Rattle.rk_laws_parts.proofs.Speakers.{speaks_serving, speaker_of, speaker_is}
 use Rattle.rk_laws_parts.proofs.Seen.{AllLook, LooksAs, looks_same, counted_looks}
 
 -- the counter of a tablet is above all that counts for its row, where its master serves it
-pub counter_low : (base : Base) (rows : List Row) (truths rests : Row → List Entry) (written : ℕ → Written) (tablets : ℕ → ℕ → Tablet) (live : ℕ → Bool) (handed : NumberMap Handed) (journal : List Placed) (wire : NumberMap Message) (master table : ℕ) (key : List ℕ) → Counters base rows truths rests written tablets live handed journal wire → (served : IsServed rows (tablets master) (live master) master table key) → floor_of (truths served.row ++ rests served.row) ≤ (tablets master served.row.tablet).handover.counter
-counter_low base rows truths rests written tablets live handed journal wire master table key counters served =
-    let next : IsNext served.row.range (truths served.row ++ rests served.row) (written master) (tablets master served.row.tablet).handover.counter =
+pub counter_low : (base : Base) (rows : List Row) (truths rests : Row → List Entry) (written : ℕ → Written) (handovers : ℕ → ℕ → Handover) (live : ℕ → Bool) (handed : NumberMap Handed) (journal : List Placed) (wire : NumberMap Message) (master table : ℕ) (key : List ℕ) → Counters base rows truths rests written handovers live handed journal wire → (served : IsServed rows (handovers master) (live master) master table key) → floor_of (truths served.row ++ rests served.row) ≤ (handovers master served.row.tablet).counter
+counter_low base rows truths rests written handovers live handed journal wire master table key counters served =
+    let next : IsNext served.row.range (truths served.row ++ rests served.row) (written master) (handovers master served.row.tablet).counter =
     All-contains
-    (λ row. StillCounts (live master) (tablets master row.tablet).handover.term row.term
-    → speaks (post_of row.phase master) (tablets master row.tablet).handover row.term ≡ true
-    → IsNext row.range (truths row ++ rests row) (written master) (tablets master row.tablet).handover.counter) rows served.row
+    (λ row. StillCounts (live master) (handovers master row.tablet).term row.term
+    → speaks (post_of row.phase master) (handovers master row.tablet) row.term ≡ true
+    → IsNext row.range (truths row ++ rests row) (written master) (handovers master row.tablet).counter) rows served.row
     (counters.counted master) served.has_row (inl served.lives)
-    (speaks_serving (post_of served.row.phase master) (tablets master served.row.tablet).handover served.row.term served.serves) in
+    (speaks_serving (post_of served.row.phase master) (handovers master served.row.tablet) served.row.term served.serves) in
     next.low
 
 -- the lineage of a row in such a phase has at most two members, and they are two
@@ -65,12 +65,12 @@ pub record HasGrown (old new : Written) : Type 0 where
   pub stays : (place : ℕ) (entry : Entry) → slice_get old.entries place ≡ Some entry → slice_get new.entries place ≡ Some entry
 
 -- a row's lineage ends with a living master that serves there
-pub record Serves (tablets : ℕ → Tablet) (live : Bool) (master : ℕ) (row : Row) : Type 0 where
+pub record Serves (handovers : ℕ → Handover) (live : Bool) (master : ℕ) (row : Row) : Type 0 where
   pub lives : live ≡ true
   pub last : Member
   pub is_last : last_of (lineage_of row.phase) ≡ Some last
   pub here : last.master ≡ master
-  pub serves : is_serving (tablets row.tablet).handover.role ≡ true
+  pub serves : is_serving (handovers row.tablet).role ≡ true
 
 module _ (rows : List Row) (before after : Lane) (master : ℕ) (row : Row) (call : Call) (item : Held) (stages : Stages rows before after master row call item) where
   -- a row is the one of the write, or it has another number
@@ -82,8 +82,8 @@ module _ (rows : List Row) (before after : Lane) (master : ℕ) (row : Row) (cal
       (cases_eq other.tablet row.tablet)
 
   -- what does not see the counter is the same of each tablet
-  pub counted_same : {X : Type 0} (f : Tablet → X) → ((tablet : Tablet) → f (counted_up tablet) ≡ f tablet) → (q r : ℕ) → f (after.tablets q r) ≡ f (before.tablets q r)
-  counted_same f alike q r = now_same f counted_up alike before.tablets after.tablets master row.tablet stages.keeps_differ q r
+  pub counted_same : {X : Type 0} (f : Handover → X) → ((handover : Handover) → f (risen handover) ≡ f handover) → (q r : ℕ) → f (after.handovers q r) ≡ f (before.handovers q r)
+  counted_same f alike q r = now_same f risen alike before.handovers after.handovers master row.tablet stages.keeps_differ q r
 
   -- what a master has written is what it was, or it has the item at its end
   pub written_cases : (q : ℕ) → (after.written q ≡ before.written q) ⊎ ((q ≡ master) × (after.written q ≡ with_one_more (before.written q) (entries.Held item)))
@@ -117,7 +117,7 @@ module _ (rows : List Row) (before after : Lane) (master : ℕ) (row : Row) (cal
   first_apart last is_last here other has first second (third ∷ more) apart lineage at = absurd apart
 
   -- the row that is served is the one of the key
-  pub served_row : (live : Bool) (served : IsServed rows (before.tablets master) live master item.table item.key) → served.row ≡ row
+  pub served_row : (live : Bool) (served : IsServed rows (before.handovers master) live master item.table item.key) → served.row ≡ row
   served_row live served =
       ⊎_elim
       (λ (same : served.row.tablet ≡ row.tablet). stages.same_row served.row served.has_row same)
@@ -128,24 +128,24 @@ module _ (rows : List Row) (before after : Lane) (master : ℕ) (row : Row) (cal
       (cases_eq served.row.tablet row.tablet)
 
   -- so its lineage ends with the master, which serves there
-  pub serves_row : (live : Bool) → IsServed rows (before.tablets master) live master item.table item.key → Serves (before.tablets master) live master row
+  pub serves_row : (live : Bool) → IsServed rows (before.handovers master) live master item.table item.key → Serves (before.handovers master) live master row
   serves_row live served =
-      subst (Serves (before.tablets master) live master) (served_row live served)
+      subst (Serves (before.handovers master) live master) (served_row live served)
       (record { lives = served.lives; last = served.last; is_last = served.is_last; here = served.here; serves = served.serves })
 
   -- tablets answer as before
-  pub staged_alike : AreAlike before.tablets after.tablets
-  staged_alike = alike_all master row.tablet _ before.tablets after.tablets stages.keeps_differ (alike_counted (before.tablets master row.tablet))
+  pub staged_alike : AreAlike before.handovers after.handovers
+  staged_alike = alike_all master row.tablet _ before.handovers after.handovers stages.keeps_differ (alike_counted (before.handovers master row.tablet))
 
   -- the master is the one that speaks for the row
-  pub staged_speaker : (live : ℕ → Bool) → Roles rows before.tablets before.written live → Serves (before.tablets master) (live master) master row → master ≡ speaker_of row.phase
+  pub staged_speaker : (live : ℕ → Bool) → Roles rows before.handovers before.written live → Serves (before.handovers master) (live master) master row → master ≡ speaker_of row.phase
   staged_speaker live roles here =
-      speaker_is row master (before.tablets master row.tablet).handover (before.written master).applied
+      speaker_is row master (before.handovers master row.tablet) (before.written master).applied
       (All-contains
-      (λ row. StillCounts (live master) (before.tablets master row.tablet).handover.term row.term
-      → RoleFits row master (before.tablets master row.tablet).handover (before.written master).applied) rows row
+      (λ row. StillCounts (live master) (before.handovers master row.tablet).term row.term
+      → RoleFits row master (before.handovers master row.tablet) (before.written master).applied) rows row
       (roles.fitting master) stages.has_row (inl here.lives))
-      (speaks_serving (post_of row.phase master) (before.tablets master row.tablet).handover row.term here.serves)
+      (speaks_serving (post_of row.phase master) (before.handovers master row.tablet) row.term here.serves)
 
   -- no log is shorter than before
   pub staged_grown : (q : ℕ) → length (before.written q).entries ≤ length (after.written q).entries
@@ -161,11 +161,11 @@ module _ (rows : List Row) (before after : Lane) (master : ℕ) (row : Row) (cal
       stages.logs_differ (λ old. refl) refl
 
   -- each tablet looks as before, and as much is applied and counts
-  pub staged_looks : (live : Bool) → IsServed rows (before.tablets master) live master item.table item.key → AllLook before.written after.written before.tablets after.tablets
+  pub staged_looks : (live : Bool) → IsServed rows (before.handovers master) live master item.table item.key → AllLook before.written after.written before.handovers after.handovers
   staged_looks live served = record {
     each =
-        keeps_each LooksAs master row.tablet (counted_up (before.tablets master row.tablet)) before.tablets after.tablets stages.keeps_differ looks_same
-        (counted_looks (before.tablets master row.tablet) (serves_row live served).serves);
+        keeps_each LooksAs master row.tablet (risen (before.handovers master row.tablet)) before.handovers after.handovers stages.keeps_differ looks_same
+        (counted_looks (before.handovers master row.tablet) (serves_row live served).serves);
     applied =
         differs_each (λ old new. new.applied ≡ old.applied) master (with_one_more (before.written master) (entries.Held item))
         before.written after.written stages.written_differ (λ old. refl) refl;

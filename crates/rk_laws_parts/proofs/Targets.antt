@@ -11,17 +11,16 @@ use Rattle.rk_types.specs.declared.range.Range.{Range}
 use Rattle.rk_model.proofs.Places.{slice_get_front}
 use Rattle.rk_entry.specs.declared.entry.Entry.{Entry}
 use Rattle.rk_entry.specs.declared.entry.Entry.TheVariants as entries
+use Rattle.rk_transfer.specs.declared.handover.Handover.{Handover}
 use Rattle.rk_world.specs.Ranges.{has_key}
 use Rattle.rk_world.specs.Ends.{items_of}
 use Rattle.rk_world.specs.Material.{counts, counting}
-use Rattle.rk_world.specs.Tablet.{Tablet}
 use Rattle.rk_world.specs.Master.{touches}
-use Rattle.rk_world.specs.Requests.{counted_up}
-use Rattle.rk_world.specs.Waiting.{joined_entry}
+use Rattle.rk_world.specs.Tablet.{Pulling}
 use Rattle.rk_world.specs.Coordinator.{Handed}
 use Rattle.rk_world.specs.Written.{Written}
-use Rattle.rk_world.specs.Sound.Receives.{IsTarget, IsReceived, IsBare, HasArrived, HasClosing, beginning_of, before_closing, copied_items, entries_from, scan_items, joined_place}
-use Rattle.rk_laws_parts.proofs.Changing.{with_one_more}
+use Rattle.rk_sound.specs.Receives.{IsTarget, IsReceived, IsBare, HasArrived, HasClosing, beginning_of, before_closing, closing_joined, copied_items, entries_from, scan_items, joined_place}
+use Rattle.rk_sound.specs.Small.{risen, with_one_more}
 use Rattle.rk_laws_parts.proofs.Shares.{joined_same}
 use Rattle.rk_laws_parts.proofs.Places.{behind_none}
 use Rattle.rk_laws_parts.proofs.Histories.{items_push}
@@ -32,8 +31,8 @@ abbrev pub AreBelow : List Held → Held → Type 0
 AreBelow others item = All (λ other. other.version < item.version) others
 
 -- a target goes on with a counter that rose
-pub target_counted : (range : Range) (source : ℕ) (truth material : List Entry) (from : ℕ) (written : Written) (tablet : Tablet) (handed : Option Handed) (table : List Held) → IsTarget range source truth material from written tablet handed table → IsTarget range source truth material from written (counted_up tablet) handed table
-target_counted range source truth material from written tablet handed table old = record {
+pub target_counted : (range : Range) (source : ℕ) (truth material : List Entry) (from : ℕ) (written : Written) (handover : Handover) (pulling : Pulling) (handed : Option Handed) (table : List Held) → IsTarget range source truth material from written handover pulling handed table → IsTarget range source truth material from written (risen handover) pulling handed table
+target_counted range source truth material from written handover pulling handed table old = record {
   from_source = old.from_source;
   workers = old.workers;
   pulled = old.pulled;
@@ -79,24 +78,24 @@ own_push P range from list item within old new =
     (cases_Bool (has_key range item.table item.key)))
 
 -- a target that wrote an item, above each one of its source if it is of the range
-pub target_pushed : (range : Range) (source : ℕ) (truth material : List Entry) (from : ℕ) (written : Written) (tablet : Tablet) (handed : Option Handed) (table : List Held) (item : Held) → written.applied ≤ length written.entries → from ≤ length written.entries → (has_key range item.table item.key ≡ true → AreBelow (items_of material) item) → IsTarget range source truth material from written tablet handed table → IsTarget range source truth material from (with_one_more written (entries.Held item)) tablet handed table
-target_pushed range source truth material from written tablet handed table item fits within new old = record {
+pub target_pushed : (range : Range) (source : ℕ) (truth material : List Entry) (from : ℕ) (written : Written) (handover : Handover) (pulling : Pulling) (handed : Option Handed) (table : List Held) (item : Held) → written.applied ≤ length written.entries → from ≤ length written.entries → (has_key range item.table item.key ≡ true → AreBelow (items_of material) item) → IsTarget range source truth material from written handover pulling handed table → IsTarget range source truth material from (with_one_more written (entries.Held item)) handover pulling handed table
+target_pushed range source truth material from written handover pulling handed table item fits within new old = record {
   from_source = old.from_source;
   workers = old.workers;
   pulled = old.pulled;
   received =
       subst
-      (λ (sure : List Entry). IsReceived (HasArrived tablet.handover.role tablet.pulling (scan_items truth)) range (scan_items truth)
-      (items_of (entries_from range from sure)) (copied_items tablet.handover.role tablet.pulling written.sides) table)
+      (λ (sure : List Entry). IsReceived (HasArrived handover.role pulling (scan_items truth)) range (scan_items truth)
+      (items_of (entries_from range from sure)) (copied_items handover.role pulling written.sides) table)
       (sym (take-append-le written.applied written.entries (entries.Held item ∷ []) fits)) old.received;
   above = own_push (AreBelow (items_of material)) range from written.entries item within old.above new;
   told =
       IfSome_then handed old.told (λ h told.
-      told_push (joined_place tablet.handover.role) from written.entries (entries.Held item ∷ []) (beginning_of tablet h) told);
+      told_push (joined_place handover.role) from written.entries (entries.Held item ∷ []) (beginning_of handover h) told);
   early =
       ap (λ (all : List Entry). list_any (touches range) (drop written.applied all)) (take-append-le from written.entries (entries.Held item ∷ []) within)
       ∙ old.early;
-  closing = closing_push (joined_place tablet.handover.role) (joined_entry tablet) range from written.entries item old.closing;
+  closing = closing_push (joined_place handover.role) (closing_joined handover pulling.sealed) range from written.entries item old.closing;
 }
 
 -- a master that made ready for a tablet, and wrote an item of another range, has nothing of the tablet

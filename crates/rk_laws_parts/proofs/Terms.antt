@@ -1,41 +1,23 @@
 -- Laws of the part Terms: what a message that is sent, and a tablet that looks the same, keep of it.
 use Rattle.std.proofs.Common.{sym, ap, subst, ◌∙◌, Bool}
-use Rattle.std.specs.Prelude.{◌≡◌, ◌≤◌, ◌<◌, ℕ, List, All}
+use Rattle.std.specs.Prelude.{◌≤◌, ◌<◌, ℕ, List}
 use Rattle.std.proofs.lemmas.List.Elements.{All-weaker}
-use Rattle.rk_types.proofs.NumberMaps.{HasNoMore, each_insert}
-use Rattle.rk_types.specs.NumberMap.{NumberMap, insert}
+use Rattle.rk_types.specs.NumberMap.{NumberMap}
 use Rattle.rk_types.specs.Range.{meets}
 use Rattle.rk_types.specs.declared.call.Call.{Call}
 use Rattle.rk_types.specs.declared.held.Held.{Held}
 use Rattle.rk_types.specs.declared.range.Range.{Range}
-use Rattle.rk_transfer.specs.declared.role.Role.TheVariants as roles
+use Rattle.rk_transfer.specs.declared.handover.Handover.{Handover}
 use Rattle.rk_tablet_map.specs.declared.row.Row.{Row}
 use Rattle.rk_message.specs.declared.message.Message.{Message}
-use Rattle.rk_world.specs.Tablet.{Tablet}
-use Rattle.rk_world.specs.Sound.Terms.{Terms, HandoverFits, SentFits}
-use Rattle.rk_world.specs.Sound.Changes.{IsServed}
-use Rattle.rk_laws_parts.proofs.Changing.{Lane, Freezes, Stages}
-use Rattle.rk_laws_parts.proofs.Seen.{LooksAs, each_looks_frozen}
+use Rattle.rk_sound.specs.Terms.{Terms, HandoverFits}
+use Rattle.rk_sound.specs.Changes.{IsServed}
+use Rattle.rk_laws_parts.proofs.Changing.{Lane, Stages}
+use Rattle.rk_laws_parts.proofs.Seen.{LooksAs}
 use Rattle.rk_laws_parts.proofs.Staged.{staged_looks}
 
--- a message is sent that speaks of no term and of no range too early
-pub terms_sent : (rows : List Row) (tablets : ℕ → ℕ → Tablet) (wire : NumberMap Message) (number : ℕ) (message : Message) → Terms rows tablets wire → All (λ row. SentFits row message.body) rows → Terms rows tablets (insert wire number message)
-terms_sent rows tablets wire number message old says = record {
-  handovers = old.handovers;
-  apart = old.apart;
-  sent = each_insert (λ n m. All (λ row. SentFits row m.body) rows) wire number message old.sent says;
-}
-
--- fewer messages are on the wire
-pub terms_forgotten : (rows : List Row) (tablets : ℕ → ℕ → Tablet) (wire less : NumberMap Message) → Terms rows tablets wire → HasNoMore less wire → Terms rows tablets less
-terms_forgotten rows tablets wire less old no_more = record {
-  handovers = old.handovers;
-  apart = old.apart;
-  sent = λ n m found. old.sent n m (no_more n m found);
-}
-
 -- a tablet that looks as before fits beside a row as before
-handover_looks : (row : Row) (number : ℕ) (old new : Tablet) → LooksAs old new → HandoverFits row number old.handover → HandoverFits row number new.handover
+handover_looks : (row : Row) (number : ℕ) (old new : Handover) → LooksAs old new → HandoverFits row number old → HandoverFits row number new
 handover_looks row number old new looks fits = record {
   within = λ is. subst (λ (term : ℕ). term ≤ row.term) (sym looks.term) (fits.within is);
   below = λ another meeting.
@@ -45,26 +27,21 @@ handover_looks row number old new looks fits = record {
 }
 
 -- each tablet looks as before
-pub terms_looks : (rows : List Row) (tablets tablets' : ℕ → ℕ → Tablet) (wire : NumberMap Message) → Terms rows tablets wire → ((q r : ℕ) → LooksAs (tablets q r) (tablets' q r)) → Terms rows tablets' wire
-terms_looks rows tablets tablets' wire old looks = record {
-  handovers = λ master number.
-      All-weaker (λ row. HandoverFits row number (tablets master number).handover)
-      (λ row. HandoverFits row number (tablets' master number).handover)
-      (λ row. handover_looks row number (tablets master number) (tablets' master number) (looks master number)) rows
-      (old.handovers master number);
+pub terms_looks : (rows : List Row) (handovers handovers' : ℕ → ℕ → Handover) (wire : NumberMap Message) → Terms rows handovers wire → ((q r : ℕ) → LooksAs (handovers q r) (handovers' q r)) → Terms rows handovers' wire
+terms_looks rows handovers handovers' wire old looks = record {
+  kept = λ master number.
+      All-weaker (λ row. HandoverFits row number (handovers master number))
+      (λ row. HandoverFits row number (handovers' master number))
+      (λ row. handover_looks row number (handovers master number) (handovers' master number) (looks master number)) rows
+      (old.kept master number);
   apart = λ master a b other a_there b_there.
       (λ i. meets ((looks master a).range i) ((looks master b).range i))
       ∙ old.apart master a b other (sym (looks master a).role.absent ∙ a_there) (sym (looks master b).role.absent ∙ b_there);
   sent = old.sent;
 }
 
--- a tablet that closes is frozen
-pub terms_frozen : (rows : List Row) (tablets now : ℕ → ℕ → Tablet) (wire : NumberMap Message) (master number : ℕ) → Terms rows tablets wire → (tablets master number).handover.role ≡ roles.Closing → Freezes master number tablets now → Terms rows now wire
-terms_frozen rows tablets now wire master number old closing change =
-    terms_looks rows tablets now wire old (each_looks_frozen master number tablets now closing change)
-
 -- a write is staged at a master that answers calls for its key
-pub terms_staged : (rows : List Row) (before after : Lane) (wire : NumberMap Message) (alive : Bool) (master : ℕ) (row : Row) (call : Call) (item : Held) → Terms rows before.tablets wire → Stages rows before after master row call item → IsServed rows (before.tablets master) alive master item.table item.key → Terms rows after.tablets wire
+pub terms_staged : (rows : List Row) (before after : Lane) (wire : NumberMap Message) (alive : Bool) (master : ℕ) (row : Row) (call : Call) (item : Held) → Terms rows before.handovers wire → Stages rows before after master row call item → IsServed rows (before.handovers master) alive master item.table item.key → Terms rows after.handovers wire
 terms_staged rows before after wire alive master row call item old stages served =
-    terms_looks rows before.tablets after.tablets wire old
+    terms_looks rows before.handovers after.handovers wire old
     (staged_looks rows before after master row call item stages alive served).each

@@ -14,6 +14,7 @@ use Rattle.rk_model.proofs.Places.{slice_get_end, slice_get_push_cases}
 use Rattle.rk_entry.specs.declared.entry.Entry.{Entry}
 use Rattle.rk_entry.specs.declared.entry.Entry.TheVariants as entries
 use Rattle.rk_transfer.specs.Handover.{is_serving}
+use Rattle.rk_transfer.specs.declared.handover.Handover.{Handover}
 use Rattle.rk_transfer.specs.declared.role.Role.{Role}
 use Rattle.rk_transfer.specs.declared.role.Role.TheVariants as roles
 use Rattle.rk_tablet_map.specs.Phase.{lineage_of}
@@ -22,14 +23,14 @@ use Rattle.rk_world.specs.Ranges.{has_key}
 use Rattle.rk_world.specs.Marks.{Mark, is_marked}
 use Rattle.rk_world.specs.Material.{joined_from}
 use Rattle.rk_world.specs.Lineage.{last_of}
-use Rattle.rk_world.specs.Tablet.{Tablet}
 use Rattle.rk_world.specs.RoleTests.{is_idle, may_have_staged}
 use Rattle.rk_world.specs.Master.{touches}
 use Rattle.rk_world.specs.Ledger.{LastCall}
 use Rattle.rk_world.specs.Written.{Written}
-use Rattle.rk_world.specs.Sound.Rows.{AreApart, IsFormed}
-use Rattle.rk_world.specs.Sound.Rest.{Waits, IsEntryOf, FirstIsDone, EachHasCall, OnlyIsUnnamed, IsLast}
-use Rattle.rk_laws_parts.proofs.Changing.{Lane, Stages, with_one_more}
+use Rattle.rk_sound.specs.Rows.{AreApart, IsFormed}
+use Rattle.rk_sound.specs.Rest.{Waits, IsEntryOf, FirstIsDone, EachHasCall, OnlyIsUnnamed, IsLast}
+use Rattle.rk_sound.specs.Small.{with_one_more}
+use Rattle.rk_laws_parts.proofs.Changing.{Lane, Stages}
 use Rattle.rk_laws_parts.proofs.Shares.{joined_same}
 use Rattle.rk_laws_parts.proofs.Staged.{HasGrown, row_cases, counted_same, written_cases, written_grown, first_apart, formed_apart}
 use Rattle.rk_laws_parts.proofs.Places.{behind_none}
@@ -49,8 +50,8 @@ serving_stages (roles.Wanting from) serves = absurd (cc)
 serving_stages role serves = refl
 
 -- a call that waits goes on to wait, where the master has what it had and may stage as before
-waits_on : (rows : List Row) (tablets tablets' : ℕ → Tablet) (written written' : Written) (master place : ℕ) (call : Call) → HasGrown written written' → ((number : ℕ) → may_have_staged (tablets' number).handover.role ≡ may_have_staged (tablets number).handover.role) → Waits rows tablets written master place call → Waits rows tablets' written' master place call
-waits_on rows tablets tablets' written written' master place call grown same old = record {
+waits_on : (rows : List Row) (handovers handovers' : ℕ → Handover) (written written' : Written) (master place : ℕ) (call : Call) → HasGrown written written' → ((number : ℕ) → may_have_staged (handovers' number).role ≡ may_have_staged (handovers number).role) → Waits rows handovers written master place call → Waits rows handovers' written' master place call
+waits_on rows handovers handovers' written written' master place call grown same old = record {
   behind = subst (λ (n : ℕ). n ≤ place) (sym grown.applied) old.behind;
   entry = old.entry;
   stands = grown.stays place old.entry old.stands;
@@ -85,7 +86,7 @@ calls_push calls written call entry own old place e behind stands is unmarked =
     })
     (slice_get_push_cases written.entries entry e place stands)
 
-module _ (rows : List Row) (before after : Lane) (master : ℕ) (row : Row) (call : Call) (item : Held) (last : Member) (stages : Stages rows before after master row call item) (is_last : last_of (lineage_of row.phase) ≡ Some last) (here : last.master ≡ master) (serves : is_serving (before.tablets master row.tablet).handover.role ≡ true) where
+module _ (rows : List Row) (before after : Lane) (master : ℕ) (row : Row) (call : Call) (item : Held) (last : Member) (stages : Stages rows before after master row call item) (is_last : last_of (lineage_of row.phase) ≡ Some last) (here : last.master ≡ master) (serves : is_serving (before.handovers master row.tablet).role ≡ true) where
   -- of two members the first has nothing more
   done_at : (other : Row) → Contains rows other → (lineage : List Member) → AreApart lineage → lineage_of other.phase ≡ lineage → FirstIsDone before.written other.range lineage → FirstIsDone after.written other.range lineage
   done_at other has [] apart is done = tt
@@ -130,10 +131,10 @@ module _ (rows : List Row) (before after : Lane) (master : ℕ) (row : Row) (cal
       (cases_eq q master)
 
   -- what an idle master has not applied is of other rows
-  pub idle_staged : (q : ℕ) (other : Row) → Contains rows other → (is_idle (before.tablets q other.tablet).handover.role ≡ true → list_any (touches other.range) (drop (before.written q).applied (before.written q).entries) ≡ false) → is_idle (after.tablets q other.tablet).handover.role ≡ true → list_any (touches other.range) (drop (after.written q).applied (after.written q).entries) ≡ false
+  pub idle_staged : (q : ℕ) (other : Row) → Contains rows other → (is_idle (before.handovers q other.tablet).role ≡ true → list_any (touches other.range) (drop (before.written q).applied (before.written q).entries) ≡ false) → is_idle (after.handovers q other.tablet).role ≡ true → list_any (touches other.range) (drop (after.written q).applied (after.written q).entries) ≡ false
   idle_staged q other has old idles =
-      let idle : is_idle (before.tablets q other.tablet).handover.role ≡ true =
-      sym (counted_same rows before after master row call item stages (λ (tablet : Tablet). is_idle tablet.handover.role) (λ tablet. refl) q other.tablet) ∙ idles in
+      let idle : is_idle (before.handovers q other.tablet).role ≡ true =
+      sym (counted_same rows before after master row call item stages (λ (handover : Handover). is_idle handover.role) (λ tablet. refl) q other.tablet) ∙ idles in
       ⊎_elim
       (λ (same : after.written q ≡ before.written q).
       subst (λ (w : Written). list_any (touches other.range) (drop w.applied w.entries) ≡ false) (sym same) (old idle))
@@ -141,10 +142,10 @@ module _ (rows : List Row) (before after : Lane) (master : ℕ) (row : Row) (cal
       let apart : has_key other.range item.table item.key ≡ false =
       ⊎_elim
       (λ (its : other ≡ row).
-      let busy : is_idle (before.tablets q other.tablet).handover.role ≡ false =
-      ap (λ (n : ℕ). is_idle (before.tablets n other.tablet).handover.role) at.0
-      ∙ ap (λ (r : Row). is_idle (before.tablets master r.tablet).handover.role) its
-      ∙ serving_busy (before.tablets master row.tablet).handover.role serves in
+      let busy : is_idle (before.handovers q other.tablet).role ≡ false =
+      ap (λ (n : ℕ). is_idle (before.handovers n other.tablet).role) at.0
+      ∙ ap (λ (r : Row). is_idle (before.handovers master r.tablet).role) its
+      ∙ serving_busy (before.handovers master row.tablet).role serves in
       absurd (false≢true (sym busy ∙ idle)))
       (λ (differs : other.tablet ≡ row.tablet → ⊥). stages.outside other has differs)
       (row_cases rows before after master row call item stages other has) in
@@ -153,7 +154,7 @@ module _ (rows : List Row) (before after : Lane) (master : ℕ) (row : Row) (cal
       (written_cases rows before after master row call item stages q)
 
   -- the call that was staged waits
-  waits_new : IsEntryOf call (entries.Held item) → has_key row.range call.table call.key ≡ true → (before.written master).applied ≤ length (before.written master).entries → is_marked (before.written master).marks (length (before.written master).entries) ≡ false → Waits rows (after.tablets master) (with_one_more (before.written master) (entries.Held item)) master (length (before.written master).entries) call
+  waits_new : IsEntryOf call (entries.Held item) → has_key row.range call.table call.key ≡ true → (before.written master).applied ≤ length (before.written master).entries → is_marked (before.written master).marks (length (before.written master).entries) ≡ false → Waits rows (after.handovers master) (with_one_more (before.written master) (entries.Held item)) master (length (before.written master).entries) call
   waits_new own inside fits unmarked = record {
     behind = fits;
     entry = entries.Held item;
@@ -167,30 +168,30 @@ module _ (rows : List Row) (before after : Lane) (master : ℕ) (row : Row) (cal
     is_last = is_last;
     here = here;
     may_stage =
-        counted_same rows before after master row call item stages (λ (tablet : Tablet). may_have_staged tablet.handover.role) (λ tablet. refl) master row.tablet
-        ∙ serving_stages (before.tablets master row.tablet).handover.role serves;
+        counted_same rows before after master row call item stages (λ (handover : Handover). may_have_staged handover.role) (λ tablet. refl) master row.tablet
+        ∙ serving_stages (before.handovers master row.tablet).role serves;
   }
 
   -- the calls that wait at a master
-  pub waiting_staged : IsEntryOf call (entries.Held item) → has_key row.range call.table call.key ≡ true → (before.written master).applied ≤ length (before.written master).entries → is_marked (before.written master).marks (length (before.written master).entries) ≡ false → (q : ℕ) → EachIn (λ place c. Waits rows (before.tablets q) (before.written q) q place c) (before.calls q) → EachIn (λ place c. Waits rows (after.tablets q) (after.written q) q place c) (after.calls q)
+  pub waiting_staged : IsEntryOf call (entries.Held item) → has_key row.range call.table call.key ≡ true → (before.written master).applied ≤ length (before.written master).entries → is_marked (before.written master).marks (length (before.written master).entries) ≡ false → (q : ℕ) → EachIn (λ place c. Waits rows (before.handovers q) (before.written q) q place c) (before.calls q) → EachIn (λ place c. Waits rows (after.handovers q) (after.written q) q place c) (after.calls q)
   waiting_staged own inside fits unmarked q old =
-      let on : (place : ℕ) (c : Call) → Waits rows (before.tablets q) (before.written q) q place c → Waits rows (after.tablets q) (after.written q) q place c = λ place c.
-      waits_on rows (before.tablets q) (after.tablets q) (before.written q) (after.written q) q place c
+      let on : (place : ℕ) (c : Call) → Waits rows (before.handovers q) (before.written q) q place c → Waits rows (after.handovers q) (after.written q) q place c = λ place c.
+      waits_on rows (before.handovers q) (after.handovers q) (before.written q) (after.written q) q place c
       (written_grown rows before after master row call item stages q)
-      (counted_same rows before after master row call item stages (λ (tablet : Tablet). may_have_staged tablet.handover.role) (λ tablet. refl) q) in
-      let each : EachIn (λ place c. Waits rows (after.tablets q) (after.written q) q place c) (before.calls q) =
-      each_weaker (λ place c. Waits rows (before.tablets q) (before.written q) q place c) (λ place c. Waits rows (after.tablets q) (after.written q) q place c) (before.calls q) on old in
+      (counted_same rows before after master row call item stages (λ (handover : Handover). may_have_staged handover.role) (λ tablet. refl) q) in
+      let each : EachIn (λ place c. Waits rows (after.handovers q) (after.written q) q place c) (before.calls q) =
+      each_weaker (λ place c. Waits rows (before.handovers q) (before.written q) q place c) (λ place c. Waits rows (after.handovers q) (after.written q) q place c) (before.calls q) on old in
       ⊎_elim
       (λ (at : q ≡ master).
-      let new : Waits rows (after.tablets q) (after.written q) q (length (before.written master).entries) call =
-      subst (λ (n : ℕ). Waits rows (after.tablets n) (after.written n) n (length (before.written master).entries) call) (sym at)
-      (subst (λ (w : Written). Waits rows (after.tablets master) w master (length (before.written master).entries) call) (sym stages.written_differ.here) (waits_new own inside fits unmarked)) in
+      let new : Waits rows (after.handovers q) (after.written q) q (length (before.written master).entries) call =
+      subst (λ (n : ℕ). Waits rows (after.handovers n) (after.written n) n (length (before.written master).entries) call) (sym at)
+      (subst (λ (w : Written). Waits rows (after.handovers master) w master (length (before.written master).entries) call) (sym stages.written_differ.here) (waits_new own inside fits unmarked)) in
       let table : insert (before.calls q) (length (before.written master).entries) call ≡ after.calls q =
       ap (λ (n : ℕ). insert (before.calls n) (length (before.written master).entries) call) at ∙ sym stages.calls_differ.here ∙ ap after.calls (sym at) in
-      subst (λ (table : NumberMap Call). EachIn (λ place c. Waits rows (after.tablets q) (after.written q) q place c) table) table
-      (each_insert (λ place c. Waits rows (after.tablets q) (after.written q) q place c) (before.calls q) (length (before.written master).entries) call each new))
+      subst (λ (table : NumberMap Call). EachIn (λ place c. Waits rows (after.handovers q) (after.written q) q place c) table) table
+      (each_insert (λ place c. Waits rows (after.handovers q) (after.written q) q place c) (before.calls q) (length (before.written master).entries) call each new))
       (λ (other : q ≡ master → ⊥).
-      subst (λ (table : NumberMap Call). EachIn (λ place c. Waits rows (after.tablets q) (after.written q) q place c) table) (sym (stages.calls_differ.others q other)) each)
+      subst (λ (table : NumberMap Call). EachIn (λ place c. Waits rows (after.handovers q) (after.written q) q place c) table) (sym (stages.calls_differ.others q other)) each)
       (cases_eq q master)
 
   -- the entries that have calls

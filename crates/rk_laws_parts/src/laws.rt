@@ -6,10 +6,15 @@ ghost use Rattle.rk_message.specs.declared.message.Message.{Message};
 ghost use Rattle.rk_tablet_map.specs.declared.row.Row.{Row};
 ghost use Rattle.rk_transfer.specs.Handover.{is_serving};
 ghost use Rattle.rk_types.specs.declared.call.Call.{Call};
+ghost use Rattle.rk_types.specs.declared.held.Token.{Token};
+ghost use Rattle.rk_types.specs.declared.lineage.Member.{Member};
 ghost use Rattle.rk_types.specs.Range.{meets};
-ghost use Rattle.rk_world.specs.Sound.Logs.{stored_of};
-ghost use Rattle.rk_world.specs.Sound.Small.{MayComeTo, MayFreeze, MaySave, MaySend, MayStage, write_staged_in, client_come, message_forgotten, message_sent, request_saved, tablet_frozen_in};
-ghost use Rattle.rk_world.specs.Sound.Whole.{IsSound};
+ghost use Rattle.rk_sound.specs.Logs.{stored_of};
+ghost use Rattle.rk_sound.specs.Changes.{MayCome, MaySave, MaySend, MayStage};
+ghost use Rattle.rk_sound.specs.Moves.{MayFreeze, MayPass, MayResolve};
+ghost use Rattle.rk_sound.specs.Small.{batch_asked_in, client_come, hash_wanted_in, hashes_resolved_in, token_passed_in, write_staged_in, message_forgotten, message_sent, request_saved, tablet_frozen_in};
+ghost use Rattle.rk_sound.specs.View.{view};
+ghost use Rattle.rk_sound.specs.Whole.{IsSound};
 ghost use Rattle.rk_world.specs.World.{World, backup_at, tablet_in, lives, log_in, new_world, written_in};
 
 /// A lane where nothing has happened is sound, with any number of masters and one backup or more.
@@ -22,16 +27,29 @@ pub fn new_lanes_are_sound()
 /// sent again, when a write is staged, and when a tablet freezes, wherever the condition of the change holds; forgetting
 /// has none.
 pub fn small_changes_keep_lanes_sound()
-    ensures sent { (w : World) (message : Message) → IsSound w → MaySend w message → IsSound (message_sent w message) }
+    ensures sent { (w : World) (message : Message) → IsSound w → MaySend (view w) message → IsSound (message_sent w message) }
     ensures forgotten { (w : World) (number : ℕ) → IsSound w → IsSound (message_forgotten w number) }
-    ensures come { (w : World) (client : ℕ) → IsSound w → MayComeTo w client → IsSound (client_come w client) }
+    ensures come { (w : World) (client : ℕ) → IsSound w → MayCome (view w) client → IsSound (client_come w client) }
     ensures saved { (w : World) (client : ℕ) (message : Message)
-        → IsSound w → MaySave w client message → IsSound (request_saved w client message) }
+        → IsSound w → MaySave (view w) client message → IsSound (request_saved w client message) }
     ensures staged { (w : World) (master : ℕ) (call : Call) (value : Option (List ℕ))
-        → IsSound w → (may : MayStage w master call value)
+        → IsSound w → (may : MayStage (view w) master call value)
         → IsSound (write_staged_in w master may.served.row.tablet call value) }
     ensures frozen { (w : World) (master tablet : ℕ)
-        → IsSound w → MayFreeze w master tablet → IsSound (tablet_frozen_in w master tablet) }
+        → IsSound w → MayFreeze (view w) master tablet → IsSound (tablet_frozen_in w master tablet) }
+{}
+
+/// A sound lane stays sound when a hash is wanted first, when a batch of the wanted ones is asked for, when hashes are resolved,
+/// and when a target passes on to a token, wherever the condition of the change holds; the first two have none.
+pub fn pulling_keeps_lanes_sound()
+    ensures wanted { (w : World) (master tablet hash : ℕ) → IsSound w → IsSound (hash_wanted_in w master tablet hash) }
+    ensures asked_for { (w : World) (master tablet : ℕ) → IsSound w → IsSound (batch_asked_in w master tablet) }
+    ensures resolved { (w : World) (row : Row) (source target : Member) (hashes : List ℕ)
+        → IsSound w → MayResolve (view w) row source target hashes
+        → IsSound (hashes_resolved_in w target.master row.tablet hashes) }
+    ensures passed { (w : World) (row : Row) (source target : Member) (next : Token)
+        → IsSound w → MayPass (view w) row source target next
+        → IsSound (token_passed_in w target.master row.tablet next) }
 {}
 
 /// In a sound lane at most one living master answers calls for a range of a row, and for one tablet.

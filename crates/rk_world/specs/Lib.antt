@@ -44,4 +44,3 @@ pub mod Justified
 pub mod Quiet
 pub mod Finished
 pub mod Stands
-pub mod Sound

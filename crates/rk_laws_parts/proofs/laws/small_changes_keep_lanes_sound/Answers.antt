@@ -1,8 +1,9 @@
-use Rattle.rk_laws_parts.proofs.SoundLedger.{sound_come, sound_saved}
-use Rattle.rk_laws_parts.proofs.SoundForgotten.{sound_forgotten}
-use Rattle.rk_laws_parts.proofs.SoundFrozen.{sound_frozen}
-use Rattle.rk_laws_parts.proofs.SoundSent.{sound_sent}
-use Rattle.rk_laws_parts.proofs.SoundStaged.{sound_staged}
+use Rattle.rk_laws_parts.proofs.Sent.{sound_sent}
+use Rattle.rk_laws_parts.proofs.Forgotten.{sound_forgotten}
+use Rattle.rk_laws_parts.proofs.Come.{sound_come}
+use Rattle.rk_laws_parts.proofs.Saved.{sound_saved}
+use Rattle.rk_laws_parts.proofs.WriteStaged.{sound_staged}
+use Rattle.rk_laws_parts.proofs.Frozen.{sound_frozen}
 use Rattle.rk_laws_parts.proofs.laws.small_changes_keep_lanes_sound.Goals as goal
 
 pub returns-clause-sent : goal.returns-clause-sent

@@ -1,0 +1,133 @@
+-- Small changes of the world that the first laws are about, and what they make of a view. A change of a view has the name of the
+-- change of the world, and its condition stands in `Changes` or `Moves`.
+use Rattle.std.specs.Prelude.{◌==◌, ℕ, ◌+◌, if◌then◌else◌, List, [], ◌∷◌, ◌++◌, length, Option}
+use Rattle.rk_types.specs.NumberMap.{insert, remove}
+use Rattle.rk_types.specs.declared.call.Call.{Call}
+use Rattle.rk_types.specs.declared.held.Token.{Token}
+use Rattle.rk_entry.specs.declared.entry.Entry.{Entry}
+use Rattle.rk_entry.specs.declared.entry.Entry.TheVariants as entries
+use Rattle.rk_log.specs.Log.{with_entry}
+use Rattle.rk_transfer.specs.declared.handover.Handover.{Handover}
+use Rattle.rk_transfer.specs.declared.role.Role.TheVariants as roles
+use Rattle.rk_priority.specs.Hashes.{Hashes, batched, got, wanting}
+use Rattle.rk_message.specs.Wire.{without_message, with_message}
+use Rattle.rk_message.specs.declared.message.Message.{Message}
+use Rattle.rk_world.specs.Tablet.{Pulling, with_handover}
+use Rattle.rk_world.specs.Master.{with_tablet}
+use Rattle.rk_world.specs.Requests.{hash_wanted, item_of, write_staged}
+use Rattle.rk_world.specs.Pulls.{hashes_resolved, token_passed}
+use Rattle.rk_world.specs.MasterTurn.{batch_asked}
+use Rattle.rk_world.specs.Ledger.{with_client, with_request}
+use Rattle.rk_world.specs.Written.{Written}
+use Rattle.rk_world.specs.World.{World, master_at, tablet_in, with_master, with_ledger, with_wire}
+use Rattle.rk_sound.specs.View.{View}
+
+-- what is kept for each number, where this is kept for one of them now
+abbrev pub put : {X : Type 0} → (ℕ → X) → ℕ → X → ℕ → X
+put old number thing q = if q == number then thing else old q
+
+-- what each master keeps of each tablet, where one keeps this of one of them now
+abbrev pub put2 : {X : Type 0} → (ℕ → ℕ → X) → ℕ → ℕ → X → ℕ → ℕ → X
+put2 old master number thing = put old master (put (old master) number thing)
+
+-- a message is sent, under a number
+abbrev pub sent : View → ℕ → Message → View
+sent v number message = record v { wire = insert v.wire number message }
+
+abbrev pub message_sent : World → Message → World
+message_sent w message = with_wire w (with_message message w.wire)
+
+-- a message is forgotten: it was lost, or is delivered no more
+abbrev pub forgotten : View → ℕ → View
+forgotten v number = record v { wire = remove v.wire number }
+
+abbrev pub message_forgotten : World → ℕ → World
+message_forgotten w number = with_wire w (without_message number w.wire)
+
+-- a client comes, and has asked nothing; nothing else is seen of it
+abbrev pub client_come : World → ℕ → World
+client_come w client = with_ledger w (with_client w.ledger client)
+
+-- a message is saved that a client may send again
+abbrev pub saved : View → ℕ → Message → View
+saved v client message = record v { requests = insert v.requests client message }
+
+abbrev pub request_saved : World → ℕ → Message → World
+request_saved w client message = with_ledger w (with_request w.ledger client message)
+
+-- what a master has written, with one more entry
+abbrev pub with_one_more : Written → Entry → Written
+with_one_more written entry = record written { entries = written.entries ++ entry ∷ [] }
+
+-- a handover whose counter rose by one
+abbrev pub risen : Handover → Handover
+risen handover = record handover { counter = handover.counter + 1 }
+
+-- a write or a removal is staged at a master, for a tablet: its item stands at the end of the log, with the counter as its version,
+-- its call waits for that, and the counter rises
+abbrev pub staged : View → ℕ → ℕ → Call → Option (List ℕ) → View
+staged v master tablet call value =
+    let entry = entries.Held (item_of call (v.handovers master tablet).counter value) in
+    record v {
+      logs = put v.logs master (with_entry (v.logs master) entry);
+      written = put v.written master (with_one_more (v.written master) entry);
+      calls = put v.calls master (insert (v.calls master) (length (v.written master).entries) call);
+      handovers = put2 v.handovers master tablet (risen (v.handovers master tablet));
+    }
+
+abbrev pub write_staged_in : World → ℕ → ℕ → Call → Option (List ℕ) → World
+write_staged_in w master number call value = with_master w master (write_staged (master_at w master) number call value)
+
+-- a handover of a tablet that froze
+abbrev pub as_frozen : Handover → Handover
+as_frozen handover = record handover { role = roles.Frozen }
+
+-- a tablet freezes at a master
+abbrev pub frozen : View → ℕ → ℕ → View
+frozen v master tablet =
+    record v { handovers = put2 v.handovers master tablet (as_frozen (v.handovers master tablet)) }
+
+abbrev pub tablet_frozen_in : World → ℕ → ℕ → World
+tablet_frozen_in w master tablet =
+    let kept = tablet_in w master tablet in
+    with_master w master (with_tablet (master_at w master) tablet (with_handover kept (as_frozen kept.handover)))
+
+-- ---- what a tablet pulls
+
+-- what is pulled, where the token, the count of batches and the hashes go on
+abbrev pub gone_on : (Pulling → Token) → (Pulling → ℕ) → (Pulling → Hashes) → Pulling → Pulling
+gone_on token batches hashes pulling =
+    record pulling { token = token pulling; batches = batches pulling; hashes = hashes pulling }
+
+-- what is pulled of a tablet changes at a master
+abbrev pub pulled : View → ℕ → ℕ → (Pulling → Pulling) → View
+pulled v master tablet change =
+    record v { pullings = put2 v.pullings master tablet (change (v.pullings master tablet)) }
+
+-- a hash is wanted first
+abbrev pub wanting_hash : ℕ → Pulling → Pulling
+wanting_hash hash = gone_on (λ p. p.token) (λ p. p.batches) (λ p. wanting p.hashes hash)
+
+abbrev pub hash_wanted_in : World → ℕ → ℕ → ℕ → World
+hash_wanted_in w master tablet hash = with_master w master (hash_wanted (master_at w master) tablet hash)
+
+-- a batch of the wanted hashes is asked for
+abbrev pub asking_batch : Pulling → Pulling
+asking_batch = gone_on (λ p. p.token) (λ p. p.batches) (λ p. batched p.hashes)
+
+abbrev pub batch_asked_in : World → ℕ → ℕ → World
+batch_asked_in w master tablet = with_master w master (batch_asked (master_at w master) tablet (tablet_in w master tablet))
+
+-- the hashes that were asked for have come
+abbrev pub resolving : List ℕ → Pulling → Pulling
+resolving hashes = gone_on (λ p. p.token) (λ p. p.batches) (λ p. got p.hashes hashes)
+
+abbrev pub hashes_resolved_in : World → ℕ → ℕ → List ℕ → World
+hashes_resolved_in w master tablet hashes = with_master w master (hashes_resolved (master_at w master) tablet hashes)
+
+-- a target passes on to a token
+abbrev pub passing : Token → Pulling → Pulling
+passing next = gone_on (λ p. next) (λ p. p.batches + 1) (λ p. p.hashes)
+
+abbrev pub token_passed_in : World → ℕ → ℕ → Token → World
+token_passed_in w master tablet next = with_master w master (token_passed (master_at w master) tablet next)
