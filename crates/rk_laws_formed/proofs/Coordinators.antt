@@ -33,7 +33,7 @@ use Rattle.rk_message.specs.declared.rebuilding.Rebuilt.{Rebuilt}
 use Rattle.rk_world.specs.Coordinator.{Coordinator, Handed, from_coordinator, is_noticed, owner_of, row_tenure, with_handed, with_phase, with_row, with_term}
 use Rattle.rk_world.specs.CoordinatorStep.{Coordinated, about, answered, at_term, coordinator_step, coordinator_turn, joined_in, located, own_to, question, ready_in, rebuilt_in, release_to, report, row_duty, row_for, told_again, told_coordinator, transfer_in, unanswered}
 use Rattle.rk_world.specs.Formed.{IsFormedCoordinator, IsFormedHanded, IsFormedRow}
-use Rattle.rk_world.specs.Limits.{IsFormedBody, IsFormedEnd, IsFormedEnds, IsFormedMember, IsFormedMessage, IsFormedTenure, IsFormedTransfer, IsThere, Limits}
+use Rattle.rk_world.specs.Limits.{AreOfDistinctClients, IsFormedBody, IsFormedEnd, IsFormedEnds, IsFormedMember, IsFormedMessage, IsFormedTenure, IsFormedTransfer, IsThere, Limits}
 use Rattle.rk_world.specs.Migrations.{migrating, row_migrated, tablet_migrated}
 use Rattle.rk_world.specs.Premises.{IsMaster}
 use Rattle.rk_world.specs.Journal.{last_stamp}
@@ -237,6 +237,7 @@ record MaySend (limits : Limits) (coordinator : Coordinator) : Type 0 where
 pub record IsTaken (limits : Limits) (rebuilt : Rebuilt) : Type 0 where
   pub tenure : IsFormedTenure limits rebuilt.tenure
   pub ends : All (IsFormedEnd limits) rebuilt.ends
+  pub once : AreOfDistinctClients rebuilt.ends
 
 -- an answer that is well formed, as is the rebuild that it takes; the coordinator after it has what it had before, and its terms have
 -- stood
@@ -428,7 +429,7 @@ module _ (limits : Limits) (coordinator : Coordinator) (may : MaySend limits coo
       about_answers (λ row. rebuilt_in coordinator sender message row row.phase) (row_for coordinator sender message.tenure)
       (row_spoken_of sender message.tenure)
       (λ row stood there.
-      rebuilt_answers sender message row row.phase lawful.place (record { tenure = says.0; ends = says.1 }) stood there)
+      rebuilt_answers sender message row row.phase lawful.place (record { tenure = says.0; ends = says.1; once = says.2 }) stood there)
   report_answers sender _ lawful says = no_answer
 
   -- what a client sent

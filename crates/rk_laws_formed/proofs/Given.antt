@@ -20,6 +20,7 @@ use Rattle.rk_laws_formed.proofs.Changes.{formed_with_tablets}
 use Rattle.rk_laws_formed.proofs.Maps.{each_changed}
 use Rattle.rk_laws_formed.proofs.Tablets.{IsFormedHandover, IsFormedRest, formed_pulling_from, formed_tablet, handover_of}
 use Rattle.rk_laws_formed.proofs.Waiting.{formed_in_plain}
+use Rattle.rk_laws_formed.proofs.MergedOnce.{none_twice}
 
 -- a tablet of a well formed master that plays a part there is well formed
 pub tablet_there : (limits : Limits) (number : ℕ) (master : Master) (tablet : ℕ) → is_absent (tablet_at master tablet).handover.role ≡ false
@@ -35,7 +36,7 @@ tablet_there limits number master tablet there formed =
 -- what a tablet has beside its handover once nothing is gathered or merged
 pub rest_without_merged : (limits : Limits) (tablet : Tablet) → IsFormedRest limits tablet → IsFormedRest limits (without_merged tablet)
 rest_without_merged limits tablet rest =
-    record { order = rest.order; ended = rest.ended; pulled = rest.pulled; gathered = All-nil _; merged = All-nil _ }
+    record { order = rest.order; ended = rest.ended; pulled = rest.pulled; gathered = All-nil _; merged = All-nil _; merged_once = none_twice }
 
 -- a tablet with another handover and nothing gathered or merged
 pub formed_moved : (limits : Limits) (number : ℕ) (tablet : Tablet) (handover : Handover) → IsNumber w32 1 number
@@ -43,7 +44,7 @@ pub formed_moved : (limits : Limits) (number : ℕ) (tablet : Tablet) (handover 
     → IsFormedTablet limits number (without_merged (with_handover tablet handover))
 formed_moved limits number tablet handover is new rest =
     formed_tablet limits number (without_merged (with_handover tablet handover)) is new
-    (record { order = rest.order; ended = rest.ended; pulled = rest.pulled; gathered = All-nil _; merged = All-nil _ })
+    (record { order = rest.order; ended = rest.ended; pulled = rest.pulled; gathered = All-nil _; merged = All-nil _; merged_once = none_twice })
 
 -- a tablet that is given up
 formed_given_up : (limits : Limits) (number : ℕ) (tablet : Tablet) → IsFormedTablet limits number tablet → IsFormedTablet limits number (given_up tablet)
@@ -57,6 +58,7 @@ formed_given_up limits number tablet formed =
       pulled = formed_pulling_from limits tablet.pulling.source;
       gathered = All-nil _;
       merged = All-nil _;
+      merged_once = none_twice;
     })
 
 -- a tablet that is given up, where this test holds

@@ -36,6 +36,7 @@ use Rattle.rk_laws_formed.proofs.Sizes.{place_fits}
 use Rattle.rk_laws_formed.proofs.Tablets.{IsFormedHandover, counter_at, formed_pulling_from, formed_tablet, handover_of, rest_at, rest_of, tablet_with_same}
 use Rattle.rk_laws_formed.proofs.Waiting.{EachMoved, IsPlain, formed_freezing, formed_frozen, formed_in_plain}
 use Rattle.rk_laws_formed.proofs.Work.{AreLimits, HasRoomFor, IsFormedWork, formed_changed, formed_sending}
+use Rattle.rk_laws_formed.proofs.MergedOnce.{none_twice}
 
 -- where a term has stood, 1 has
 pub one_stood : (limits : Limits) (n : ℕ) → IsFormedNumber limits n → 1 ≤ limits.top
@@ -294,7 +295,7 @@ module _ (limits : Limits) (number : ℕ) (master : Master) (tenure : Tenure) wh
           (formed_with_tablet limits number master tenure.tablet _ formed
           (formed_tablet limits tenure.tablet _ told.tablet
           (record { term = new.term; place = new.place; range = new.range; counter = new.counter; source_is = λ receives. absurd (cc (receives, plain.still)) })
-          (record { order = rest.order; ended = rest.ended; pulled = formed_pulling_from limits 0; gathered = All-nil _; merged = All-nil _ })))
+          (record { order = rest.order; ended = rest.ended; pulled = formed_pulling_from limits 0; gathered = All-nil _; merged = All-nil _; merged_once = none_twice })))
 
   -- a master that takes an Own
   pub formed_own : IsFormedTenure limits tenure → IsFormedMaster limits number master → IsFormedWork limits number (handing.own_taken master tenure)
@@ -404,6 +405,7 @@ module _ (limits : Limits) (number : ℕ) (master : Master) (grant : Grant) wher
             pulled = formed_pulling_from limits grant.source;
             gathered = All-nil _;
             merged = All-nil _;
+            merged_once = none_twice;
           })))
 
   -- a master that takes a Grant

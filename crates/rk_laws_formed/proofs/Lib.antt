@@ -1,5 +1,6 @@
 pub mod Lists
 pub mod Work
+pub mod MergedOnce
 pub mod Rising
 pub mod Sizes
 pub mod Given

@@ -170,7 +170,7 @@ module _ (a b : Limits) (more : IsMore a b) where
     spelled = more_entries (entries_of (bytes_of copy.bytes)) formed.spelled;
   }
   more_body from (bodies.Rebuilt rebuilt) formed =
-      (more_tenure rebuilt.tenure formed.0, more_all_ends rebuilt.ends formed.1)
+      (more_tenure rebuilt.tenure formed.0, more_all_ends rebuilt.ends formed.1, formed.2)
 
   pub more_message : (message : Message) → IsFormedMessage a message → IsFormedMessage b message
   more_message message formed = record {
@@ -216,6 +216,7 @@ module _ (a b : Limits) (more : IsMore a b) where
     pulled = more_pulling tablet.pulling formed.pulled;
     gathered = All-weaker (IsFormedGathered a) (IsFormedGathered b) more_gathered tablet.gather.members formed.gathered;
     merged = more_all_ends tablet.merged_ends formed.merged;
+    merged_once = formed.merged_once;
   }
 
   pub more_call : (count place : ℕ) (call : Call) → IsFormedCall a count place call → IsFormedCall b count place call

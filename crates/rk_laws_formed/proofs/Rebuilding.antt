@@ -29,7 +29,7 @@ use Rattle.rk_world.specs.Formed.{IsFormedGathered, IsFormedMaster, IsFormedTabl
 use Rattle.rk_world.specs.Gather.{Gathered, LAST_MAIN_SEGMENT, by_member, is_awaited, next_reading, unread, with_main, with_read, with_segment}
 use Rattle.rk_world.specs.Handovers.{is_greater, with_others_given_up}
 use Rattle.rk_world.specs.Lineage.{own_member}
-use Rattle.rk_world.specs.Limits.{IsClient, IsFormedCopy, IsFormedEnd, IsFormedEntry, IsFormedHeld, IsFormedMember, IsFormedRebuild, Limits}
+use Rattle.rk_world.specs.Limits.{AreOfDistinctClients, IsClient, IsFormedCopy, IsFormedEnd, IsFormedEntry, IsFormedHeld, IsFormedMember, IsFormedRebuild, Limits}
 use Rattle.rk_world.specs.Master.{Master, tablet_at, with_all, with_appended}
 use Rattle.rk_world.specs.Material.{as_entries}
 use Rattle.rk_world.specs.Merge.{merge}
@@ -52,6 +52,7 @@ use Rattle.rk_laws_formed.proofs.Sizes.{place_fits}
 use Rattle.rk_laws_formed.proofs.Tablets.{IsFormedHandover, counter_at, formed_pulling_from, formed_tablet, rest_at}
 use Rattle.rk_laws_formed.proofs.Waiting.{EachMoved}
 use Rattle.rk_laws_formed.proofs.Work.{AreLimits, HasRoomFor, IsFormedWork, formed_changed}
+use Rattle.rk_laws_formed.proofs.MergedOnce.{merged_once, none_twice}
 
 -- ---- merging
 
@@ -60,6 +61,7 @@ record IsFormedMerge (limits : Limits) (merged : Merged) : Type 0 where
   copies : All (IsFormedHeld limits) merged.copies
   floor : 1 ≤ merged.floor
   told : All (IsFormedEnd limits) merged.ends
+  once : AreOfDistinctClients merged.ends
 
 merge_formed : (limits : Limits) (number : ℕ) (master : Master) (id : ℕ) → 1 ≤ limits.top → IsFormedMaster limits number master → IsFormedMerge limits (merge (rebuilds.own_material master (tablet_at master id)) (by_member (tablet_at master id).gather (rebuilds.own_material master (tablet_at master id))))
 merge_formed limits number master id some formed =
@@ -74,6 +76,7 @@ merge_formed limits number master id some formed =
           (items_formed limits all (all_flat (IsFormedEntry limits) (λ list. list) (by_member it.gather own) members));
       floor = floor_first all;
       told = ends_formed limits (by_member it.gather own) members;
+      once = merged_once (by_member it.gather own);
     }
 
 -- the role of a rebuild that has its closing entry
@@ -154,6 +157,7 @@ module _ (limits : Limits) (number : ℕ) (master : Master) (id : ℕ) (merged :
                   pulled = there.pulled;
                   gathered = there.gathered;
                   merged = formed.told;
+                  merged_once = formed.once;
                 });
             sends = All-nil _;
           }
@@ -259,6 +263,7 @@ module _ (limits : Limits) (number : ℕ) (master : Master) (rebuild : Rebuild) 
             pulled = formed_pulling_from limits (tablet_at now id).pulling.source;
             gathered = begun_formed limits rebuild.lineage now.number told.members;
             merged = All-nil _;
+            merged_once = none_twice;
           }))
 
 -- ---- Rebuild and Copy
@@ -403,6 +408,7 @@ formed_copy limits number master copy are told formed room =
           pulled = there.pulled;
           gathered = read_formed limits (tablet_at master copy.tenure.tablet).gather.members copy.master copy.segment copy.bytes told.spelled there.gathered;
           merged = there.merged;
+          merged_once = there.merged_once;
         })
 
     go : (test : Bool) → (is_gathering (tablet_at master copy.tenure.tablet).handover.role && ((tablet_at master copy.tenure.tablet).handover.term == copy.tenure.term) && is_awaited (next_reading (tablet_at master copy.tenure.tablet).gather) copy.master copy.segment) ≡ test → HasRoomFor limits (cond test (rebuilds.rebuild_goes_on (rebuilds.segment_gathered master copy) copy.tenure.tablet) (changed master)).master → IsFormedWork limits number (cond test (rebuilds.rebuild_goes_on (rebuilds.segment_gathered master copy) copy.tenure.tablet) (changed master))

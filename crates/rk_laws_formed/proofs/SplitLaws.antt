@@ -33,6 +33,7 @@ use Rattle.rk_laws_formed.proofs.Changes.{formed_with_tablet}
 use Rattle.rk_laws_formed.proofs.Events.{has_no_fault, no_inner, no_second}
 use Rattle.rk_laws_formed.proofs.Coordinators.{HasRowRoom, IsFormedChange, formed_with_rows, rows_of_formed}
 use Rattle.rk_laws_formed.proofs.Rows.{AreTermsUpTo, IsFormedPhase, IsKnown, all_found, covered_changed, covered_split_rows, formed_changed_rows, formed_split_rows, known_changed, known_split, lawful_below, lawful_from, phase_of_formed, placed_has, term_changed, terms_below, terms_changed, terms_split_rows}
+use Rattle.rk_laws_formed.proofs.MergedOnce.{none_twice}
 
 -- ---- the rows
 
@@ -139,6 +140,7 @@ half_is_formed limits number half tablet range term is lawful stood old = record
   pulled = old.pulled;
   gathered = All-nil _;
   merged = All-nil _;
+  merged_once = none_twice;
 }
 
 -- what has parts is split above its first hash, and not above its last
@@ -219,6 +221,7 @@ served_is_formed limits tablet range None some is lawful it_is = record {
   pulled = no_pulling limits 0;
   gathered = All-nil _;
   merged = All-nil _;
+  merged_once = none_twice;
 }
 served_is_formed limits tablet range (Some it) some is lawful old = record {
   number_is = is;
@@ -232,6 +235,7 @@ served_is_formed limits tablet range (Some it) some is lawful old = record {
   pulled = old.pulled;
   gathered = old.gathered;
   merged = old.merged;
+  merged_once = old.merged_once;
 }
 
 -- a master serves a tablet that is added, where 1 has stood, as its term and its counter are

@@ -14,7 +14,7 @@ use Rattle.rk_priority.specs.Hashes.{Hashes, batched, batched_by, is_known, want
 use Rattle.rk_priority.specs.declared.wanted.TheConstants.{BATCH_HASHES}
 use Rattle.rk_transfer.specs.declared.handover.Handover.{Handover}
 use Rattle.rk_world.specs.Formed.{IsFormedGathered, IsFormedMaster, IsFormedPulling, IsFormedTablet, place_in}
-use Rattle.rk_world.specs.Limits.{IsFormedEnd, IsFormedHeld, IsFormedNumber, Limits}
+use Rattle.rk_world.specs.Limits.{AreOfDistinctClients, IsFormedEnd, IsFormedHeld, IsFormedNumber, Limits}
 use Rattle.rk_world.specs.Master.{Master, tablet_at, with_tablet}
 use Rattle.rk_world.specs.MasterTurn.{with_outstanding}
 use Rattle.rk_world.specs.Premises.{IsMaster}
@@ -23,6 +23,7 @@ use Rattle.rk_world.specs.Requests.{counted_up, with_wanted}
 use Rattle.rk_world.specs.RoleTests.{is_receiving}
 use Rattle.rk_world.specs.Tablet.{Pulling, Tablet, no_tablet, pulling_from, with_handover}
 use Rattle.rk_laws_formed.proofs.Completed.{noted_each, noted_order}
+use Rattle.rk_laws_formed.proofs.MergedOnce.{none_twice}
 
 -- ---- parts of a tablet
 
@@ -41,6 +42,7 @@ pub record IsFormedRest (limits : Limits) (tablet : Tablet) : Type 0 where
   pub pulled : IsFormedPulling limits tablet.pulling
   pub gathered : All (IsFormedGathered limits) tablet.gather.members
   pub merged : All (IsFormedEnd limits) tablet.merged_ends
+  pub merged_once : AreOfDistinctClients tablet.merged_ends
 
 -- a tablet is well formed where its number, its handover and the rest are
 pub formed_tablet : (limits : Limits) (number : ℕ) (tablet : Tablet) → IsNumber w32 1 number
@@ -57,6 +59,7 @@ formed_tablet limits number tablet is handover rest = record {
   pulled = rest.pulled;
   gathered = rest.gathered;
   merged = rest.merged;
+  merged_once = rest.merged_once;
 }
 
 -- the handover of a well formed tablet is well formed
@@ -78,6 +81,7 @@ rest_of limits number tablet formed = record {
   pulled = formed.pulled;
   gathered = formed.gathered;
   merged = formed.merged;
+  merged_once = formed.merged_once;
 }
 
 -- nothing is pulled so far
@@ -109,6 +113,7 @@ formed_with_handover limits number tablet handover formed new = record {
   pulled = formed.pulled;
   gathered = formed.gathered;
   merged = formed.merged;
+  merged_once = formed.merged_once;
 }
 
 -- the counter of a tablet rises by one
@@ -126,6 +131,7 @@ formed_counted_up limits number tablet formed below = record {
   pulled = formed.pulled;
   gathered = formed.gathered;
   merged = formed.merged;
+  merged_once = formed.merged_once;
 }
 
 -- a tablet with other completions
@@ -144,6 +150,7 @@ formed_with_completions limits number tablet completions formed order ended = re
   pulled = formed.pulled;
   gathered = formed.gathered;
   merged = formed.merged;
+  merged_once = formed.merged_once;
 }
 
 -- a tablet that notes the end of a call
@@ -170,6 +177,7 @@ formed_with_pulling limits number tablet pulling formed new source = record {
   pulled = new;
   gathered = formed.gathered;
   merged = formed.merged;
+  merged_once = formed.merged_once;
 }
 
 -- ---- hashes
@@ -263,6 +271,7 @@ rest_of_none limits = record {
   pulled = formed_pulling_from limits 0;
   gathered = All-nil (IsFormedGathered limits);
   merged = All-nil (IsFormedEnd limits);
+  merged_once = none_twice;
 }
 
 -- what any tablet of a master has beside its handover

@@ -226,7 +226,7 @@ rebuilt_formed limits number master id tablet from entry are there formed held p
           recursion_from_All IsLawfulEnd tablet.merged_ends
           (All-weaker (IsFormedEnd limits) IsLawfulEnd (λ end formed. formed.lawful) tablet.merged_ends held.merged);
     })
-    (tenure_formed limits id tablet held, held.merged)))
+    (tenure_formed limits id tablet held, held.merged, held.merged_once)))
     (λ waits. formed_changed limits number master formed)
 
 -- a rebuilding master reads the next segment

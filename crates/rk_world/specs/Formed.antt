@@ -39,7 +39,7 @@ use Rattle.rk_world.specs.Ledger.{Ledger, LastCall}
 use Rattle.rk_world.specs.World.{World, has_crashed, standing}
 use Rattle.rk_world.specs.Refusals.{MOST_CLIENTS}
 use Rattle.rk_world.specs.Premises.{MOST_MASTERS, IsMaster, IsLawfulCall, IsAfterStart}
-use Rattle.rk_world.specs.Limits.{IsClient, IsFormedEnd, IsFormedEnds, IsFormedEntry, IsFormedNumber, IsFormedHeld, IsFormedMember, IsFormedMessage, Limits, base_clients, limits_of}
+use Rattle.rk_world.specs.Limits.{AreOfDistinctClients, IsClient, IsFormedEnd, IsFormedEnds, IsFormedEntry, IsFormedNumber, IsFormedHeld, IsFormedMember, IsFormedMessage, Limits, base_clients, limits_of}
 
 -- ---- masters
 
@@ -85,6 +85,7 @@ pub record IsFormedTablet (limits : Limits) (number : ℕ) (tablet : Tablet) : T
   pub pulled : IsFormedPulling limits tablet.pulling
   pub gathered : All (IsFormedGathered limits) tablet.gather.members
   pub merged : All (IsFormedEnd limits) tablet.merged_ends
+  pub merged_once : AreOfDistinctClients tablet.merged_ends
 
 -- a call that waits for the entry at a place of a log of so many entries
 pub record IsFormedCall (limits : Limits) (count place : ℕ) (call : Call) : Type 0 where

@@ -1,6 +1,7 @@
 -- Limits: what there is in a lane, and what keeps to it. Ends, items, entries and messages are lawful, tell no number that is
 -- greater than the greatest that has stood, and name only masters, backups and clients that are there.
-use Rattle.std.specs.Prelude.{◌≡◌, ◌≤◌, ◌+◌, ℕ, true, List, [], ◌++◌, length, All, IfSome, ⊤}
+use Rattle.std.specs.Prelude.{◌≡◌, ◌≤◌, ◌+◌, ℕ, true, List, [], ◌++◌, length, map, nat_eq, All, IfSome, ⊤}
+use Rattle.std.specs.List.{IsDistinct}
 use Rattle.std.specs.Int.{w32, w64}
 use Rattle.rk_types.specs.NumberMap.{numbers}
 use Rattle.rk_types.specs.declared.call.End.{End}
@@ -95,6 +96,10 @@ pub record IsFormedEnd (limits : Limits) (end : Ended) : Type 0 where
 pub record IsFormedEnds (limits : Limits) (list : List Ended) : Type 0 where
   pub each : All (IsFormedEnd limits) list
   pub rising : RiseAbove 0 list
+
+-- no two ends are of one client
+abbrev pub AreOfDistinctClients : List Ended → Type 0
+AreOfDistinctClients list = IsDistinct nat_eq (map (λ end. end.client) list)
 
 -- an item that one of the clients left
 pub record IsFormedHeld (limits : Limits) (held : Held) : Type 0 where
@@ -209,7 +214,8 @@ IsFormedBody limits from (bodies.Release tenure) = IsFormedTenure limits tenure
 IsFormedBody limits from (bodies.Rebuild rebuild) = IsFormedRebuild limits rebuild
 IsFormedBody limits from (bodies.Read wanted) = IsFormedTenure limits wanted.tenure × IsMaster limits.masters wanted.master
 IsFormedBody limits from (bodies.Copy copy) = IsFormedCopy limits copy
-IsFormedBody limits from (bodies.Rebuilt rebuilt) = IsFormedTenure limits rebuilt.tenure × All (IsFormedEnd limits) rebuilt.ends
+IsFormedBody limits from (bodies.Rebuilt rebuilt) =
+    IsFormedTenure limits rebuilt.tenure × All (IsFormedEnd limits) rebuilt.ends × AreOfDistinctClients rebuilt.ends
 
 -- a message: its nodes are there, its fields can be spelled, and what it says keeps to the limits
 pub record IsFormedMessage (limits : Limits) (message : Message) : Type 0 where
