@@ -151,6 +151,15 @@ copied_spells limits (Some read) (byte ∷ segment) are spells =
 
 -- ---- answers
 
+-- the segments of masters' logs, by master and number
+abbrev pub Segments : Type 0
+Segments = ℕ → ℕ → List ℕ
+
+-- each of them spells formed entries
+abbrev pub SpellFormed : Limits → Segments → Type 0
+SpellFormed limits log = (m s : ℕ) → IsMaster limits.masters m → Spells (IsFormedEntry limits) (log m s)
+
+
 module _ (limits : Limits) (backup : ℕ) (are : AreLimits limits) (there : IsThere limits (nodes.Backup backup)) where
   -- an Append is answered with the length
   append_formed : (master : ℕ) (append : Append) (called : Called) → IsMaster limits.masters master → IsLawfulBody (bodies.Append append) → MayCome called → All (IsFormedMessage limits) (append_step backup master append called).sends
@@ -167,7 +176,7 @@ module _ (limits : Limits) (backup : ℕ) (are : AreLimits limits) (there : IsTh
   append_formed master append (Failed stored) from lawful may = All-nil _
 
   -- a Read is answered with a copy
-  read_formed : (master : ℕ) (read : ReadSegment) (log : ℕ → ℕ → List ℕ) (called : Called) → IsMaster limits.masters master → IsFormedBody limits (nodes.Master master) (bodies.Read read) → IsLawfulBody (bodies.Read read) → ((m s : ℕ) → IsMaster limits.masters m → Spells (IsFormedEntry limits) (log m s)) → All (IsFormedMessage limits) (read_step backup master read log called).sends
+  read_formed : (master : ℕ) (read : ReadSegment) (log : Segments) (called : Called) → IsMaster limits.masters master → IsFormedBody limits (nodes.Master master) (bodies.Read read) → IsLawfulBody (bodies.Read read) → SpellFormed limits log → All (IsFormedMessage limits) (read_step backup master read log called).sends
   read_formed master read log (Appended length) from says lawful spells = All-nil _
   read_formed master read log (Gave bytes) from says lawful spells =
       All-cons (IsFormedMessage limits) _ []
@@ -184,7 +193,7 @@ module _ (limits : Limits) (backup : ℕ) (are : AreLimits limits) (there : IsTh
       (All-nil _)
   read_formed master read log (Failed stored) from says lawful spells = All-nil _
 
-  from_master_formed : (master : ℕ) (body : Body) (log : ℕ → ℕ → List ℕ) (called : Called) → IsMaster limits.masters master → IsFormedBody limits (nodes.Master master) body → IsLawfulBody body → MayCome called → ((m s : ℕ) → IsMaster limits.masters m → Spells (IsFormedEntry limits) (log m s)) → All (IsFormedMessage limits) (master_message backup master body log called).sends
+  from_master_formed : (master : ℕ) (body : Body) (log : Segments) (called : Called) → IsMaster limits.masters master → IsFormedBody limits (nodes.Master master) body → IsLawfulBody body → MayCome called → SpellFormed limits log → All (IsFormedMessage limits) (master_message backup master body log called).sends
   from_master_formed master (bodies.Append append) log called from says lawful may spells =
       append_formed master append called from lawful may
   from_master_formed master (bodies.Read read) log called from says lawful may spells =
@@ -192,7 +201,7 @@ module _ (limits : Limits) (backup : ℕ) (are : AreLimits limits) (there : IsTh
   from_master_formed master _ log called from says lawful may spells = All-nil _
 
   -- what a backup makes of a well formed message
-  pub formed_backup_step : (sender : Node) (body : Body) (log : ℕ → ℕ → List ℕ) (called : Called) → IsThere limits sender → IsFormedBody limits sender body → IsLawfulBody body → MayCome called → ((m s : ℕ) → IsMaster limits.masters m → Spells (IsFormedEntry limits) (log m s)) → All (IsFormedMessage limits) (backup_step backup sender body log called).sends
+  pub formed_backup_step : (sender : Node) (body : Body) (log : Segments) (called : Called) → IsThere limits sender → IsFormedBody limits sender body → IsLawfulBody body → MayCome called → SpellFormed limits log → All (IsFormedMessage limits) (backup_step backup sender body log called).sends
   formed_backup_step (nodes.Master master) body log called from says lawful may spells =
       from_master_formed master body log called from says lawful may spells
   formed_backup_step (nodes.Client client) body log called from says lawful may spells = All-nil _

@@ -41,7 +41,7 @@ use Rattle.rk_world.specs.RoleTests.{is_absent, is_receiving, is_receiving_at}
 use Rattle.rk_world.specs.SideLogs.{cut_items, sealed_sides, with_side_item}
 use Rattle.rk_world.specs.Tablet.{Pulling, Tablet, with_handover}
 use Rattle.rk_world.specs.Waiting.{closing_entry}
-use Rattle.rk_world.specs.Worked.{changed}
+use Rattle.rk_world.specs.Worked.{Worked, changed}
 use Rattle.rk_laws_formed.proofs.Lists.{all_given}
 use Rattle.rk_laws_formed.proofs.Changes.{formed_with_side_segment, formed_with_tablet}
 use Rattle.rk_laws_formed.proofs.Given.{tablet_there}
@@ -356,7 +356,13 @@ formed_pulled limits number master pulled are token items formed room =
           | false ↦ λ fits. passed.master_is
         ] fits
 
-    go : (test : Bool) → (is_receiving_at (tablet_at master pulled.tenure.tablet) pulled.tenure.term && is_token pulled.token (tablet_at master pulled.tenure.tablet).pulling.token) ≡ test → HasRoomFor limits (cond test (changed (batch_taken master pulled.tenure.tablet pulled)) (changed master)).master → IsFormedWork limits number (cond test (changed (batch_taken master pulled.tenure.tablet pulled)) (changed master))
+    awaited : Bool
+    awaited = is_receiving_at it pulled.tenure.term && is_token pulled.token it.pulling.token
+
+    work : Bool → Worked
+    work test = cond test (changed (batch_taken master pulled.tenure.tablet pulled)) (changed master)
+
+    go : (test : Bool) → awaited ≡ test → HasRoomFor limits (work test).master → IsFormedWork limits number (work test)
     go true is fits =
         formed_changed limits number (batch_taken master pulled.tenure.tablet pulled) (takes (first_holds _ _ is) fits)
     go false is fits = formed_changed limits number master formed
@@ -397,7 +403,16 @@ formed_got limits number master message items formed =
     now : Master
     now = replay master message.tenure.tablet 0 (items_of message.entries)
 
-    go : (test : Bool) → (is_receiving_at (tablet_at master message.tenure.tablet) message.tenure.term && is_batch (tablet_at master message.tenure.tablet).pulling.hashes.outstanding message.hashes) ≡ test → IsFormedWork limits number (cond test (changed (hashes_resolved (replay master message.tenure.tablet 0 (items_of message.entries)) message.tenure.tablet message.hashes)) (changed master))
+    it : Tablet
+    it = tablet_at master message.tenure.tablet
+
+    awaited : Bool
+    awaited = is_receiving_at it message.tenure.term && is_batch it.pulling.hashes.outstanding message.hashes
+
+    work : Bool → Worked
+    work test = cond test (changed (hashes_resolved now message.tenure.tablet message.hashes)) (changed master)
+
+    go : (test : Bool) → awaited ≡ test → IsFormedWork limits number (work test)
     go true is =
         formed_changed limits number _
         (formed_resolved limits number message.tenure.tablet (replay master message.tenure.tablet 0 (items_of message.entries)) message.hashes

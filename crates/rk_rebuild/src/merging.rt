@@ -69,7 +69,7 @@ impl<'a> Counted<'a> {
     }
 }
 
-//// These entries, lent.
+/// These entries, lent.
 pub(crate) fn lent_own(alloc: Global, own: &[Entry]) -> Result<Vec<&Entry>, NoMemory>
     ensures { IfOk result (λ entries. lent entries.items ≡ own.now) }
 {
