@@ -98,21 +98,3 @@ calls_more base rows truths rests now handovers completions live handed journal 
       })) known)
       (ends_of (completions master tablet)) (old.known master tablet lives);
 }
-
--- a write is staged
-pub calls_staged : (base : Base) (rows : List Row) (truths : Row → List Entry) (before after : Lane) (completions : ℕ → ℕ → Completions) (live : ℕ → Bool) (handed : NumberMap Handed) (journal : List Placed) (wire : NumberMap Message) (master : ℕ) (row : Row) (call : Call) (item : Held) → Calls base rows truths before.rests before.handovers completions live handed journal wire
-    → Stages rows before after master row call item → Calls base rows truths after.rests after.handovers completions live handed journal wire
-calls_staged base rows truths before after completions live handed journal wire master row call item old stages =
-    calls_alike base rows truths after.rests before.handovers after.handovers completions live handed journal wire
-    (calls_more base rows truths before.rests after.rests before.handovers completions live handed journal wire old
-    (λ r end stands there.
-    ⊎_elim
-    (λ (at : r.tablet ≡ row.tablet).
-    let same : r ≡ row = stages.same_row r stands at in
-    let rest_is : after.rests r ≡ before.rests r ++ entries.Held item ∷ [] = ap after.rests same ∙ stages.rest_here ∙ ap (λ (r : Row). before.rests r ++ entries.Held item ∷ []) (sym same) in
-    subst (λ (l : List Entry). Contains (told l) end) (sym rest_is)
-    (subst (λ (l : List Ended). Contains l end) (sym (flat_map-append told_by (before.rests r) (entries.Held item ∷ [])))
-    (Contains-append_left (told (before.rests r)) (told (entries.Held item ∷ [])) end there)))
-    (λ (apart : r.tablet ≡ row.tablet → ⊥). subst (λ (l : List Entry). Contains (told l) end) (sym (stages.rest_others r stands apart)) there)
-    (cases_eq r.tablet row.tablet)))
-    (staged_alike rows before after master row call item stages)

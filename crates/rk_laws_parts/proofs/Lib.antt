@@ -13,7 +13,6 @@ pub mod Alike
 pub mod Speakers
 pub mod Seen
 pub mod Staged
-pub mod Nodes
 pub mod Rows
 pub mod Terms
 pub mod Cover
@@ -21,7 +20,6 @@ pub mod Roles
 pub mod Segments
 pub mod Logs
 pub mod Above
-pub mod Order
 pub mod Calls
 pub mod Nexts
 pub mod Counters

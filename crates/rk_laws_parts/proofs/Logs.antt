@@ -128,9 +128,3 @@ logs_grown logs logs' written written' stored wire master entry old logs_differ 
           (λ number message. says_grown logs logs' stored master entry logs_differ grows message.from message.to message.body)
           old.sent;
     }
-
--- a write is staged
-pub logs_staged : (rows : List Row) (before after : Lane) (stored : ℕ → Segments) (wire : NumberMap Message) (master : ℕ) (row : Row) (call : Call) (item : Held) → Logs before.logs before.written stored wire
-    → Stages rows before after master row call item → HasSegmentLeft (before.logs master) → Logs after.logs after.written stored wire
-logs_staged rows before after stored wire master row call item old stages few =
-    logs_grown before.logs after.logs before.written after.written stored wire master (entries.Held item) old stages.logs_differ stages.written_differ refl few

@@ -278,10 +278,3 @@ messages_looks rows logs logs' written written' stored handovers handovers' comp
       old.of_rows;
   others = old.others;
 }
-
--- a write is staged at a master that answers calls for its key
-pub messages_staged : (rows : List Row) (before after : Lane) (stored : ℕ → Segments) (completions : ℕ → ℕ → Completions) (merged : ℕ → ℕ → List Ended) (live : ℕ → Bool) (handed : NumberMap Handed) (journal : List Placed) (wire : NumberMap Message) (alive : Bool) (master : ℕ) (row : Row) (call : Call) (item : Held) → Messages rows before.logs before.written stored before.handovers completions merged live handed journal wire → Stages rows before after master row call item → IsServed rows (before.handovers master) alive master item.table item.key → Messages rows after.logs after.written stored after.handovers completions merged live handed journal wire
-messages_staged rows before after stored completions merged live handed journal wire alive master row call item old stages served =
-    messages_looks rows before.logs after.logs before.written after.written stored before.handovers after.handovers completions merged live handed journal wire old
-    (staged_looks rows before after master row call item stages alive served)
-    (staged_known rows before after master row call item stages)

@@ -69,11 +69,3 @@ roles_looks rows handovers handovers' written written' live old looks same = rec
       rows old.at_term;
   known = λ master number lives there. old.known master number lives (sym (looks master number).role.absent ∙ there);
 }
-
--- a write is staged at a master that answers calls for its key
-pub roles_staged : (rows : List Row) (before after : Lane) (live : ℕ → Bool) (alive : Bool) (master : ℕ) (row : Row) (call : Call) (item : Held) → Roles rows before.handovers before.written live → Stages rows before after master row call item → IsServed rows (before.handovers master) alive master item.table item.key → Roles rows after.handovers after.written live
-roles_staged rows before after live alive master row call item old stages served =
-    let looks =
-    staged_looks rows before after master row call item stages
-    alive served in
-    roles_looks rows before.handovers after.handovers before.written after.written live old looks.each looks.applied

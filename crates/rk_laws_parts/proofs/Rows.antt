@@ -25,9 +25,3 @@ rows_grown rows written written' journal old grown = record {
       rows old.placed;
   covered = old.covered;
 }
-
--- a write is staged
-pub rows_staged : (rows : List Row) (before after : Lane) (journal : List Placed) (master : ℕ) (row : Row) (call : Call) (item : Held) → Rows rows before.written journal → Stages rows before after master row call item → Rows rows after.written journal
-rows_staged rows before after journal master row call item old stages =
-    rows_grown rows before.written after.written journal old
-    (staged_grown rows before after master row call item stages)

@@ -28,17 +28,3 @@ all_items_same (LastRebuilder place) a b term same = refl
 all_items_same OutsideRebuilder a b term same = refl
 all_items_same FormerMember a b term same = refl
 all_items_same Bystander a b term same = refl
-
--- a write is staged
-pub tables_staged : (rows : List Row) (before after : Lane) (records : ℕ → List Held) (live : ℕ → Bool) (master : ℕ) (row : Row) (call : Call) (item : Held) → Tables rows before.written before.handovers records live → Stages rows before after master row call item → Tables rows after.written after.handovers records live
-tables_staged rows before after records live master row call item old stages = record {
-  ordered = old.ordered;
-  items = λ q lives k d within has.
-      let other : Row = slice_index_or rows k d in
-      let same : (after.handovers q other.tablet).term ≡ (before.handovers q other.tablet).term =
-      counted_same rows before after master row call item stages (λ (handover : Handover). handover.term) (λ tablet. refl) q other.tablet in
-      IfSome_then (first_of (lineage_of other.phase))
-      (old.items q lives k d within
-      (sym (all_items_same (post_of other.phase q) (after.handovers q other.tablet) (before.handovers q other.tablet) other.term same) ∙ has))
-      (λ member table. subst (λ (list : List Entry). IsTableOf other.range list (records q)) (sym (stages.truth_same other.range member)) table);
-}

@@ -39,9 +39,3 @@ terms_looks rows handovers handovers' wire old looks = record {
       ∙ old.apart master a b other (sym (looks master a).role.absent ∙ a_there) (sym (looks master b).role.absent ∙ b_there);
   sent = old.sent;
 }
-
--- a write is staged at a master that answers calls for its key
-pub terms_staged : (rows : List Row) (before after : Lane) (wire : NumberMap Message) (alive : Bool) (master : ℕ) (row : Row) (call : Call) (item : Held) → Terms rows before.handovers wire → Stages rows before after master row call item → IsServed rows (before.handovers master) alive master item.table item.key → Terms rows after.handovers wire
-terms_staged rows before after wire alive master row call item old stages served =
-    terms_looks rows before.handovers after.handovers wire old
-    (staged_looks rows before after master row call item stages alive served).each
