@@ -48,6 +48,8 @@ pub mod PullingChanges
 pub mod HashWanted
 pub mod HashesResolved
 pub mod TokenPassed
+pub mod TurnedRows
+pub mod PlaceNoted
 pub mod SmallWorld
 pub mod SmallWorldLooks
 pub mod SmallWorldMap

@@ -51,11 +51,11 @@ use Rattle.rk_laws_parts.proofs.Seen.{LooksAs, AllLook}
 use Rattle.rk_laws_parts.proofs.Staged.{staged_looks, staged_known}
 
 -- what is said where a node is a master, it says as well where that follows
-if_master : (node : Node) (Fits Gives : ℕ → Type 0) → ((master : ℕ) → Fits master → Gives master) → IfMaster node Fits → IfMaster node Gives
+pub if_master : (node : Node) (Fits Gives : ℕ → Type 0) → ((master : ℕ) → Fits master → Gives master) → IfMaster node Fits → IfMaster node Gives
 if_master (nodes.Master master) Fits Gives gives fits = gives master fits
 if_master node Fits Gives gives fits = fits
 
-by_master : (node : Node) (Fits Gives : ℕ → Type 0) → ((master : ℕ) → Fits master → Gives master) → ByMaster node Fits → ByMaster node Gives
+pub by_master : (node : Node) (Fits Gives : ℕ → Type 0) → ((master : ℕ) → Fits master → Gives master) → ByMaster node Fits → ByMaster node Gives
 by_master (nodes.Master master) Fits Gives gives fits = gives master fits
 by_master node Fits Gives gives fits = fits
 
