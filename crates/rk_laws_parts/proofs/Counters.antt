@@ -29,14 +29,13 @@ use Rattle.rk_sound.specs.Handing.{handed_by, handed_for_grant}
 use Rattle.rk_sound.specs.Counters.{Counters, IsFloor, IsNext}
 use Rattle.rk_sound.specs.Messages.{Messages, SaysOf}
 use Rattle.rk_sound.specs.Whole.{CountersOf}
-use Rattle.rk_sound.specs.Changes.{IsServed}
 use Rattle.rk_sound.specs.Small.{with_one_more}
 use Rattle.rk_laws_parts.proofs.Changing.{Lane, Stages}
 use Rattle.rk_laws_parts.proofs.Differs.{still_counts}
 use Rattle.rk_laws_parts.proofs.Lists.{all_in}
 use Rattle.rk_laws_parts.proofs.Alike.{AreAlike, speaks_alike, handed_for_grant_alike, handed_by_alike}
 use Rattle.rk_laws_parts.proofs.Speakers.{speaker_of, speaker_is, none_waits, none_hands}
-use Rattle.rk_laws_parts.proofs.Staged.{Serves, serves_row, staged_alike, staged_speaker}
+use Rattle.rk_laws_parts.proofs.Staged.{Serves, staged_alike, staged_speaker}
 use Rattle.rk_laws_parts.proofs.Nexts.{next_of_all, floor_of_all, next_push}
 
 -- tablets become others that answer alike, with the same counters

@@ -1,14 +1,11 @@
 -- Laws of the part Cover: what a message that is sent, tablets that look the same, and a staged write keep of it.
 use Rattle.std.proofs.Common.{sym, ap, subst, ◌∙◌}
-use Rattle.std.specs.Prelude.{◌≡◌, ◌≤◌, ℕ, Bool, true, List, All, is_some}
+use Rattle.std.specs.Prelude.{◌≡◌, ◌≤◌, ℕ, true, List, All, is_some}
 use Rattle.std.specs.List.{Contains, flat_map}
-use Rattle.std.proofs.lemmas.List.Elements.{All-push}
 use Rattle.std.proofs.lemmas.List.Folds.{list_any_at}
 use Rattle.rk_types.specs.NumberMap.{NumberMap}
 use Rattle.rk_types.specs.Range.{has}
-use Rattle.rk_types.specs.declared.call.Call.{Call}
 use Rattle.rk_types.specs.declared.held.Held.{Held}
-use Rattle.rk_entry.specs.declared.entry.Entry.TheVariants as entries
 use Rattle.rk_transfer.specs.declared.handover.Handover.{Handover}
 use Rattle.rk_tablet_map.specs.Rows.{row_of, is_covered}
 use Rattle.rk_tablet_map.specs.declared.row.Row.{Row}
@@ -16,12 +13,7 @@ use Rattle.rk_message.specs.declared.message.Message.{Message}
 use Rattle.rk_world.specs.Marks.{Mark}
 use Rattle.rk_world.specs.Written.{Written}
 use Rattle.rk_sound.specs.Cover.{Cover, IsWithinRows, IsItemWithin, IsEntryWithin, IsOfWholeRows}
-use Rattle.rk_sound.specs.Changes.{IsServed}
-use Rattle.rk_sound.specs.Small.{with_one_more}
-use Rattle.rk_laws_parts.proofs.Changing.{Lane, Stages}
-use Rattle.rk_laws_parts.proofs.Differs.{differs_each}
 use Rattle.rk_laws_parts.proofs.Seen.{LooksAs}
-use Rattle.rk_laws_parts.proofs.Staged.{staged_looks, written_grown}
 
 -- each tablet looks as before
 pub cover_looks : (rows : List Row) (written : ℕ → Written) (handovers handovers' : ℕ → ℕ → Handover) (records : ℕ → List Held) (wire : NumberMap Message) → Cover rows written handovers records wire → ((q r : ℕ) → LooksAs (handovers q r) (handovers' q r)) → Cover rows written handovers' records wire

@@ -5,9 +5,7 @@ use Rattle.std.specs.List.{flat_map}
 use Rattle.std.proofs.lemmas.List.Elements.{All-weaker}
 use Rattle.rk_types.proofs.NumberMaps.{each_weaker}
 use Rattle.rk_types.specs.NumberMap.{NumberMap, get}
-use Rattle.rk_types.specs.declared.call.Call.{Call}
 use Rattle.rk_types.specs.declared.call.Ended.{Ended}
-use Rattle.rk_types.specs.declared.held.Held.{Held}
 use Rattle.rk_types.specs.declared.history.Placed.{Placed}
 use Rattle.rk_types.specs.declared.lineage.Member.{Member}
 use Rattle.rk_types.specs.declared.node.Node.{Node}
@@ -45,10 +43,7 @@ use Rattle.rk_sound.specs.Logs.{stored_of}
 use Rattle.rk_sound.specs.Receives.{scan_items}
 use Rattle.rk_sound.specs.Rebuilds.{READ_BACKUP, IsReadPart}
 use Rattle.rk_sound.specs.Messages.{Messages, SaysOf, IfMaster, ByMaster, IsOf, IsOfTarget, PrepareFits, CloseFits, RebuildFits, OwnFits, IsOwner, ReleaseFits, ReadyIn, TransferIn, IsFrozenSource, JoinedIn, RebuiltIn, GrantAgrees, AskAgrees, IsFromSource, PulledAgrees, GotAgrees, CopyIn}
-use Rattle.rk_sound.specs.Changes.{IsServed}
-use Rattle.rk_laws_parts.proofs.Changing.{Lane, Stages}
 use Rattle.rk_laws_parts.proofs.Seen.{LooksAs, AllLook}
-use Rattle.rk_laws_parts.proofs.Staged.{staged_looks, staged_known}
 
 -- what is said where a node is a master, it says as well where that follows
 pub if_master : (node : Node) (Fits Gives : ℕ → Type 0) → ((master : ℕ) → Fits master → Gives master) → IfMaster node Fits → IfMaster node Gives

@@ -1,5 +1,5 @@
 -- A view stays sound when the place of a target is noted, where that waits at it at the row's term.
-use Rattle.std.proofs.Common.{◌≡◌, ℕ, ◌≤◌, ◌<◌, Bool, true, false, cond, eqb, List, [], ◌∷◌, Option, Some, None, refl, sym, ap, subst, ◌∙◌, ⊎_elim, arith, inl, inr}
+use Rattle.std.proofs.Common.{◌≡◌, ℕ, ◌≤◌, Bool, true, false, cond, eqb, List, Option, Some, None, refl, sym, ap, subst, ◌∙◌, ⊎_elim, arith, inl, inr}
 use Rattle.std.specs.Prelude.{All, IfSome, drop, is_some, ◌++◌, ◌⊎◌}
 use Rattle.std.specs.List.{Contains, flat_map, list_any}
 use Rattle.std.proofs.lemmas.Bool.{eqb-true}
@@ -11,7 +11,6 @@ use Rattle.rk_types.specs.Range.{meets}
 use Rattle.rk_types.specs.declared.call.Call.{Call}
 use Rattle.rk_types.specs.declared.call.Ended.{Ended}
 use Rattle.rk_types.specs.declared.held.Held.{Held}
-use Rattle.rk_types.specs.declared.lineage.Member.{Member}
 use Rattle.rk_types.specs.declared.node.Node.{Node}
 use Rattle.rk_types.specs.declared.range.Range.{Range}
 use Rattle.rk_model.specs.History.{map_after}
@@ -35,7 +34,7 @@ use Rattle.rk_world.specs.Ends.{items_of, told}
 use Rattle.rk_world.specs.Marks.{Mark}
 use Rattle.rk_world.specs.Base.{base_map}
 use Rattle.rk_world.specs.Coordinator.{Handed}
-use Rattle.rk_world.specs.Lineage.{first_of, is_member, last_of}
+use Rattle.rk_world.specs.Lineage.{is_member, last_of}
 use Rattle.rk_world.specs.RoleTests.{is_idle, may_have_staged}
 use Rattle.rk_world.specs.Master.{touches}
 use Rattle.rk_world.specs.Notices.{names}
@@ -59,7 +58,7 @@ use Rattle.rk_sound.specs.Rebuilds.{HasOwnRange, MarkFits, RowIsRebuilt}
 use Rattle.rk_sound.specs.Messages.{SaysOf, IsOf, PrepareFits, CloseFits, IsOnlyRebuilder, OwnFits, IsOwner, ReleaseFits, RebuildFits, ReadyIn, TransferIn, JoinedIn, RebuiltIn, GrantAgrees, AskAgrees, PulledAgrees, GotAgrees}
 use Rattle.rk_sound.specs.Whole.{IsSound, SoundView, NodesOf, RowsOf, TermsOf, CoverOf, RolesOf, TruthOf, OrderOf, CallsOf, CountersOf, RestOf, TablesOf, ReceivesOf, RebuildsOf, MessagesOf}
 use Rattle.rk_sound.specs.Moves.{MayNote}
-use Rattle.rk_sound.specs.Small.{place_noted_in, turned, with_place}
+use Rattle.rk_sound.specs.Small.{place_noted_in, turned}
 use Rattle.rk_laws_parts.proofs.Messages.{if_master, by_master}
 use Rattle.rk_laws_parts.proofs.TurnedRows.{all_turned, covered_turned, known_turned, new_stands, none_known, stands_found, stands_still}
 

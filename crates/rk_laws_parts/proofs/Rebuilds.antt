@@ -4,10 +4,8 @@ use Rattle.std.specs.Prelude.{slice_index_or, drop, take, Option, Bool}
 use Rattle.std.specs.List.{All, Contains}
 use Rattle.std.proofs.lemmas.Bool.{cases_eq, false≢true}
 use Rattle.std.proofs.lemmas.List.Elements.{All-weaker, Contains-get_or}
-use Rattle.rk_types.specs.NumberMap.{NumberMap}
 use Rattle.rk_types.specs.declared.call.Call.{Call}
 use Rattle.rk_types.specs.declared.held.Held.{Held}
-use Rattle.rk_types.specs.declared.history.Placed.{Placed}
 use Rattle.rk_types.specs.declared.lineage.Member.{Member}
 use Rattle.rk_types.specs.declared.range.Range.{Range}
 use Rattle.rk_outside.specs.Segments.{Segments}
@@ -21,7 +19,6 @@ use Rattle.rk_tablet_map.specs.Phase.{lineage_of, member as member_at}
 use Rattle.rk_tablet_map.specs.declared.phase.Phase.{Phase}
 use Rattle.rk_tablet_map.specs.declared.phase.Phase.TheVariants.{Owned, Opening, Moving, Rebuilding}
 use Rattle.rk_tablet_map.specs.declared.row.Row.{Row}
-use Rattle.rk_message.specs.declared.message.Message.{Message}
 use Rattle.rk_world.specs.Ranges.{has_key}
 use Rattle.rk_world.specs.Marks.{Mark, unmarked_from}
 use Rattle.rk_world.specs.Material.{counting}
@@ -31,12 +28,12 @@ use Rattle.rk_world.specs.Written.{Written, member_material}
 use Rattle.rk_done.specs.Completions.{Completions}
 use Rattle.rk_types.specs.declared.call.Ended.{Ended}
 use Rattle.rk_world.specs.Gather.{Gather}
-use Rattle.rk_sound.specs.Rows.{Rows, AreApart}
-use Rattle.rk_sound.specs.Logs.{Logs, stored_of}
-use Rattle.rk_sound.specs.Rebuilds.{Rebuilds, HasOwnRange, IsOfRange, IsRebuilder, MarkFits, MarkedFit, READ_BACKUP, TellNoMore, has_merged, marked_entries, member_marked, member_stored, stored_count, RowIsRebuilt}
-use Rattle.rk_sound.specs.Changes.{IsServed, IsServedIn, MayStage}
+use Rattle.rk_sound.specs.Rows.{AreApart}
+use Rattle.rk_sound.specs.Logs.{stored_of}
+use Rattle.rk_sound.specs.Rebuilds.{HasOwnRange, IsOfRange, IsRebuilder, MarkFits, MarkedFit, READ_BACKUP, TellNoMore, has_merged, marked_entries, member_marked, member_stored, stored_count, RowIsRebuilt}
+use Rattle.rk_sound.specs.Changes.{IsServedIn, MayStage}
 use Rattle.rk_sound.specs.Small.{risen, with_one_more, staged}
-use Rattle.rk_sound.specs.View.{View, truths, rests}
+use Rattle.rk_sound.specs.View.{View, truths}
 use Rattle.rk_sound.specs.Whole.{RebuildsOf, RowsOf, LogsOf, SoundView}
 use Rattle.rk_world.specs.Requests.{item_of}
 use Rattle.rk_laws_parts.proofs.Changing.{Lane, Stages}

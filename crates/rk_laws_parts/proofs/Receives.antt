@@ -31,15 +31,14 @@ use Rattle.rk_world.specs.Tablet.{Pulling}
 use Rattle.rk_world.specs.RoleTests.{is_absent}
 use Rattle.rk_world.specs.Coordinator.{Handed}
 use Rattle.rk_world.specs.Written.{Written, lineage_truth, member_material, member_truth, truth_of}
-use Rattle.rk_sound.specs.Rows.{Rows, AreApart, IsPlaced}
+use Rattle.rk_sound.specs.Rows.{AreApart, IsPlaced}
 use Rattle.rk_sound.specs.Terms.{Terms}
 use Rattle.rk_sound.specs.Posts.{StillCounts}
 use Rattle.rk_sound.specs.Roles.{Roles}
-use Rattle.rk_sound.specs.Logs.{Logs, stored_of}
-use Rattle.rk_sound.specs.Counters.{Counters}
+use Rattle.rk_sound.specs.Logs.{stored_of}
 use Rattle.rk_sound.specs.Rest.{FirstIsDone}
-use Rattle.rk_sound.specs.Receives.{Receives, IsBare, IsTarget, MembersFit, HandedFits, is_granted, wanted_place}
-use Rattle.rk_sound.specs.Changes.{IsServed, IsServedIn, MayStage}
+use Rattle.rk_sound.specs.Receives.{IsBare, IsTarget, MembersFit, HandedFits, is_granted, wanted_place}
+use Rattle.rk_sound.specs.Changes.{IsServedIn, MayStage}
 use Rattle.rk_sound.specs.Small.{risen, with_one_more, staged}
 use Rattle.rk_sound.specs.View.{View, truths, rests}
 use Rattle.rk_sound.specs.Whole.{ReceivesOf, RowsOf, LogsOf, CountersOf, TermsOf, RolesOf, SoundView}

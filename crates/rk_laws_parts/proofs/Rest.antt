@@ -1,5 +1,5 @@
 -- Laws of the part Rest: what a frozen tablet and a staged write keep of it.
-use Rattle.std.proofs.Common.{◌≡◌, ℕ, ◌≤◌, Bool, true, false, List, ◌++◌, length, Option, Some, refl, sym, ap, ◌∙◌, subst, ⊎_elim, inl}
+use Rattle.std.proofs.Common.{◌≡◌, ℕ, ◌≤◌, Bool, true, false, List, ◌++◌, length, Option, refl, sym, ap, ◌∙◌, subst, ⊎_elim, inl}
 use Rattle.std.specs.Prelude.{slice_index_or, drop, Option, Bool}
 use Rattle.std.specs.List.{Contains, list_any}
 use Rattle.std.proofs.lemmas.Bool.{false≢true}
@@ -10,7 +10,6 @@ use Rattle.rk_types.specs.declared.held.Held.{Held}
 use Rattle.rk_types.specs.declared.history.Placed.{Placed}
 use Rattle.rk_types.specs.declared.range.Range.{Range}
 use Rattle.rk_outside.specs.Segments.{Segments}
-use Rattle.rk_model.specs.Machine.{change_of}
 use Rattle.rk_entry.specs.declared.entry.Entry.{Entry}
 use Rattle.rk_entry.specs.declared.entry.Entry.TheVariants as entries
 use Rattle.rk_transfer.specs.declared.handover.Handover.{Handover}
@@ -20,8 +19,7 @@ use Rattle.rk_message.specs.declared.message.Message.{Message}
 use Rattle.rk_world.specs.Ranges.{has_key}
 use Rattle.rk_world.specs.Marks.{is_marked}
 use Rattle.rk_world.specs.Lineage.{is_member}
-use Rattle.rk_world.specs.Ends.{end_of_item, outcome_of}
-use Rattle.rk_world.specs.Base.{Base, map_entry_of}
+use Rattle.rk_world.specs.Base.{Base}
 use Rattle.rk_world.specs.Merge.{floor_of}
 use Rattle.rk_world.specs.RoleTests.{is_idle, may_have_staged}
 use Rattle.rk_world.specs.Master.{touches}
@@ -29,17 +27,15 @@ use Rattle.rk_world.specs.Requests.{item_of}
 use Rattle.rk_world.specs.Coordinator.{Handed}
 use Rattle.rk_world.specs.Ledger.{LastCall}
 use Rattle.rk_sound.specs.View.{View, truths, rests}
-use Rattle.rk_sound.specs.Rows.{Rows}
 use Rattle.rk_sound.specs.Posts.{post_of, bond_of, Holds, StillCounts}
 use Rattle.rk_sound.specs.Roles.{RoleFits}
-use Rattle.rk_sound.specs.Logs.{Logs, stored_of}
-use Rattle.rk_sound.specs.Counters.{Counters}
-use Rattle.rk_sound.specs.Rest.{Rest, IsRest, IsEntryOf, IsLast, IsLastAsked}
+use Rattle.rk_sound.specs.Logs.{stored_of}
+use Rattle.rk_sound.specs.Rest.{IsRest, IsEntryOf, IsLast, IsLastAsked}
 use Rattle.rk_sound.specs.Whole.{RestOf, RolesOf, RowsOf, LogsOf, CountersOf, SoundView}
-use Rattle.rk_sound.specs.Changes.{IsServed, MayEnd, IsServedIn, MayStage}
+use Rattle.rk_sound.specs.Changes.{IsServedIn, MayStage}
 use Rattle.rk_sound.specs.Moves.{IsSettledIn, MayFreeze}
 use Rattle.rk_sound.specs.Small.{as_frozen, frozen, staged}
-use Rattle.rk_laws_parts.proofs.Changing.{Lane, Stages}
+use Rattle.rk_laws_parts.proofs.Changing.{Lane}
 use Rattle.rk_laws_parts.proofs.Differs.{still_counts}
 use Rattle.rk_laws_parts.proofs.Shares.{marked_none}
 use Rattle.rk_laws_parts.proofs.Staged.{counter_low, row_cases, counted_same}
