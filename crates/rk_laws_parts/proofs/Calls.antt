@@ -1,32 +1,25 @@
 -- The part Calls through small changes.
-use Rattle.std.proofs.Common.{◌≡◌, ℕ, Bool, true, List, [], ◌∷◌, ◌++◌, Option, sym, ap, subst, ◌∙◌, ⊎_elim, inl, inr}
+use Rattle.std.proofs.Common.{◌≡◌, ℕ, Bool, true, List, Option, sym, subst, ◌∙◌, ⊎_elim, inl, inr}
 use Rattle.std.specs.Prelude.{All, IfSome, ◌⊎◌}
 use Rattle.std.specs.List.{Contains}
-use Rattle.std.proofs.lemmas.Bool.{cases_eq}
-use Rattle.std.proofs.lemmas.Grind.{flat_map-append}
-use Rattle.std.proofs.lemmas.List.Elements.{All-weaker, Contains-append_left}
+use Rattle.std.proofs.lemmas.List.Elements.{All-weaker}
 use Rattle.rk_types.proofs.NumberMaps.{each_weaker}
 use Rattle.rk_types.specs.NumberMap.{NumberMap}
-use Rattle.rk_types.specs.declared.call.Call.{Call}
 use Rattle.rk_types.specs.declared.call.Ended.{Ended}
-use Rattle.rk_types.specs.declared.held.Held.{Held}
 use Rattle.rk_types.specs.declared.history.Placed.{Placed}
 use Rattle.rk_entry.specs.declared.entry.Entry.{Entry}
-use Rattle.rk_entry.specs.declared.entry.Entry.TheVariants as entries
 use Rattle.rk_done.specs.Completions.{ends_of, Completions}
 use Rattle.rk_transfer.specs.declared.handover.Handover.{Handover}
 use Rattle.rk_tablet_map.specs.declared.row.Row.{Row}
 use Rattle.rk_message.specs.declared.message.Message.{Message}
-use Rattle.rk_world.specs.Ends.{told, told_by}
+use Rattle.rk_world.specs.Ends.{told}
 use Rattle.rk_world.specs.Base.{Base}
 use Rattle.rk_world.specs.Coordinator.{Handed}
 use Rattle.rk_sound.specs.Posts.{post_of, speaks, StillCounts}
 use Rattle.rk_sound.specs.Handing.{handed_by, handed_for_grant}
 use Rattle.rk_sound.specs.Calls.{Calls, IsKnown, IsStagedEnd, ReachAll}
-use Rattle.rk_laws_parts.proofs.Changing.{Lane, Stages}
 use Rattle.rk_laws_parts.proofs.Differs.{still_counts}
 use Rattle.rk_laws_parts.proofs.Alike.{AreAlike, speaks_alike, handed_for_grant_alike, handed_by_alike}
-use Rattle.rk_laws_parts.proofs.Staged.{staged_alike}
 
 -- tablets become others that answer alike
 pub calls_alike : (base : Base) (rows : List Row) (truths rests : Row → List Entry) (handovers now : ℕ → ℕ → Handover) (completions : ℕ → ℕ → Completions) (live : ℕ → Bool) (handed : NumberMap Handed) (journal : List Placed) (wire : NumberMap Message) → Calls base rows truths rests handovers completions live handed journal wire → AreAlike handovers now → Calls base rows truths rests now completions live handed journal wire
@@ -98,21 +91,3 @@ calls_more base rows truths rests now handovers completions live handed journal 
       })) known)
       (ends_of (completions master tablet)) (old.known master tablet lives);
 }
-
--- a write is staged
-pub calls_staged : (base : Base) (rows : List Row) (truths : Row → List Entry) (before after : Lane) (completions : ℕ → ℕ → Completions) (live : ℕ → Bool) (handed : NumberMap Handed) (journal : List Placed) (wire : NumberMap Message) (master : ℕ) (row : Row) (call : Call) (item : Held) → Calls base rows truths before.rests before.handovers completions live handed journal wire
-    → Stages rows before after master row call item → Calls base rows truths after.rests after.handovers completions live handed journal wire
-calls_staged base rows truths before after completions live handed journal wire master row call item old stages =
-    calls_alike base rows truths after.rests before.handovers after.handovers completions live handed journal wire
-    (calls_more base rows truths before.rests after.rests before.handovers completions live handed journal wire old
-    (λ r end stands there.
-    ⊎_elim
-    (λ (at : r.tablet ≡ row.tablet).
-    let same : r ≡ row = stages.same_row r stands at in
-    let rest_is : after.rests r ≡ before.rests r ++ entries.Held item ∷ [] = ap after.rests same ∙ stages.rest_here ∙ ap (λ (r : Row). before.rests r ++ entries.Held item ∷ []) (sym same) in
-    subst (λ (l : List Entry). Contains (told l) end) (sym rest_is)
-    (subst (λ (l : List Ended). Contains l end) (sym (flat_map-append told_by (before.rests r) (entries.Held item ∷ [])))
-    (Contains-append_left (told (before.rests r)) (told (entries.Held item ∷ [])) end there)))
-    (λ (apart : r.tablet ≡ row.tablet → ⊥). subst (λ (l : List Entry). Contains (told l) end) (sym (stages.rest_others r stands apart)) there)
-    (cases_eq r.tablet row.tablet)))
-    (staged_alike rows before after master row call item stages)

@@ -29,14 +29,13 @@ use Rattle.rk_sound.specs.Handing.{handed_by, handed_for_grant}
 use Rattle.rk_sound.specs.Counters.{Counters, IsFloor, IsNext}
 use Rattle.rk_sound.specs.Messages.{Messages, SaysOf}
 use Rattle.rk_sound.specs.Whole.{CountersOf}
-use Rattle.rk_sound.specs.Changes.{IsServed}
 use Rattle.rk_sound.specs.Small.{with_one_more}
 use Rattle.rk_laws_parts.proofs.Changing.{Lane, Stages}
 use Rattle.rk_laws_parts.proofs.Differs.{still_counts}
 use Rattle.rk_laws_parts.proofs.Lists.{all_in}
 use Rattle.rk_laws_parts.proofs.Alike.{AreAlike, speaks_alike, handed_for_grant_alike, handed_by_alike}
 use Rattle.rk_laws_parts.proofs.Speakers.{speaker_of, speaker_is, none_waits, none_hands}
-use Rattle.rk_laws_parts.proofs.Staged.{Serves, serves_row, staged_alike, staged_speaker}
+use Rattle.rk_laws_parts.proofs.Staged.{Serves, staged_alike, staged_speaker}
 use Rattle.rk_laws_parts.proofs.Nexts.{next_of_all, floor_of_all, next_push}
 
 -- tablets become others that answer alike, with the same counters
@@ -149,7 +148,7 @@ module _ (rows : List Row) (truths : Row → List Entry) (before after : Lane) (
       cond-false _ (get handed row.tablet) None
       (none_waits row before.handovers row.phase here.last formed here.is_last serves_last)
 
-  counters_with : (base : Base) (stored : ℕ → Segments) (completions : ℕ → ℕ → Completions) (merged : ℕ → ℕ → List Ended) (wire : NumberMap Message) → Counters base rows truths before.rests before.written before.handovers live handed journal wire → Messages rows before.logs before.written stored before.handovers completions merged live handed journal wire
+  pub counters_with : (base : Base) (stored : ℕ → Segments) (completions : ℕ → ℕ → Completions) (merged : ℕ → ℕ → List Ended) (wire : NumberMap Message) → Counters base rows truths before.rests before.written before.handovers live handed journal wire → Messages rows before.logs before.written stored before.handovers completions merged live handed journal wire
       → Counters base rows truths after.rests after.written after.handovers live handed journal wire
   counters_with base stored completions merged wire old messages = record {
     low = old.low;
@@ -178,12 +177,3 @@ module _ (rows : List Row) (truths : Row → List Entry) (before after : Lane) (
         floors_kept r stands (λ r. handed_by r before.handovers message.body) (λ r. handed_by r after.handovers message.body) (λ r. handed_by_alike r before.handovers after.handovers message.body alike) none floor)
         (old.sent number message found);
   }
-
--- a write is staged
-pub counters_staged : (base : Base) (rows : List Row) (truths : Row → List Entry) (before after : Lane) (stored : ℕ → Segments) (completions : ℕ → ℕ → Completions) (merged : ℕ → ℕ → List Ended) (live : ℕ → Bool) (handed : NumberMap Handed) (journal : List Placed) (wire : NumberMap Message) (master : ℕ) (row : Row) (call : Call) (item : Held) → Counters base rows truths before.rests before.written before.handovers live handed journal wire
-    → Stages rows before after master row call item → IsServed rows (before.handovers master) (live master) master item.table item.key → Rows rows before.written journal → Roles rows before.handovers before.written live
-    → Messages rows before.logs before.written stored before.handovers completions merged live handed journal wire → Counters base rows truths after.rests after.written after.handovers live handed journal wire
-counters_staged base rows truths before after stored completions merged live handed journal wire master row call item old stages served rows_fit roles_fit messages =
-    counters_with rows truths before after live handed journal master row call item stages roles_fit rows_fit
-    (serves_row rows before after master row call item stages (live master) served)
-    base stored completions merged wire old messages

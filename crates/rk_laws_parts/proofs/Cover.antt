@@ -1,14 +1,11 @@
 -- Laws of the part Cover: what a message that is sent, tablets that look the same, and a staged write keep of it.
 use Rattle.std.proofs.Common.{sym, ap, subst, ◌∙◌}
-use Rattle.std.specs.Prelude.{◌≡◌, ◌≤◌, ℕ, Bool, true, List, All, is_some}
+use Rattle.std.specs.Prelude.{◌≡◌, ◌≤◌, ℕ, true, List, All, is_some}
 use Rattle.std.specs.List.{Contains, flat_map}
-use Rattle.std.proofs.lemmas.List.Elements.{All-push}
 use Rattle.std.proofs.lemmas.List.Folds.{list_any_at}
 use Rattle.rk_types.specs.NumberMap.{NumberMap}
 use Rattle.rk_types.specs.Range.{has}
-use Rattle.rk_types.specs.declared.call.Call.{Call}
 use Rattle.rk_types.specs.declared.held.Held.{Held}
-use Rattle.rk_entry.specs.declared.entry.Entry.TheVariants as entries
 use Rattle.rk_transfer.specs.declared.handover.Handover.{Handover}
 use Rattle.rk_tablet_map.specs.Rows.{row_of, is_covered}
 use Rattle.rk_tablet_map.specs.declared.row.Row.{Row}
@@ -16,12 +13,7 @@ use Rattle.rk_message.specs.declared.message.Message.{Message}
 use Rattle.rk_world.specs.Marks.{Mark}
 use Rattle.rk_world.specs.Written.{Written}
 use Rattle.rk_sound.specs.Cover.{Cover, IsWithinRows, IsItemWithin, IsEntryWithin, IsOfWholeRows}
-use Rattle.rk_sound.specs.Changes.{IsServed}
-use Rattle.rk_sound.specs.Small.{with_one_more}
-use Rattle.rk_laws_parts.proofs.Changing.{Lane, Stages}
-use Rattle.rk_laws_parts.proofs.Differs.{differs_each}
 use Rattle.rk_laws_parts.proofs.Seen.{LooksAs}
-use Rattle.rk_laws_parts.proofs.Staged.{staged_looks, written_grown}
 
 -- each tablet looks as before
 pub cover_looks : (rows : List Row) (written : ℕ → Written) (handovers handovers' : ℕ → ℕ → Handover) (records : ℕ → List Held) (wire : NumberMap Message) → Cover rows written handovers records wire → ((q r : ℕ) → LooksAs (handovers q r) (handovers' q r)) → Cover rows written handovers' records wire
@@ -46,7 +38,7 @@ covered_by rows row table hash stands here =
     (ap (λ (r : Row). has r.range table hash) stands.2 ∙ here)
 
 -- each master has written the same marks and side items, and entries that lie in rows and are of whole ones
-cover_written : (rows : List Row) (written written' : ℕ → Written) (handovers : ℕ → ℕ → Handover) (records : ℕ → List Held) (wire : NumberMap Message) → Cover rows written handovers records wire → ((q : ℕ) → (written' q).marks ≡ (written q).marks) → ((q : ℕ) → (written' q).sides ≡ (written q).sides) → ((q : ℕ) → All (IsEntryWithin rows) (written' q).entries) → ((q : ℕ) → All (IsOfWholeRows rows) (written' q).entries) → Cover rows written' handovers records wire
+pub cover_written : (rows : List Row) (written written' : ℕ → Written) (handovers : ℕ → ℕ → Handover) (records : ℕ → List Held) (wire : NumberMap Message) → Cover rows written handovers records wire → ((q : ℕ) → (written' q).marks ≡ (written q).marks) → ((q : ℕ) → (written' q).sides ≡ (written q).sides) → ((q : ℕ) → All (IsEntryWithin rows) (written' q).entries) → ((q : ℕ) → All (IsOfWholeRows rows) (written' q).entries) → Cover rows written' handovers records wire
 cover_written rows written written' handovers records wire old marks sides new wholes = record {
   unknown = old.unknown;
   marks = λ q. subst (λ (ms : List Mark). All (λ mark. is_some (row_of rows mark.tablet) ≡ true) ms) (sym (marks q)) (old.marks q);
@@ -59,26 +51,3 @@ cover_written rows written written' handovers records wire old marks sides new w
   items = old.items;
   wholes = wholes;
 }
-
--- a write is staged at a master that answers calls for its key
-pub cover_staged : (rows : List Row) (before after : Lane) (records : ℕ → List Held) (wire : NumberMap Message) (alive : Bool) (master : ℕ) (row : Row) (call : Call) (item : Held) → Cover rows before.written before.handovers records wire → Stages rows before after master row call item → IsServed rows (before.handovers master) alive master item.table item.key → Cover rows after.written after.handovers records wire
-cover_staged rows before after records wire alive master row call item old stages served =
-    let grown = written_grown rows before after master row call item stages in
-    cover_written rows before.written after.written after.handovers records wire
-    (cover_looks rows before.written before.handovers after.handovers records wire old
-    (staged_looks rows before after master row call item stages alive served).each)
-    (λ q. (grown q).marks) (λ q. (grown q).sides)
-    (λ q.
-    differs_each (λ was now. All (IsEntryWithin rows) was.entries → All (IsEntryWithin rows) now.entries) master
-    (with_one_more (before.written master) (entries.Held item)) before.written after.written stages.written_differ
-    (λ was within. within)
-    (λ within.
-    All-push (IsEntryWithin rows) (before.written master).entries (entries.Held item) within
-    (covered_by rows row item.table _ stages.has_row stages.inside))
-    q (old.entries q))
-    (λ q.
-    differs_each (λ was now. All (IsOfWholeRows rows) was.entries → All (IsOfWholeRows rows) now.entries) master
-    (with_one_more (before.written master) (entries.Held item)) before.written after.written stages.written_differ
-    (λ was whole. whole)
-    (λ whole. All-push (IsOfWholeRows rows) (before.written master).entries (entries.Held item) whole tt)
-    q (old.wholes q))

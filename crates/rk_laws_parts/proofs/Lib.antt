@@ -13,7 +13,6 @@ pub mod Alike
 pub mod Speakers
 pub mod Seen
 pub mod Staged
-pub mod Nodes
 pub mod Rows
 pub mod Terms
 pub mod Cover
@@ -21,7 +20,6 @@ pub mod Roles
 pub mod Segments
 pub mod Logs
 pub mod Above
-pub mod Order
 pub mod Calls
 pub mod Nexts
 pub mod Counters
@@ -50,6 +48,8 @@ pub mod PullingChanges
 pub mod HashWanted
 pub mod HashesResolved
 pub mod TokenPassed
+pub mod TurnedRows
+pub mod PlaceNoted
 pub mod SmallWorld
 pub mod SmallWorldLooks
 pub mod SmallWorldMap

@@ -5,17 +5,13 @@ use Rattle.std.proofs.lemmas.Bool.{cases_eq}
 use Rattle.std.proofs.lemmas.List.Elements.{All-nil, All-push, All-weaker}
 use Rattle.rk_types.proofs.NumberMaps.{each_weaker}
 use Rattle.rk_types.specs.NumberMap.{NumberMap}
-use Rattle.rk_types.specs.declared.call.Call.{Call}
-use Rattle.rk_types.specs.declared.held.Held.{Held}
 use Rattle.rk_types.specs.declared.node.Node.{Node}
 use Rattle.rk_types.specs.declared.node.Node.TheVariants as nodes
 use Rattle.rk_outside.specs.Segments.{Segments}
 use Rattle.rk_entry.specs.declared.entry.Entry.{Entry}
-use Rattle.rk_entry.specs.declared.entry.Entry.TheVariants as entries
 use Rattle.rk_log.proofs.LogLaws.{committed_entry}
 use Rattle.rk_log.specs.Known.{Known}
 use Rattle.rk_log.specs.Log.{Log, bytes_of, is_side_stored, known_of, with_entry}
-use Rattle.rk_tablet_map.specs.declared.row.Row.{Row}
 use Rattle.rk_message.specs.declared.message.Body.{Body}
 use Rattle.rk_message.specs.declared.message.Body.TheVariants as bodies
 use Rattle.rk_message.specs.declared.message.Message.{Message}
@@ -25,7 +21,7 @@ use Rattle.rk_world.specs.Written.{Written}
 use Rattle.rk_sound.specs.Logs.{IsFirstPart, IsCopy, IsKnownBefore, IsLog, IsFromLog, Logs, LogSays, segments_in, stored_of}
 use Rattle.rk_sound.specs.Changes.{HasSegmentLeft}
 use Rattle.rk_sound.specs.Small.{with_one_more}
-use Rattle.rk_laws_parts.proofs.Changing.{Lane, Stages, DiffersAt}
+use Rattle.rk_laws_parts.proofs.Changing.{DiffersAt}
 use Rattle.rk_laws_parts.proofs.Segments.{Grows, grows_entry}
 
 -- ---- a log grows at its end
@@ -128,9 +124,3 @@ logs_grown logs logs' written written' stored wire master entry old logs_differ 
           (λ number message. says_grown logs logs' stored master entry logs_differ grows message.from message.to message.body)
           old.sent;
     }
-
--- a write is staged
-pub logs_staged : (rows : List Row) (before after : Lane) (stored : ℕ → Segments) (wire : NumberMap Message) (master : ℕ) (row : Row) (call : Call) (item : Held) → Logs before.logs before.written stored wire
-    → Stages rows before after master row call item → HasSegmentLeft (before.logs master) → Logs after.logs after.written stored wire
-logs_staged rows before after stored wire master row call item old stages few =
-    logs_grown before.logs after.logs before.written after.written stored wire master (entries.Held item) old stages.logs_differ stages.written_differ refl few

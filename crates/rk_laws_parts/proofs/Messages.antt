@@ -5,9 +5,7 @@ use Rattle.std.specs.List.{flat_map}
 use Rattle.std.proofs.lemmas.List.Elements.{All-weaker}
 use Rattle.rk_types.proofs.NumberMaps.{each_weaker}
 use Rattle.rk_types.specs.NumberMap.{NumberMap, get}
-use Rattle.rk_types.specs.declared.call.Call.{Call}
 use Rattle.rk_types.specs.declared.call.Ended.{Ended}
-use Rattle.rk_types.specs.declared.held.Held.{Held}
 use Rattle.rk_types.specs.declared.history.Placed.{Placed}
 use Rattle.rk_types.specs.declared.lineage.Member.{Member}
 use Rattle.rk_types.specs.declared.node.Node.{Node}
@@ -45,17 +43,14 @@ use Rattle.rk_sound.specs.Logs.{stored_of}
 use Rattle.rk_sound.specs.Receives.{scan_items}
 use Rattle.rk_sound.specs.Rebuilds.{READ_BACKUP, IsReadPart}
 use Rattle.rk_sound.specs.Messages.{Messages, SaysOf, IfMaster, ByMaster, IsOf, IsOfTarget, PrepareFits, CloseFits, RebuildFits, OwnFits, IsOwner, ReleaseFits, ReadyIn, TransferIn, IsFrozenSource, JoinedIn, RebuiltIn, GrantAgrees, AskAgrees, IsFromSource, PulledAgrees, GotAgrees, CopyIn}
-use Rattle.rk_sound.specs.Changes.{IsServed}
-use Rattle.rk_laws_parts.proofs.Changing.{Lane, Stages}
 use Rattle.rk_laws_parts.proofs.Seen.{LooksAs, AllLook}
-use Rattle.rk_laws_parts.proofs.Staged.{staged_looks, staged_known}
 
 -- what is said where a node is a master, it says as well where that follows
-if_master : (node : Node) (Fits Gives : ℕ → Type 0) → ((master : ℕ) → Fits master → Gives master) → IfMaster node Fits → IfMaster node Gives
+pub if_master : (node : Node) (Fits Gives : ℕ → Type 0) → ((master : ℕ) → Fits master → Gives master) → IfMaster node Fits → IfMaster node Gives
 if_master (nodes.Master master) Fits Gives gives fits = gives master fits
 if_master node Fits Gives gives fits = fits
 
-by_master : (node : Node) (Fits Gives : ℕ → Type 0) → ((master : ℕ) → Fits master → Gives master) → ByMaster node Fits → ByMaster node Gives
+pub by_master : (node : Node) (Fits Gives : ℕ → Type 0) → ((master : ℕ) → Fits master → Gives master) → ByMaster node Fits → ByMaster node Gives
 by_master (nodes.Master master) Fits Gives gives fits = gives master fits
 by_master node Fits Gives gives fits = fits
 
@@ -278,10 +273,3 @@ messages_looks rows logs logs' written written' stored handovers handovers' comp
       old.of_rows;
   others = old.others;
 }
-
--- a write is staged at a master that answers calls for its key
-pub messages_staged : (rows : List Row) (before after : Lane) (stored : ℕ → Segments) (completions : ℕ → ℕ → Completions) (merged : ℕ → ℕ → List Ended) (live : ℕ → Bool) (handed : NumberMap Handed) (journal : List Placed) (wire : NumberMap Message) (alive : Bool) (master : ℕ) (row : Row) (call : Call) (item : Held) → Messages rows before.logs before.written stored before.handovers completions merged live handed journal wire → Stages rows before after master row call item → IsServed rows (before.handovers master) alive master item.table item.key → Messages rows after.logs after.written stored after.handovers completions merged live handed journal wire
-messages_staged rows before after stored completions merged live handed journal wire alive master row call item old stages served =
-    messages_looks rows before.logs after.logs before.written after.written stored before.handovers after.handovers completions merged live handed journal wire old
-    (staged_looks rows before after master row call item stages alive served)
-    (staged_known rows before after master row call item stages)

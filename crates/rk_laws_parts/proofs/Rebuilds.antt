@@ -1,13 +1,11 @@
 -- Laws of the part Rebuilds: what a frozen tablet and a staged write keep of it.
 use Rattle.std.proofs.Common.{◌≡◌, ℕ, ◌≤◌, Bool, true, false, List, [], ◌∷◌, ◌++◌, length, Some, refl, sym, ap, ◌∙◌, subst, ⊎_elim}
-use Rattle.std.specs.Prelude.{slice_index_or, drop, take}
+use Rattle.std.specs.Prelude.{slice_index_or, drop, take, Option, Bool}
 use Rattle.std.specs.List.{All, Contains}
 use Rattle.std.proofs.lemmas.Bool.{cases_eq, false≢true}
 use Rattle.std.proofs.lemmas.List.Elements.{All-weaker, Contains-get_or}
-use Rattle.rk_types.specs.NumberMap.{NumberMap}
 use Rattle.rk_types.specs.declared.call.Call.{Call}
 use Rattle.rk_types.specs.declared.held.Held.{Held}
-use Rattle.rk_types.specs.declared.history.Placed.{Placed}
 use Rattle.rk_types.specs.declared.lineage.Member.{Member}
 use Rattle.rk_types.specs.declared.range.Range.{Range}
 use Rattle.rk_outside.specs.Segments.{Segments}
@@ -21,7 +19,6 @@ use Rattle.rk_tablet_map.specs.Phase.{lineage_of, member as member_at}
 use Rattle.rk_tablet_map.specs.declared.phase.Phase.{Phase}
 use Rattle.rk_tablet_map.specs.declared.phase.Phase.TheVariants.{Owned, Opening, Moving, Rebuilding}
 use Rattle.rk_tablet_map.specs.declared.row.Row.{Row}
-use Rattle.rk_message.specs.declared.message.Message.{Message}
 use Rattle.rk_world.specs.Ranges.{has_key}
 use Rattle.rk_world.specs.Marks.{Mark, unmarked_from}
 use Rattle.rk_world.specs.Material.{counting}
@@ -31,17 +28,21 @@ use Rattle.rk_world.specs.Written.{Written, member_material}
 use Rattle.rk_done.specs.Completions.{Completions}
 use Rattle.rk_types.specs.declared.call.Ended.{Ended}
 use Rattle.rk_world.specs.Gather.{Gather}
-use Rattle.rk_sound.specs.Rows.{Rows, AreApart}
-use Rattle.rk_sound.specs.Logs.{Logs, stored_of}
-use Rattle.rk_sound.specs.Rebuilds.{Rebuilds, HasOwnRange, IsOfRange, IsRebuilder, MarkFits, MarkedFit, READ_BACKUP, TellNoMore, has_merged, marked_entries, member_marked, member_stored, stored_count, RowIsRebuilt}
-use Rattle.rk_sound.specs.Changes.{IsServed}
-use Rattle.rk_sound.specs.Small.{risen, with_one_more}
+use Rattle.rk_sound.specs.Rows.{AreApart}
+use Rattle.rk_sound.specs.Logs.{stored_of}
+use Rattle.rk_sound.specs.Rebuilds.{HasOwnRange, IsOfRange, IsRebuilder, MarkFits, MarkedFit, READ_BACKUP, TellNoMore, has_merged, marked_entries, member_marked, member_stored, stored_count, RowIsRebuilt}
+use Rattle.rk_sound.specs.Changes.{IsServedIn, MayStage}
+use Rattle.rk_sound.specs.Small.{risen, with_one_more, staged}
+use Rattle.rk_sound.specs.View.{View, truths}
+use Rattle.rk_sound.specs.Whole.{RebuildsOf, RowsOf, LogsOf, SoundView}
+use Rattle.rk_world.specs.Requests.{item_of}
 use Rattle.rk_laws_parts.proofs.Changing.{Lane, Stages}
 use Rattle.rk_laws_parts.proofs.Differs.{differs_same}
 use Rattle.rk_laws_parts.proofs.Staged.{counted_same, first_apart, formed_apart, row_cases, written_cases, written_grown}
 use Rattle.rk_laws_parts.proofs.Applied.{applied_within}
 use Rattle.rk_laws_parts.proofs.Grows.{Extends, counting_extends, extends_behind, extends_itself, stored_push, take_extends, tells_extended}
 use Rattle.rk_laws_parts.proofs.Rebuilders.{last_member, piece_push, rebuilder_apart, rebuilder_serving}
+use Rattle.rk_laws_parts.proofs.Staging.{lane_of, stages}
 
 -- a master that rebuilds a row, by what masters have written and backups store
 abbrev pub IsRebuilderIn : (ℕ → Log) → (ℕ → Written) → (ℕ → Segments) → Row → List Member → ℕ → List Entry → Handover → Completions → Gather → List Ended → List Held → Type 0
@@ -237,8 +238,25 @@ module _ (rows : List Row) (before after : Lane) (stored : ℕ → Segments) (co
       (written_cases rows before after master row call item stages q)
 
 -- a write is staged
-pub rebuilds_staged : (rows : List Row) (truths : Row → List Entry) (before after : Lane) (stored : ℕ → Segments) (completions : ℕ → ℕ → Completions) (gathers : ℕ → ℕ → Gather) (merged : ℕ → ℕ → List Ended) (records : ℕ → List Held) (live : ℕ → Bool) (journal : List Placed) (wire : NumberMap Message) (master table : ℕ) (key : List ℕ) (call : Call) (item : Held) → Rebuilds rows truths before.logs before.written stored before.handovers completions gathers merged records live → Rows rows before.written journal → Logs before.logs before.written stored wire → (served : IsServed rows (before.handovers master) (live master) master table key) → Stages rows before after master served.row call item → Rebuilds rows truths after.logs after.written stored after.handovers completions gathers merged records live
-rebuilds_staged rows truths before after stored completions gathers merged records live journal wire master table key call item old placed held served stages =
+pub rebuilds_staged : (v : View) (master : ℕ) (call : Call) (value : Option (List ℕ)) → SoundView v → (may : MayStage v master call value) → RebuildsOf (staged v master may.served.row.tablet call value) (truths v)
+rebuilds_staged v master call value sound may =
+    let now : View = staged v master may.served.row.tablet call value in
+    let before : Lane = lane_of v in
+    let after : Lane = lane_of now in
+    let rows : List Row = v.rows in
+    let sure : Row → List Entry = truths v in
+    let stored : ℕ → Segments = v.stored in
+    let completions : ℕ → ℕ → Completions = v.completions in
+    let gathers : ℕ → ℕ → Gather = v.gathers in
+    let merged : ℕ → ℕ → List Ended = v.merged in
+    let records : ℕ → List Held = v.records in
+    let live : ℕ → Bool = v.live in
+    let served : IsServedIn v master call = may.served in
+    let item : Held = item_of call (v.handovers master served.row.tablet).counter value in
+    let old : RebuildsOf v sure = sound.rebuilds in
+    let placed : RowsOf v = sound.rows in
+    let held : LogsOf v = sound.logs in
+    let stages = stages v master call value sound may in
     let marked : (q : ℕ) → All (λ mark. mark.past ≤ length (before.written q).entries) (before.written q).marks = λ q. let log = held.each q in log.marked in
     let fits : (before.written master).applied ≤ length (before.written master).entries =
     applied_within (before.logs master) (before.written master) (stored_of stored master) (held.each master) in
@@ -246,7 +264,7 @@ rebuilds_staged rows truths before after stored completions gathers merged recor
       rebuilt = λ k d within.
           let other : Row = slice_index_or rows k d in
           rebuilt_staged rows before after stored completions gathers merged records live master served.row call item served.last stages served.is_last served.here served.lives served.serves fits other
-          (Contains-get_or rows k d within) other.phase (truths other) marked (formed_apart other.phase (placed.formed k d within)) refl (old.rebuilt k d within);
+          (Contains-get_or rows k d within) other.phase (sure other) marked (formed_apart other.phase (placed.formed k d within)) refl (old.rebuilt k d within);
       marks = λ q k d within.
           marks_staged rows before after stored completions gathers merged records live master served.row call item served.last stages served.is_last served.here served.lives served.serves fits (slice_index_or rows k d) q
           (old.marks q k d within);

@@ -1,6 +1,6 @@
 -- Laws of the part Receives: what a frozen tablet and a staged write keep of it.
 use Rattle.std.proofs.Common.{◌≡◌, ℕ, ◌≤◌, ◌<◌, Bool, true, false, inl, List, [], ◌∷◌, ◌++◌, length, Some, refl, sym, ap, ◌∙◌, subst, ⊎_elim, arith}
-use Rattle.std.specs.Prelude.{slice_index_or, IfSome, Option}
+use Rattle.std.specs.Prelude.{slice_index_or, IfSome, Option, Bool}
 use Rattle.std.specs.List.{All, Contains, flat_map}
 use Rattle.std.proofs.lemmas.Bool.{cases_eq, false≢true}
 use Rattle.std.proofs.lemmas.List.Elements.{All-head, All-tail, All-weaker, All-contains, All-contains_itself, Contains-get_or}
@@ -31,16 +31,18 @@ use Rattle.rk_world.specs.Tablet.{Pulling}
 use Rattle.rk_world.specs.RoleTests.{is_absent}
 use Rattle.rk_world.specs.Coordinator.{Handed}
 use Rattle.rk_world.specs.Written.{Written, lineage_truth, member_material, member_truth, truth_of}
-use Rattle.rk_sound.specs.Rows.{Rows, AreApart, IsPlaced}
+use Rattle.rk_sound.specs.Rows.{AreApart, IsPlaced}
 use Rattle.rk_sound.specs.Terms.{Terms}
 use Rattle.rk_sound.specs.Posts.{StillCounts}
 use Rattle.rk_sound.specs.Roles.{Roles}
-use Rattle.rk_sound.specs.Logs.{Logs, stored_of}
-use Rattle.rk_sound.specs.Counters.{Counters}
+use Rattle.rk_sound.specs.Logs.{stored_of}
 use Rattle.rk_sound.specs.Rest.{FirstIsDone}
-use Rattle.rk_sound.specs.Receives.{Receives, IsBare, IsTarget, MembersFit, HandedFits, is_granted, wanted_place}
-use Rattle.rk_sound.specs.Changes.{IsServed}
-use Rattle.rk_sound.specs.Small.{risen, with_one_more}
+use Rattle.rk_sound.specs.Receives.{IsBare, IsTarget, MembersFit, HandedFits, is_granted, wanted_place}
+use Rattle.rk_sound.specs.Changes.{IsServedIn, MayStage}
+use Rattle.rk_sound.specs.Small.{risen, with_one_more, staged}
+use Rattle.rk_sound.specs.View.{View, truths, rests}
+use Rattle.rk_sound.specs.Whole.{ReceivesOf, RowsOf, LogsOf, CountersOf, TermsOf, RolesOf, SoundView}
+use Rattle.rk_world.specs.Requests.{item_of}
 use Rattle.rk_laws_parts.proofs.Changing.{Lane, Stages}
 use Rattle.rk_laws_parts.proofs.Differs.{now_cases}
 use Rattle.rk_laws_parts.proofs.Apart.{key_outside}
@@ -50,6 +52,7 @@ use Rattle.rk_laws_parts.proofs.Floors.{floor_above, floor_append}
 use Rattle.rk_laws_parts.proofs.Applied.{applied_within}
 use Rattle.rk_laws_parts.proofs.Targets.{AreBelow, bare_pushed, target_counted, target_pushed}
 use Rattle.rk_laws_parts.proofs.Rebuilders.{last_member}
+use Rattle.rk_laws_parts.proofs.Staging.{lane_of, stages}
 
 -- what a source tells of a tablet
 abbrev pub handed_of : Handover → Completions → Handed
@@ -226,8 +229,34 @@ module _ (rows : List Row) (before after : Lane) (records : ℕ → List Held) (
       (now_cases risen before.handovers after.handovers master row.tablet stages.keeps_differ q r)
 
 -- a write is staged
-pub receives_staged : (base : Base) (rows : List Row) (before after : Lane) (stored : ℕ → Segments) (completions : ℕ → ℕ → Completions) (pullings : ℕ → ℕ → Pulling) (records : ℕ → List Held) (live : ℕ → Bool) (handed : NumberMap Handed) (journal : List Placed) (wire : NumberMap Message) (master table : ℕ) (key : List ℕ) (call : Call) (item : Held) → Receives rows before.written before.handovers completions pullings records handed → Rows rows before.written journal → Logs before.logs before.written stored wire → Counters base rows (truth_of base before.written) before.rests before.written before.handovers live handed journal wire → Terms rows before.handovers wire → Roles rows before.handovers before.written live → (served : IsServed rows (before.handovers master) (live master) master table key) → Stages rows before after master served.row call item → FirstIsDone before.written served.row.range (lineage_of served.row.phase) → Receives rows after.written after.handovers completions pullings records handed
-receives_staged base rows before after stored completions pullings records live handed journal wire master table key call item old placed held counters terms roles served stages done =
+pub receives_staged : (v : View) (master : ℕ) (call : Call) (value : Option (List ℕ)) → SoundView v → (may : MayStage v master call value) → ReceivesOf (staged v master may.served.row.tablet call value)
+receives_staged v master call value sound may =
+    let now : View = staged v master may.served.row.tablet call value in
+    let before : Lane = lane_of v in
+    let after : Lane = lane_of now in
+    let base : Base = v.base in
+    let rows : List Row = v.rows in
+    let stored : ℕ → Segments = v.stored in
+    let completions : ℕ → ℕ → Completions = v.completions in
+    let pullings : ℕ → ℕ → Pulling = v.pullings in
+    let records : ℕ → List Held = v.records in
+    let live : ℕ → Bool = v.live in
+    let handed : NumberMap Handed = v.handed in
+    let journal : List Placed = v.journal in
+    let wire : NumberMap Message = v.wire in
+    let table : ℕ = call.table in
+    let key : List ℕ = call.key in
+    let served : IsServedIn v master call = may.served in
+    let item : Held = item_of call (v.handovers master served.row.tablet).counter value in
+    let old : ReceivesOf v = sound.receives in
+    let placed : RowsOf v = sound.rows in
+    let held : LogsOf v = sound.logs in
+    let counters : CountersOf v (truths v) (rests v) = sound.counters in
+    let terms : TermsOf v = sound.terms in
+    let roles : RolesOf v = sound.roles in
+    let stages = stages v master call value sound may in
+    let done : FirstIsDone v.written served.row.range (lineage_of served.row.phase) =
+    All-contains (λ row. FirstIsDone v.written row.range (lineage_of row.phase)) v.rows served.row sound.rest.done served.has_row in
     let low = counter_low base rows (truth_of base before.written) before.rests before.written before.handovers live handed journal wire master table key counters served in
     let fits : (before.written master).applied ≤ length (before.written master).entries =
     applied_within (before.logs master) (before.written master) (stored_of stored master) (held.each master) in

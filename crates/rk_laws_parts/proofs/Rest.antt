@@ -1,6 +1,6 @@
 -- Laws of the part Rest: what a frozen tablet and a staged write keep of it.
-use Rattle.std.proofs.Common.{◌≡◌, ℕ, ◌≤◌, Bool, true, false, List, ◌++◌, length, Option, Some, refl, sym, ap, ◌∙◌, subst, ⊎_elim, inl}
-use Rattle.std.specs.Prelude.{slice_index_or, drop}
+use Rattle.std.proofs.Common.{◌≡◌, ℕ, ◌≤◌, Bool, true, false, List, ◌++◌, length, Option, refl, sym, ap, ◌∙◌, subst, ⊎_elim, inl}
+use Rattle.std.specs.Prelude.{slice_index_or, drop, Option, Bool}
 use Rattle.std.specs.List.{Contains, list_any}
 use Rattle.std.proofs.lemmas.Bool.{false≢true}
 use Rattle.std.proofs.lemmas.List.Elements.{All-contains, Contains-get_or}
@@ -10,7 +10,6 @@ use Rattle.rk_types.specs.declared.held.Held.{Held}
 use Rattle.rk_types.specs.declared.history.Placed.{Placed}
 use Rattle.rk_types.specs.declared.range.Range.{Range}
 use Rattle.rk_outside.specs.Segments.{Segments}
-use Rattle.rk_model.specs.Machine.{change_of}
 use Rattle.rk_entry.specs.declared.entry.Entry.{Entry}
 use Rattle.rk_entry.specs.declared.entry.Entry.TheVariants as entries
 use Rattle.rk_transfer.specs.declared.handover.Handover.{Handover}
@@ -20,8 +19,7 @@ use Rattle.rk_message.specs.declared.message.Message.{Message}
 use Rattle.rk_world.specs.Ranges.{has_key}
 use Rattle.rk_world.specs.Marks.{is_marked}
 use Rattle.rk_world.specs.Lineage.{is_member}
-use Rattle.rk_world.specs.Ends.{end_of_item, outcome_of}
-use Rattle.rk_world.specs.Base.{Base, map_entry_of}
+use Rattle.rk_world.specs.Base.{Base}
 use Rattle.rk_world.specs.Merge.{floor_of}
 use Rattle.rk_world.specs.RoleTests.{is_idle, may_have_staged}
 use Rattle.rk_world.specs.Master.{touches}
@@ -29,17 +27,15 @@ use Rattle.rk_world.specs.Requests.{item_of}
 use Rattle.rk_world.specs.Coordinator.{Handed}
 use Rattle.rk_world.specs.Ledger.{LastCall}
 use Rattle.rk_sound.specs.View.{View, truths, rests}
-use Rattle.rk_sound.specs.Rows.{Rows}
 use Rattle.rk_sound.specs.Posts.{post_of, bond_of, Holds, StillCounts}
 use Rattle.rk_sound.specs.Roles.{RoleFits}
-use Rattle.rk_sound.specs.Logs.{Logs, stored_of}
-use Rattle.rk_sound.specs.Counters.{Counters}
-use Rattle.rk_sound.specs.Rest.{Rest, IsRest, IsEntryOf, IsLast, IsLastAsked}
-use Rattle.rk_sound.specs.Whole.{RestOf, RolesOf}
-use Rattle.rk_sound.specs.Changes.{IsServed, MayEnd}
+use Rattle.rk_sound.specs.Logs.{stored_of}
+use Rattle.rk_sound.specs.Rest.{IsRest, IsEntryOf, IsLast, IsLastAsked}
+use Rattle.rk_sound.specs.Whole.{RestOf, RolesOf, RowsOf, LogsOf, CountersOf, SoundView}
+use Rattle.rk_sound.specs.Changes.{IsServedIn, MayStage}
 use Rattle.rk_sound.specs.Moves.{IsSettledIn, MayFreeze}
-use Rattle.rk_sound.specs.Small.{as_frozen, frozen}
-use Rattle.rk_laws_parts.proofs.Changing.{Lane, Stages}
+use Rattle.rk_sound.specs.Small.{as_frozen, frozen, staged}
+use Rattle.rk_laws_parts.proofs.Changing.{Lane}
 use Rattle.rk_laws_parts.proofs.Differs.{still_counts}
 use Rattle.rk_laws_parts.proofs.Shares.{marked_none}
 use Rattle.rk_laws_parts.proofs.Staged.{counter_low, row_cases, counted_same}
@@ -49,6 +45,7 @@ use Rattle.rk_laws_parts.proofs.Places.{behind_any}
 use Rattle.rk_laws_parts.proofs.Histories.{is_rest_staged}
 use Rattle.rk_laws_parts.proofs.Applied.{applied_within}
 use Rattle.rk_laws_parts.proofs.Waiting.{done_staged, idle_staged, waiting_staged, found_staged, unnamed_staged, asked_staged}
+use Rattle.rk_laws_parts.proofs.Staging.{lane_of, stages}
 
 -- nothing of the row of a tablet that closes is staged, where nothing of the range is that it keeps
 settled_row : (v : View) (master number : ℕ) → RolesOf v → MayFreeze v master number → (q : ℕ) (row : Row) → Contains v.rows row → q ≡ master → row.tablet ≡ number → list_any (touches row.range) (drop (v.written q).applied (v.written q).entries) ≡ false
@@ -129,18 +126,38 @@ last_asked : (asked : ℕ → Option LastCall) (journal : List Placed) (call : C
 last_asked asked journal call last same = subst (λ (o : Option LastCall). IsLast o call) (sym last.asked_is) same
 
 -- a write is staged
-pub rest_staged : (base : Base) (rows : List Row) (truths : Row → List Entry) (before after : Lane) (stored : ℕ → Segments) (live : ℕ → Bool) (handed : NumberMap Handed) (journal : List Placed) (asked : ℕ → Option LastCall) (wire : NumberMap Message) (master : ℕ) (call : Call) (value : Option (List ℕ)) → Rest base rows truths before.rests before.written before.handovers before.calls live journal asked → Rows rows before.written journal → Logs before.logs before.written stored wire → Counters base rows truths before.rests before.written before.handovers live handed journal wire → (served : IsServed rows (before.handovers master) (live master) master call.table call.key) → MayEnd base (before.rests served.row) journal asked call (outcome_of (end_of_item (before.handovers master served.row.tablet).counter value)) → change_of call.op (outcome_of (end_of_item (before.handovers master served.row.tablet).counter value)) ≡ Some (map_entry_of (item_of call (before.handovers master served.row.tablet).counter value) value) → Stages rows before after master served.row call (item_of call (before.handovers master served.row.tablet).counter value) → Rest base rows truths after.rests after.written after.handovers after.calls live journal asked
-rest_staged base rows truths before after stored live handed journal asked wire master call value old placed held counters served ends leaves stages =
+pub rest_staged : (v : View) (master : ℕ) (call : Call) (value : Option (List ℕ)) → SoundView v → (may : MayStage v master call value) → RestOf (staged v master may.served.row.tablet call value) (truths v) (rests (staged v master may.served.row.tablet call value))
+rest_staged v master call value sound may =
+    let now : View = staged v master may.served.row.tablet call value in
+    let before : Lane = lane_of v in
+    let after : Lane = lane_of now in
+    let base : Base = v.base in
+    let rows : List Row = v.rows in
+    let sure : Row → List Entry = truths v in
+    let stored : ℕ → Segments = v.stored in
+    let live : ℕ → Bool = v.live in
+    let handed : NumberMap Handed = v.handed in
+    let journal : List Placed = v.journal in
+    let asked : ℕ → Option LastCall = v.asked in
+    let wire : NumberMap Message = v.wire in
+    let old : RestOf v sure (rests v) = sound.rest in
+    let placed : RowsOf v = sound.rows in
+    let held : LogsOf v = sound.logs in
+    let counters : CountersOf v sure (rests v) = sound.counters in
+    let served : IsServedIn v master call = may.served in
+    let ends = may.ends in
+    let leaves = may.leaves in
+    let stages = stages v master call value sound may in
     let row : Row = served.row in
     let counter : ℕ = (before.handovers master row.tablet).counter in
     let item : Held = item_of call counter value in
     let own : IsEntryOf call (entries.Held item) = record { client_is = refl; seq_is = refl; table_is = refl; key_is = refl } in
-    let low : floor_of (truths row ++ before.rests row) ≤ counter =
-    counter_low base rows truths before.rests before.written before.handovers live handed journal wire master call.table call.key counters served in
-    let goes : IsRest base row.range (truths row) (after.rests row) journal asked =
-    subst (λ (list : List Entry). IsRest base row.range (truths row) list journal asked) (sym stages.rest_here)
-    (is_rest_staged base row.range (truths row) (before.rests row) journal asked call counter value
-    (All-contains (λ r. IsRest base r.range (truths r) (before.rests r) journal asked) rows row old.goes_on served.has_row)
+    let low : floor_of (sure row ++ before.rests row) ≤ counter =
+    counter_low base rows sure before.rests before.written before.handovers live handed journal wire master call.table call.key counters served in
+    let goes : IsRest base row.range (sure row) (after.rests row) journal asked =
+    subst (λ (list : List Entry). IsRest base row.range (sure row) list journal asked) (sym stages.rest_here)
+    (is_rest_staged base row.range (sure row) (before.rests row) journal asked call counter value
+    (All-contains (λ r. IsRest base r.range (sure r) (before.rests r) journal asked) rows row old.goes_on served.has_row)
     ends leaves low) in
     let fits : (before.written master).applied ≤ length (before.written master).entries =
     applied_within (before.logs master) (before.written master) (stored_of stored master) (held.each master) in
@@ -150,9 +167,9 @@ rest_staged base rows truths before after stored live handed journal asked wire 
       goes_on = λ k d within.
           let other : Row = slice_index_or rows k d in
           ⊎_elim
-          (λ (same : other ≡ row). subst (λ (r : Row). IsRest base r.range (truths r) (after.rests r) journal asked) (sym same) goes)
+          (λ (same : other ≡ row). subst (λ (r : Row). IsRest base r.range (sure r) (after.rests r) journal asked) (sym same) goes)
           (λ (apart : other.tablet ≡ row.tablet → ⊥).
-          subst (λ (list : List Entry). IsRest base other.range (truths other) list journal asked)
+          subst (λ (list : List Entry). IsRest base other.range (sure other) list journal asked)
           (sym (stages.rest_others other (Contains-get_or rows k d within) apart)) (old.goes_on k d within))
           (row_cases rows before after master row call item stages other (Contains-get_or rows k d within));
       done = done_staged rows before after master row call item served.last stages served.is_last served.here served.serves placed.formed old.done;

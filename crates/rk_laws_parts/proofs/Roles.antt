@@ -2,8 +2,6 @@
 use Rattle.std.proofs.Common.{Some, None, sym, subst, ◌∙◌}
 use Rattle.std.specs.Prelude.{◌≡◌, ℕ, Bool, true, List}
 use Rattle.std.proofs.lemmas.List.Elements.{All-weaker}
-use Rattle.rk_types.specs.declared.call.Call.{Call}
-use Rattle.rk_types.specs.declared.held.Held.{Held}
 use Rattle.rk_transfer.specs.declared.handover.Handover.{Handover}
 use Rattle.rk_tablet_map.specs.Phase.{lineage_of}
 use Rattle.rk_tablet_map.specs.declared.phase.Phase.{Phase}
@@ -13,11 +11,8 @@ use Rattle.rk_world.specs.Lineage.{is_member}
 use Rattle.rk_world.specs.Written.{Written}
 use Rattle.rk_sound.specs.Posts.{post_of, bond_of, Holds, StillCounts}
 use Rattle.rk_sound.specs.Roles.{Roles, RoleFits, KeepTerm}
-use Rattle.rk_sound.specs.Changes.{IsServed}
-use Rattle.rk_laws_parts.proofs.Changing.{Lane, Stages}
 use Rattle.rk_laws_parts.proofs.Differs.{still_counts}
 use Rattle.rk_laws_parts.proofs.Seen.{LooksAs}
-use Rattle.rk_laws_parts.proofs.Staged.{staged_looks}
 
 -- a tablet that looks as before fits its master's post as before
 role_looks : (row : Row) (master : ℕ) (old new : Handover) (applied applied' : ℕ) → LooksAs old new → applied' ≡ applied → RoleFits row master old applied → RoleFits row master new applied'
@@ -69,11 +64,3 @@ roles_looks rows handovers handovers' written written' live old looks same = rec
       rows old.at_term;
   known = λ master number lives there. old.known master number lives (sym (looks master number).role.absent ∙ there);
 }
-
--- a write is staged at a master that answers calls for its key
-pub roles_staged : (rows : List Row) (before after : Lane) (live : ℕ → Bool) (alive : Bool) (master : ℕ) (row : Row) (call : Call) (item : Held) → Roles rows before.handovers before.written live → Stages rows before after master row call item → IsServed rows (before.handovers master) alive master item.table item.key → Roles rows after.handovers after.written live
-roles_staged rows before after live alive master row call item old stages served =
-    let looks =
-    staged_looks rows before after master row call item stages
-    alive served in
-    roles_looks rows before.handovers after.handovers before.written after.written live old looks.each looks.applied

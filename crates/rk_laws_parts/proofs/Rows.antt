@@ -2,15 +2,11 @@
 use Rattle.std.proofs.Common.{arith}
 use Rattle.std.specs.Prelude.{◌≤◌, ℕ, List, length, All}
 use Rattle.std.proofs.lemmas.List.Elements.{All-weaker}
-use Rattle.rk_types.specs.declared.call.Call.{Call}
-use Rattle.rk_types.specs.declared.held.Held.{Held}
 use Rattle.rk_types.specs.declared.history.Placed.{Placed}
 use Rattle.rk_tablet_map.specs.Phase.{lineage_of}
 use Rattle.rk_tablet_map.specs.declared.row.Row.{Row}
 use Rattle.rk_world.specs.Written.{Written}
 use Rattle.rk_sound.specs.Rows.{Rows, IsPlaced}
-use Rattle.rk_laws_parts.proofs.Changing.{Lane, Stages}
-use Rattle.rk_laws_parts.proofs.Staged.{staged_grown}
 
 -- no log is shorter than before
 pub rows_grown : (rows : List Row) (written written' : ℕ → Written) (journal : List Placed) → Rows rows written journal → ((q : ℕ) → length (written q).entries ≤ length (written' q).entries) → Rows rows written' journal
@@ -25,9 +21,3 @@ rows_grown rows written written' journal old grown = record {
       rows old.placed;
   covered = old.covered;
 }
-
--- a write is staged
-pub rows_staged : (rows : List Row) (before after : Lane) (journal : List Placed) (master : ℕ) (row : Row) (call : Call) (item : Held) → Rows rows before.written journal → Stages rows before after master row call item → Rows rows after.written journal
-rows_staged rows before after journal master row call item old stages =
-    rows_grown rows before.written after.written journal old
-    (staged_grown rows before after master row call item stages)

@@ -1,18 +1,9 @@
 -- Laws of the part Tables: what a frozen tablet and a staged write keep of it.
-use Rattle.std.proofs.Common.{◌≡◌, ℕ, Bool, List, refl, sym, ap, ◌∙◌, subst}
-use Rattle.std.specs.Prelude.{slice_index_or, nat_lt}
-use Rattle.std.proofs.lemmas.Option.{IfSome_then}
-use Rattle.rk_types.specs.declared.call.Call.{Call}
-use Rattle.rk_types.specs.declared.held.Held.{Held}
-use Rattle.rk_entry.specs.declared.entry.Entry.{Entry}
+use Rattle.std.proofs.Common.{◌≡◌, ℕ, refl, ap}
+use Rattle.std.specs.Prelude.{nat_lt}
 use Rattle.rk_transfer.specs.declared.handover.Handover.{Handover}
-use Rattle.rk_tablet_map.specs.Phase.{lineage_of}
-use Rattle.rk_tablet_map.specs.declared.row.Row.{Row}
-use Rattle.rk_world.specs.Lineage.{first_of}
-use Rattle.rk_sound.specs.Posts.{Post, Owner, OpeningSource, InvitedTarget, ReadyTarget, MovingSource, MovingTarget, OnlyRebuilder, FirstRebuilder, LastRebuilder, OutsideRebuilder, FormerMember, Bystander, post_of}
-use Rattle.rk_sound.specs.Tables.{Tables, IsTableOf, has_all_items}
-use Rattle.rk_laws_parts.proofs.Changing.{Lane, Stages}
-use Rattle.rk_laws_parts.proofs.Staged.{counted_same}
+use Rattle.rk_sound.specs.Posts.{Post, Owner, OpeningSource, InvitedTarget, ReadyTarget, MovingSource, MovingTarget, OnlyRebuilder, FirstRebuilder, LastRebuilder, OutsideRebuilder, FormerMember, Bystander}
+use Rattle.rk_sound.specs.Tables.{has_all_items}
 
 -- whether a table has all of a tablet is seen from its post and its term
 pub all_items_same : (post : Post) (a b : Handover) (term : ℕ) → a.term ≡ b.term → has_all_items post a term ≡ has_all_items post b term
@@ -28,17 +19,3 @@ all_items_same (LastRebuilder place) a b term same = refl
 all_items_same OutsideRebuilder a b term same = refl
 all_items_same FormerMember a b term same = refl
 all_items_same Bystander a b term same = refl
-
--- a write is staged
-pub tables_staged : (rows : List Row) (before after : Lane) (records : ℕ → List Held) (live : ℕ → Bool) (master : ℕ) (row : Row) (call : Call) (item : Held) → Tables rows before.written before.handovers records live → Stages rows before after master row call item → Tables rows after.written after.handovers records live
-tables_staged rows before after records live master row call item old stages = record {
-  ordered = old.ordered;
-  items = λ q lives k d within has.
-      let other : Row = slice_index_or rows k d in
-      let same : (after.handovers q other.tablet).term ≡ (before.handovers q other.tablet).term =
-      counted_same rows before after master row call item stages (λ (handover : Handover). handover.term) (λ tablet. refl) q other.tablet in
-      IfSome_then (first_of (lineage_of other.phase))
-      (old.items q lives k d within
-      (sym (all_items_same (post_of other.phase q) (after.handovers q other.tablet) (before.handovers q other.tablet) other.term same) ∙ has))
-      (λ member table. subst (λ (list : List Entry). IsTableOf other.range list (records q)) (sym (stages.truth_same other.range member)) table);
-}

@@ -1,20 +1,15 @@
 -- Laws of the part Terms: what a message that is sent, and a tablet that looks the same, keep of it.
-use Rattle.std.proofs.Common.{sym, ap, subst, ◌∙◌, Bool}
+use Rattle.std.proofs.Common.{sym, ap, subst, ◌∙◌}
 use Rattle.std.specs.Prelude.{◌≤◌, ◌<◌, ℕ, List}
 use Rattle.std.proofs.lemmas.List.Elements.{All-weaker}
 use Rattle.rk_types.specs.NumberMap.{NumberMap}
 use Rattle.rk_types.specs.Range.{meets}
-use Rattle.rk_types.specs.declared.call.Call.{Call}
-use Rattle.rk_types.specs.declared.held.Held.{Held}
 use Rattle.rk_types.specs.declared.range.Range.{Range}
 use Rattle.rk_transfer.specs.declared.handover.Handover.{Handover}
 use Rattle.rk_tablet_map.specs.declared.row.Row.{Row}
 use Rattle.rk_message.specs.declared.message.Message.{Message}
 use Rattle.rk_sound.specs.Terms.{Terms, HandoverFits}
-use Rattle.rk_sound.specs.Changes.{IsServed}
-use Rattle.rk_laws_parts.proofs.Changing.{Lane, Stages}
 use Rattle.rk_laws_parts.proofs.Seen.{LooksAs}
-use Rattle.rk_laws_parts.proofs.Staged.{staged_looks}
 
 -- a tablet that looks as before fits beside a row as before
 handover_looks : (row : Row) (number : ℕ) (old new : Handover) → LooksAs old new → HandoverFits row number old → HandoverFits row number new
@@ -39,9 +34,3 @@ terms_looks rows handovers handovers' wire old looks = record {
       ∙ old.apart master a b other (sym (looks master a).role.absent ∙ a_there) (sym (looks master b).role.absent ∙ b_there);
   sent = old.sent;
 }
-
--- a write is staged at a master that answers calls for its key
-pub terms_staged : (rows : List Row) (before after : Lane) (wire : NumberMap Message) (alive : Bool) (master : ℕ) (row : Row) (call : Call) (item : Held) → Terms rows before.handovers wire → Stages rows before after master row call item → IsServed rows (before.handovers master) alive master item.table item.key → Terms rows after.handovers wire
-terms_staged rows before after wire alive master row call item old stages served =
-    terms_looks rows before.handovers after.handovers wire old
-    (staged_looks rows before after master row call item stages alive served).each

@@ -11,8 +11,8 @@ ghost use Rattle.rk_types.specs.declared.lineage.Member.{Member};
 ghost use Rattle.rk_types.specs.Range.{meets};
 ghost use Rattle.rk_sound.specs.Logs.{stored_of};
 ghost use Rattle.rk_sound.specs.Changes.{MayCome, MaySave, MaySend, MayStage};
-ghost use Rattle.rk_sound.specs.Moves.{MayFreeze, MayPass, MayResolve};
-ghost use Rattle.rk_sound.specs.Small.{batch_asked_in, client_come, hash_wanted_in, hashes_resolved_in, token_passed_in, write_staged_in, message_forgotten, message_sent, request_saved, tablet_frozen_in};
+ghost use Rattle.rk_sound.specs.Moves.{MayFreeze, MayNote, MayPass, MayResolve};
+ghost use Rattle.rk_sound.specs.Small.{batch_asked_in, client_come, hash_wanted_in, hashes_resolved_in, token_passed_in, write_staged_in, message_forgotten, message_sent, request_saved, tablet_frozen_in, place_noted_in};
 ghost use Rattle.rk_sound.specs.View.{view};
 ghost use Rattle.rk_sound.specs.Whole.{IsSound};
 ghost use Rattle.rk_world.specs.World.{World, backup_at, tablet_in, lives, log_in, new_world, written_in};
@@ -24,8 +24,8 @@ pub fn new_lanes_are_sound()
 {}
 
 /// A sound lane stays sound when a message is sent or forgotten, when a client comes, when a request is saved that may be
-/// sent again, when a write is staged, and when a tablet freezes, wherever the condition of the change holds; forgetting
-/// has none.
+/// sent again, when a write is staged, when a tablet freezes, and when the place of a target is noted, wherever the condition
+/// of the change holds; forgetting has none.
 pub fn small_changes_keep_lanes_sound()
     ensures sent { (w : World) (message : Message) → IsSound w → MaySend (view w) message → IsSound (message_sent w message) }
     ensures forgotten { (w : World) (number : ℕ) → IsSound w → IsSound (message_forgotten w number) }
@@ -37,6 +37,9 @@ pub fn small_changes_keep_lanes_sound()
         → IsSound (write_staged_in w master may.served.row.tablet call value) }
     ensures frozen { (w : World) (master tablet : ℕ)
         → IsSound w → MayFreeze (view w) master tablet → IsSound (tablet_frozen_in w master tablet) }
+    ensures noted { (w : World) (row : Row) (source sfrom target place : ℕ)
+        → IsSound w → MayNote (view w) row source sfrom target place
+        → IsSound (place_noted_in w row source sfrom target place) }
 {}
 
 /// A sound lane stays sound when a hash is wanted first, when a batch of the wanted ones is asked for, when hashes are resolved,

@@ -1,6 +1,6 @@
 -- Small changes of the world that the first laws are about, and what they make of a view. A change of a view has the name of the
 -- change of the world, and its condition stands in `Changes` or `Moves`.
-use Rattle.std.specs.Prelude.{◌==◌, ℕ, ◌+◌, if◌then◌else◌, List, [], ◌∷◌, ◌++◌, length, Option}
+use Rattle.std.specs.Prelude.{◌==◌, ℕ, ◌+◌, if◌then◌else◌, List, [], ◌∷◌, ◌++◌, length, Option, Some}
 use Rattle.rk_types.specs.NumberMap.{insert, remove}
 use Rattle.rk_types.specs.declared.call.Call.{Call}
 use Rattle.rk_types.specs.declared.held.Token.{Token}
@@ -9,6 +9,9 @@ use Rattle.rk_entry.specs.declared.entry.Entry.TheVariants as entries
 use Rattle.rk_log.specs.Log.{with_entry}
 use Rattle.rk_transfer.specs.declared.handover.Handover.{Handover}
 use Rattle.rk_transfer.specs.declared.role.Role.TheVariants as roles
+use Rattle.rk_tablet_map.specs.Rows.{replaced}
+use Rattle.rk_tablet_map.specs.declared.phase.Phase.TheVariants.{Opening}
+use Rattle.rk_tablet_map.specs.declared.row.Row.{Row}
 use Rattle.rk_priority.specs.Hashes.{Hashes, batched, got, wanting}
 use Rattle.rk_message.specs.Wire.{without_message, with_message}
 use Rattle.rk_message.specs.declared.message.Message.{Message}
@@ -17,9 +20,10 @@ use Rattle.rk_world.specs.Master.{with_tablet}
 use Rattle.rk_world.specs.Requests.{hash_wanted, item_of, write_staged}
 use Rattle.rk_world.specs.Pulls.{hashes_resolved, token_passed}
 use Rattle.rk_world.specs.MasterTurn.{batch_asked}
+use Rattle.rk_world.specs.CoordinatorStep.{place_noted}
 use Rattle.rk_world.specs.Ledger.{with_client, with_request}
 use Rattle.rk_world.specs.Written.{Written}
-use Rattle.rk_world.specs.World.{World, master_at, tablet_in, with_master, with_ledger, with_wire}
+use Rattle.rk_world.specs.World.{World, master_at, tablet_in, with_master, with_coordinator, with_ledger, with_wire}
 use Rattle.rk_sound.specs.View.{View}
 
 -- what is kept for each number, where this is kept for one of them now
@@ -131,3 +135,18 @@ passing next = gone_on (λ p. next) (λ p. p.batches + 1) (λ p. p.hashes)
 
 abbrev pub token_passed_in : World → ℕ → ℕ → Token → World
 token_passed_in w master tablet next = with_master w master (token_passed (master_at w master) tablet next)
+
+-- ---- rows
+
+-- a row is turned into another one of its number and range
+abbrev pub turned : View → Row → View
+turned v row = record v { rows = replaced row.tablet row v.rows }
+
+-- the row that opens, once the place of its target is noted
+abbrev pub with_place : Row → ℕ → ℕ → ℕ → ℕ → Row
+with_place row source sfrom target place = record row { phase = Opening source sfrom target (Some place) }
+
+-- the place of a target is noted
+abbrev pub place_noted_in : World → Row → ℕ → ℕ → ℕ → ℕ → World
+place_noted_in w row source sfrom target place =
+    with_coordinator w (place_noted w.coordinator row source sfrom target place)

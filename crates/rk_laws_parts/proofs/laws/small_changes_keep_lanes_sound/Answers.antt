@@ -4,6 +4,7 @@ use Rattle.rk_laws_parts.proofs.Come.{sound_come}
 use Rattle.rk_laws_parts.proofs.Saved.{sound_saved}
 use Rattle.rk_laws_parts.proofs.WriteStaged.{sound_staged}
 use Rattle.rk_laws_parts.proofs.Frozen.{sound_frozen}
+use Rattle.rk_laws_parts.proofs.PlaceNoted.{sound_noted}
 use Rattle.rk_laws_parts.proofs.laws.small_changes_keep_lanes_sound.Goals as goal
 
 pub returns-clause-sent : goal.returns-clause-sent
@@ -23,3 +24,6 @@ returns-clause-staged c = sound_staged
 
 pub returns-clause-frozen : goal.returns-clause-frozen
 returns-clause-frozen c = λ w master tablet sound may. sound_frozen w master tablet sound may
+
+pub returns-clause-noted : goal.returns-clause-noted
+returns-clause-noted c = sound_noted
