@@ -1,8 +1,8 @@
 -- How much a master sends and serves when it takes a message or its turn: for a request one message and one call, for what a backup tells
 -- no more than its log has entries, and on its turn one message for each backup and two for each tablet.
-use Rattle.std.proofs.Common.{◌≡◌, ◌≤◌, ◌<◌, ◌+◌, ◌*◌, ◌^◌, ℕ, Bool, true, false, cond, T, nat_lt, All, List, [], ◌∷◌, ◌++◌, length, take, Option, None, Some, flat_map, refl, sym, ap, ◌∙◌, length-append, arith}
+use Rattle.std.proofs.Common.{◌≡◌, ◌≤◌, ◌<◌, ◌+◌, ◌*◌, ℕ, Bool, true, false, cond, T, nat_lt, All, List, [], ◌∷◌, length, take, Option, None, Some, flat_map, refl, ap, length-append, arith}
 use Rattle.std.specs.FinMap.Entries.{below_all}
-use Rattle.std.specs.List.{AllByRecursion, range_with_len}
+use Rattle.std.specs.List.{range_with_len}
 use Rattle.std.specs.Ordering.{is_lt, nat_cmp}
 use Rattle.std.proofs.lemmas.List.{length-drop, length-take}
 use Rattle.std.proofs.lemmas.List.Elements.{All-cons, All-head, All-nil, All-tail, All-weaker, All-from_recursion}
@@ -15,7 +15,6 @@ use Rattle.rk_log.specs.Log.{committed, pending}
 use Rattle.rk_log.specs.Piece.{PlacedBytes}
 use Rattle.rk_log.specs.declared.overreach.Overreach.{Overreach}
 use Rattle.rk_message.specs.declared.calls.Request.{Request}
-use Rattle.rk_message.specs.declared.message.Message.{Message}
 use Rattle.rk_message.specs.declared.replication.Stored.{Stored}
 use Rattle.rk_tablet_map.specs.Rows.{IsTabletMap, Precedes}
 use Rattle.rk_tablet_map.specs.declared.row.Row.{Row}

@@ -46,3 +46,6 @@ pub mod New
 pub mod MoreCounters
 pub mod RebuildCounters
 pub mod FewWorks
+pub mod StepsFew
+pub mod RoomEvents
+pub mod RoomRuns

@@ -1,23 +1,17 @@
 -- How far the counters of a master's tablets rise when it takes a message, and how much it sends and serves then: of any message but a
 -- backup's Stored at most one message and one call. A Grant's floor and a merge's floor are at most one above the greatest number.
-use Rattle.std.proofs.Common.{◌≡◌, ◌≤◌, ◌+◌, ◌==◌, ◌&&◌, ◌%◌, ℕ, Bool, true, false, cond, not, nat_lt, All, List, [], ◌∷◌, ◌++◌, length, map, fold, max, Option, None, Some, IfSome, refl, subst, sym, arith}
+use Rattle.std.proofs.Common.{◌≡◌, ◌≤◌, ◌==◌, ◌&&◌, ◌%◌, ℕ, Bool, true, false, cond, not, nat_lt, List, [], ◌∷◌, length, fold, Option, None, Some, refl, subst, arith}
 use Rattle.std.proofs.lemmas.Bool.{cond_both}
-use Rattle.std.specs.List.{flat_map}
-use Rattle.std.proofs.lemmas.List.Elements.{All-head, All-map, All-tail, All-weaker}
+use Rattle.std.proofs.lemmas.List.Elements.{All-map, All-weaker}
 use Rattle.rk_types.specs.declared.held.Held.{Held}
-use Rattle.rk_types.specs.declared.held.Token.{Token}
 use Rattle.rk_types.specs.declared.range.Range.{Range}
 use Rattle.rk_types.specs.Range.{meets}
-use Rattle.rk_entry.specs.declared.entry.Entry.{Entry}
-use Rattle.rk_entry.specs.declared.entry.Entry.TheVariants as entries
-use Rattle.rk_transfer.specs.Handover.{begun, carried, closed, frozen, granted, in_role, joined, owned, prepared, rebuilt, released, role_carried, role_closed, role_frozen, role_granted, role_joined, role_owned, role_released}
+use Rattle.rk_transfer.specs.Handover.{begun, closed, frozen, granted, in_role, joined, owned, prepared, released, role_closed, role_frozen, role_granted, role_joined, role_owned, role_released}
 use Rattle.rk_transfer.specs.declared.handover.Handover.{Handover}
 use Rattle.rk_transfer.specs.declared.role.Role.{Role}
 use Rattle.rk_transfer.specs.declared.role.Role.TheVariants as roles
 use Rattle.rk_world.specs.Handovers as handovers
-use Rattle.rk_world.specs.Limits.{IsFormedEntry, Limits}
-use Rattle.rk_world.specs.Master.{Master, tablet_at, with_tablet, with_item, with_side_segment, with_all, with_appended, without_items}
-use Rattle.rk_world.specs.Merge.{floor_by, floor_of}
+use Rattle.rk_world.specs.Master.{Master, tablet_at, with_tablet, with_item, with_side_segment, with_appended, without_items}
 use Rattle.rk_world.specs.Pulls as pulls
 use Rattle.rk_world.specs.RoleTests.{is_frozen_at}
 use Rattle.rk_world.specs.Tablet.{Pulling, Tablet}
@@ -34,7 +28,7 @@ use Rattle.rk_message.specs.declared.pulling.Want.{Want}
 use Rattle.rk_world.specs.Waiting.{closing_entry, freezing}
 use Rattle.rk_world.specs.Worked.{Worked, changed, sending}
 use Rattle.rk_message.specs.declared.message.Message.{Message}
-use Rattle.rk_laws_formed.proofs.Counters.{CountersWithin, counter_within, counters_from_counts, counters_with_tablet, counts_from_counters, test_counters}
+use Rattle.rk_laws_formed.proofs.Counters.{CountersWithin, counter_within, counters_from_counts, counters_with_tablet, counts_from_counters}
 use Rattle.rk_laws_formed.proofs.Ledgers.{kept_by_fold}
 use Rattle.rk_laws_formed.proofs.Waiting.{EachMoved}
 

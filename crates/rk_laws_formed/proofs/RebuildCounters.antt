@@ -1,22 +1,20 @@
 -- How far the counters of a master's tablets rise when a rebuild begins or goes on: what a merge hands over is at most one above the
 -- greatest number of the entries that it reads.
-use Rattle.std.proofs.Common.{◌≤◌, ◌+◌, ℕ, All, List, [], ◌∷◌, fold, length, max, Option, None, Some, refl, subst, sym, arith}
+use Rattle.std.proofs.Common.{◌≤◌, ◌+◌, ℕ, All, List, [], ◌∷◌, fold, length, Option, None, Some, refl, subst, sym, arith}
 use Rattle.std.specs.Int.{w64}
 use Rattle.std.specs.Prelude.{◌==◌, ◌&&◌}
-use Rattle.std.specs.List.{flat_map}
 use Rattle.std.proofs.lemmas.List.Elements.{All-head, All-tail}
 use Rattle.rk_types.specs.declared.lineage.Member.{Member}
 use Rattle.rk_types.specs.declared.range.Range.{Range}
 use Rattle.rk_entry.specs.Numbers.{IsNumber}
 use Rattle.rk_entry.specs.declared.entry.Entry.{Entry}
 use Rattle.rk_entry.specs.declared.entry.Entry.TheVariants as entries
-use Rattle.rk_transfer.specs.Handover.{carried, in_role, rebuilt, role_carried}
+use Rattle.rk_transfer.specs.Handover.{carried, in_role, role_carried}
 use Rattle.rk_transfer.specs.declared.handover.Handover.{Handover}
 use Rattle.rk_transfer.specs.declared.role.Role.TheVariants as roles
 use Rattle.rk_message.specs.declared.rebuilding.CopySegment.{CopySegment}
 use Rattle.rk_message.specs.declared.rebuilding.Rebuild.{Rebuild}
 use Rattle.rk_world.specs.declared.work.Merged.{Merged}
-use Rattle.rk_world.specs.declared.work.Reading.{Reading}
 use Rattle.rk_world.specs.Formed.{IsFormedGathered, IsFormedMaster}
 use Rattle.rk_world.specs.Gather.{by_member, is_awaited, next_reading}
 use Rattle.rk_world.specs.Handovers.{is_greater, with_others_given_up}
@@ -28,7 +26,6 @@ use Rattle.rk_world.specs.Merge.{floor_by, floor_of, merge}
 use Rattle.rk_world.specs.Rebuilds as rebuilds
 use Rattle.rk_world.specs.RoleTests.{is_gathering}
 use Rattle.rk_world.specs.Tablet.{Tablet}
-use Rattle.rk_world.specs.Worked.{changed}
 use Rattle.rk_laws_formed.proofs.Counters.{CountersWithin, counter_within, counters_with_tablet}
 use Rattle.rk_laws_formed.proofs.Ledgers.{kept_by_fold}
 use Rattle.rk_laws_formed.proofs.Lists.{all_flat}
