@@ -43,3 +43,9 @@ pub mod Rooms
 pub mod Happenings
 pub mod Whole
 pub mod New
+pub mod MoreCounters
+pub mod RebuildCounters
+pub mod FewWorks
+pub mod StepsFew
+pub mod RoomEvents
+pub mod RoomRuns

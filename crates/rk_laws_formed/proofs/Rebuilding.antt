@@ -241,7 +241,7 @@ module _ (limits : Limits) (number : ℕ) (master : Master) (rebuild : Rebuild) 
       (foreign_formed limits number master rebuild.range own formed)
 
   -- a master that begins
-  begins : IsFormedRebuild limits rebuild → IsNumber w64 0 (length master.log.entries) → IsFormedMaster limits number master
+  pub begins : IsFormedRebuild limits rebuild → IsNumber w64 0 (length master.log.entries) → IsFormedMaster limits number master
       → IsFormedMaster limits number (rebuilds.rebuild_begun master rebuild)
   begins told place formed =
       go (rebuilt (tablet_at now id).handover rebuild.tenure.term rebuild.range (rebuilds.begun_from master own))
@@ -363,7 +363,7 @@ segment_formed limits gathered segment bytes spelled formed =
     }
     go false is = main bytes is spelled
 
-read_formed : (limits : Limits) (members : List Gathered) (master segment : ℕ) (bytes : Option (List ℕ)) → All (IsFormedEntry limits) (entries_of (bytes_of bytes)) → All (IsFormedGathered limits) members → All (IsFormedGathered limits) (with_read members master segment bytes)
+pub read_formed : (limits : Limits) (members : List Gathered) (master segment : ℕ) (bytes : Option (List ℕ)) → All (IsFormedEntry limits) (entries_of (bytes_of bytes)) → All (IsFormedGathered limits) members → All (IsFormedGathered limits) (with_read members master segment bytes)
 read_formed limits members master segment bytes spelled all =
     All-map (IsFormedGathered limits) (λ gathered. if gathered.member.master == master then with_segment gathered segment bytes else gathered) members
     (All-weaker (IsFormedGathered limits) (λ gathered. IsFormedGathered limits (if gathered.member.master == master then with_segment gathered segment bytes else gathered))

@@ -42,7 +42,8 @@ entries_few master = omega (arith, count_spelled master.log.entries, bytes_spell
 pub side_bytes : (master : Master) → sum_by (λ (b : List ℕ). length b) master.log.sides ≤ log_bytes master
 side_bytes master = omega arith
 
-below_fits : (count bytes : ℕ) → count ≤ bytes → bytes < 2 ^ 30 → IsNumber w64 0 count
+-- fewer than this can be spelled
+pub below_fits : (count bytes : ℕ) → count ≤ bytes → bytes < 2 ^ 30 → IsNumber w64 0 count
 below_fits count bytes few room = record { least_is = omega arith; fits = omega arith }
 
 -- so each place of its log can be spelled

@@ -1,0 +1,55 @@
+-- The numbers of a lane fit in every calm run: there only the bytes of logs and what each master has are left to be bounded.
+use Rattle.std.proofs.Common.{◌≡◌, ◌<◌, List, [], ◌∷◌, Option, None, Some, refl}
+use Rattle.rk_types.specs.NumberMap.{EachIn}
+use Rattle.rk_world.specs.declared.error.StepError.{StepError}
+use Rattle.rk_world.specs.Formed.{IsWellFormed}
+use Rattle.rk_world.specs.Refusals.{refusal}
+use Rattle.rk_world.specs.Room.{HasRoom, HasRoomIn, MOST_BYTES, MOST_NUMBER}
+use Rattle.rk_world.specs.Runs.{Accepts, Asks, Happening, Happens, IsCalm, IsCalmHappening, MayAllOccur, MayOccur, after, run, world_stepped}
+use Rattle.rk_world.specs.Step.{stepped_by}
+use Rattle.rk_world.specs.World.{World, bytes_of_logs}
+use Rattle.rk_laws_formed.proofs.Happenings.{formed_accepts, formed_asks}
+use Rattle.rk_laws_formed.proofs.RoomEvents.{room_event}
+use Rattle.rk_laws_formed.proofs.Whole.{AllHaveRoom, formed_after, formed_run}
+
+-- what is left to say of a lane with room once its numbers fit: how many bytes its logs have, and what each master has
+pub record LogsFit (w : World) : Type 0 where
+  pub bytes : bytes_of_logs w < MOST_BYTES
+  pub masters : EachIn (λ number master. HasRoomIn master) w.masters
+
+-- it is said of each world of a run
+abbrev pub AllLogsFit : World → List Happening → Type 0
+AllLogsFit w [] = LogsFit w
+AllLogsFit w (happening ∷ later) = LogsFit w × AllLogsFit (after w happening) later
+
+first_logs_fit : (w : World) (list : List Happening) → AllLogsFit w list → LogsFit w
+first_logs_fit w [] fits = fits
+first_logs_fit w (happening ∷ later) fits = fits.0
+
+with_number : (w : World) → w.top < MOST_NUMBER → LogsFit w → HasRoom w
+with_number w number fits = record { number = number; bytes = fits.bytes; masters = fits.masters }
+
+-- whatever happens, the numbers of a lane fit after it
+pub number_after : (w : World) (happening : Happening) → MayOccur w happening → IsCalmHappening w happening → IsWellFormed w → HasRoom w → (after w happening).top < MOST_NUMBER
+number_after w (Happens event called) may calm formed room = go (refusal w event) refl
+  where
+    go : (refused : Option StepError) → refusal w event ≡ refused → (world_stepped w (stepped_by w event called refused)).top < MOST_NUMBER
+    go None none = room_event w event called may.0 may.1 calm none formed room
+    go (Some error) none = room.number
+number_after w (Asks session) may calm formed room = (formed_asks w session may (record { formed = formed; room = room })).room.number
+number_after w (Accepts number session) may calm formed room =
+    (formed_accepts w number session may (record { formed = formed; room = room })).room.number
+
+-- each world of a calm run has room where its logs fit
+pub room_run : (w : World) (list : List Happening) → MayAllOccur w list → IsCalm w list → IsWellFormed w → w.top < MOST_NUMBER → AllLogsFit w list → AllHaveRoom w list
+room_run w [] may calm formed number fits = with_number w number fits
+room_run w (happening ∷ later) may calm formed number fits =
+    let room = with_number w number fits.0 in
+    let number_left = number_after w happening may.0 calm.0 formed room in
+    let room_left = with_number (after w happening) number_left (first_logs_fit (after w happening) later fits.1) in
+    (room, room_run (after w happening) later may.1 calm.1 (formed_after w happening may.0 calm.0 room room_left formed) number_left fits.1)
+
+-- so a lane stays well formed in every calm run whose logs fit
+pub formed_run_fitting : (w : World) (list : List Happening) → MayAllOccur w list → IsCalm w list → w.top < MOST_NUMBER → AllLogsFit w list → IsWellFormed w → IsWellFormed (run w list)
+formed_run_fitting w list may calm number fits formed =
+    formed_run w list may calm (room_run w list may calm formed number fits) formed
