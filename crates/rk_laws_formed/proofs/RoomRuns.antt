@@ -1,26 +1,16 @@
 -- The numbers of a lane fit in every calm run: there only the bytes of logs and what each master has are left to be bounded.
 use Rattle.std.proofs.Common.{◌≡◌, ◌<◌, List, [], ◌∷◌, Option, None, Some, refl}
-use Rattle.rk_types.specs.NumberMap.{EachIn}
 use Rattle.rk_world.specs.declared.error.StepError.{StepError}
 use Rattle.rk_world.specs.Formed.{IsWellFormed}
 use Rattle.rk_world.specs.Refusals.{refusal}
-use Rattle.rk_world.specs.Room.{HasRoom, HasRoomIn, MOST_BYTES, MOST_NUMBER}
+use Rattle.rk_world.specs.Room.{HasRoom, MOST_NUMBER}
 use Rattle.rk_world.specs.Runs.{Accepts, Asks, Happening, Happens, IsCalm, IsCalmHappening, MayAllOccur, MayOccur, after, run, world_stepped}
 use Rattle.rk_world.specs.Step.{stepped_by}
-use Rattle.rk_world.specs.World.{World, bytes_of_logs}
+use Rattle.rk_world.specs.World.{World}
+use Rattle.rk_laws_formed.specs.Fitting.{AllLogsFit, LogsFit}
 use Rattle.rk_laws_formed.proofs.Happenings.{formed_accepts, formed_asks}
 use Rattle.rk_laws_formed.proofs.RoomEvents.{room_event}
 use Rattle.rk_laws_formed.proofs.Whole.{AllHaveRoom, formed_after, formed_run}
-
--- what is left to say of a lane with room once its numbers fit: how many bytes its logs have, and what each master has
-pub record LogsFit (w : World) : Type 0 where
-  pub bytes : bytes_of_logs w < MOST_BYTES
-  pub masters : EachIn (λ number master. HasRoomIn master) w.masters
-
--- it is said of each world of a run
-abbrev pub AllLogsFit : World → List Happening → Type 0
-AllLogsFit w [] = LogsFit w
-AllLogsFit w (happening ∷ later) = LogsFit w × AllLogsFit (after w happening) later
 
 first_logs_fit : (w : World) (list : List Happening) → AllLogsFit w list → LogsFit w
 first_logs_fit w [] fits = fits

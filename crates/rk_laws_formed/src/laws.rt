@@ -1,5 +1,5 @@
 // The headline laws of well formed lanes. Each function does nothing: its contract is the law.
-ghost use Rattle.std.specs.Prelude.{◌≡◌, ◌≤◌, ℕ, IfSome, List, None, Ok};
+ghost use Rattle.std.specs.Prelude.{◌≡◌, ◌<◌, ◌≤◌, ℕ, IfSome, List, None, Ok};
 ghost use Rattle.std.specs.Int.{w32};
 ghost use Rattle.rk_entry.specs.Numbers.{IsNumber};
 ghost use Rattle.rk_log.specs.declared.copied.TheConstants.{MOST_BACKUPS};
@@ -11,11 +11,12 @@ ghost use Rattle.rk_world.specs.Client.{Session, busy, new_session, next_call, s
 ghost use Rattle.rk_world.specs.Formed.{IsWellFormed};
 ghost use Rattle.rk_world.specs.Premises.{IsAfterStart, IsLawfulCall, MOST_MASTERS, MayAct, MayCome, MayHappen};
 ghost use Rattle.rk_world.specs.Refusals.{refusal};
-ghost use Rattle.rk_world.specs.Room.{HasRoom};
+ghost use Rattle.rk_world.specs.Room.{HasRoom, MOST_NUMBER};
 ghost use Rattle.rk_world.specs.Runs.{AllHaveRoom, Happening, IsCalm, IsCalmEvent, IsFormedWithRoom, MayAllOccur, run};
 ghost use Rattle.rk_world.specs.Runs as runs;
 ghost use Rattle.rk_world.specs.Step.{happened};
 ghost use Rattle.rk_world.specs.World.{World, new_world};
+ghost use Rattle.rk_laws_formed.specs.Fitting.{AllLogsFit};
 
 /// A lane where nothing has happened is well formed, with at most eight masters and one to four backups.
 pub fn new_lanes_are_well_formed()
@@ -24,8 +25,11 @@ pub fn new_lanes_are_well_formed()
 {}
 
 /// A well formed lane stays so at each event that may happen there, is not refused and leaves another master alive, where the
-/// numbers of the lane fit before and after it.
+/// lane has room before and after it. The greatest number fits by itself then.
 pub fn events_keep_lanes_well_formed()
+    ensures number { (w : World) (event : Event) (called : Called)
+        → IsWellFormed w → HasRoom w → refusal w event ≡ None → IsCalmEvent w event → MayCome called → MayHappen w event
+        → (happened w event called).world.top < MOST_NUMBER }
     ensures event { (w : World) (event : Event) (called : Called)
         → MayHappen w event → MayCome called → IsCalmEvent w event → refusal w event ≡ None
         → HasRoom w → HasRoom (happened w event called).world
@@ -56,8 +60,11 @@ pub fn sessions_may_go_on()
         → IsWellFormed w → MayAct w.coordinator.masters visited.session }
 {}
 
-/// A well formed lane stays so in every calm run whose numbers fit.
+/// A well formed lane stays so in every calm run that has room; and it has room wherever its logs fit, and what each master
+/// has, once its numbers fit at the start.
 pub fn runs_keep_lanes_well_formed()
     ensures run { (w : World) (list : List Happening)
         → MayAllOccur w list → IsCalm w list → AllHaveRoom w list → IsWellFormed w → IsWellFormed (run w list) }
+    ensures room { (w : World) (list : List Happening)
+        → IsWellFormed w → IsCalm w list → MayAllOccur w list → w.top < MOST_NUMBER → AllLogsFit w list → AllHaveRoom w list }
 {}

@@ -1,5 +1,9 @@
+use Rattle.rk_laws_formed.proofs.RoomEvents.{room_event}
 use Rattle.rk_laws_formed.proofs.Whole.{formed_event}
 use Rattle.rk_laws_formed.proofs.laws.events_keep_lanes_well_formed.Goals as goal
 
 pub returns : goal.returns
-returns c = record { event = formed_event }
+returns c = record {
+  number = λ w event called formed room none calm come may. room_event w event called may come calm none formed room;
+  event = formed_event;
+}
