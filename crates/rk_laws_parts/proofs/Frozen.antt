@@ -164,8 +164,7 @@ module _ (v : View) (master number : ℕ) (sound : SoundView v) (may : MayFreeze
     receives = receives;
     rebuilds = rebuilds;
     messages =
-        messages_looks v.rows v.logs v.logs v.written v.written v.stored v.handovers now.handovers v.completions v.merged v.live v.handed
-        v.journal v.wire sound.messages (record { each = looks; applied = λ q. refl; truths = λ range member. refl }) (λ q. refl);
+        messages_looks v v.logs v.written now.handovers (record { each = looks; applied = λ q. refl; truths = λ range member. refl }) (λ q. refl) sound.messages;
     asked = sound.asked;
   }
 

@@ -41,17 +41,18 @@ tablet_apart master number tablet other apart =
     ap (λ (o : Option Tablet). unwrap_or o no_tablet) (get_other master.tablets number tablet other apart)
 
 -- what is seen of the tablets of a world where one master keeps another one
-pub keeps_with : {X : Type 0} (f : Tablet → X) (w : World) (master number : ℕ) (changed : Master) (tablet : Tablet) → tablet_at changed number ≡ tablet → ((r : ℕ) → (r ≡ number → ⊥) → tablet_at changed r ≡ tablet_in w master r) → (q r : ℕ) → f (tablet_in (with_master w master changed) q r) ≡ put2 (λ q r. f (tablet_in w q r)) master number (f tablet) q r
-keeps_with {X} f w master number changed tablet here apart q r =
-    put2_is (λ q r. f (tablet_in w q r)) master number (f tablet) q r (f (tablet_in (with_master w master changed) q r))
-    (λ at its.
-    ap (λ (m : Master). f (tablet_at m r)) (master_same w master changed q at)
-    ∙ ap (λ (n : ℕ). f (tablet_at changed n)) its ∙ ap f here)
-    (λ differs.
-    ⊎_elim
-    (λ (at : q ≡ master).
-    ap (λ (m : Master). f (tablet_at m r)) (master_same w master changed q at)
-    ∙ ap f (apart r (λ its. differs at its))
-    ∙ ap (λ (n : ℕ). f (tablet_in w n r)) (sym at))
-    (λ (other : q ≡ master → ⊥). ap (λ (m : Master). f (tablet_at m r)) (master_other w master changed q other))
-    (cases_eq q master))
+module _ (w : World) (master number : ℕ) (changed : Master) (tablet : Tablet) (here : tablet_at changed number ≡ tablet) (apart : (r : ℕ) → (r ≡ number → ⊥) → tablet_at changed r ≡ tablet_in w master r) where
+  pub keeps_with : {X : Type 0} (f : Tablet → X) (q r : ℕ) → f (tablet_in (with_master w master changed) q r) ≡ put2 (λ q r. f (tablet_in w q r)) master number (f tablet) q r
+  keeps_with {X} f q r =
+      put2_is (λ q r. f (tablet_in w q r)) master number (f tablet) q r (f (tablet_in (with_master w master changed) q r))
+      (λ at its.
+      ap (λ (m : Master). f (tablet_at m r)) (master_same w master changed q at)
+      ∙ ap (λ (n : ℕ). f (tablet_at changed n)) its ∙ ap f here)
+      (λ differs.
+      ⊎_elim
+      (λ (at : q ≡ master).
+      ap (λ (m : Master). f (tablet_at m r)) (master_same w master changed q at)
+      ∙ ap f (apart r (λ its. differs at its))
+      ∙ ap (λ (n : ℕ). f (tablet_in w n r)) (sym at))
+      (λ (other : q ≡ master → ⊥). ap (λ (m : Master). f (tablet_at m r)) (master_other w master changed q other))
+      (cases_eq q master))

@@ -4,9 +4,8 @@ use Rattle.std.specs.Prelude.{◌≡◌, ◌≤◌, ◌<◌, ◌-◌, ℕ, Bool,
 use Rattle.std.specs.List.{flat_map}
 use Rattle.std.proofs.lemmas.List.Elements.{All-weaker}
 use Rattle.rk_types.proofs.NumberMaps.{each_weaker}
-use Rattle.rk_types.specs.NumberMap.{NumberMap, get}
+use Rattle.rk_types.specs.NumberMap.{get}
 use Rattle.rk_types.specs.declared.call.Ended.{Ended}
-use Rattle.rk_types.specs.declared.history.Placed.{Placed}
 use Rattle.rk_types.specs.declared.lineage.Member.{Member}
 use Rattle.rk_types.specs.declared.node.Node.{Node}
 use Rattle.rk_types.specs.declared.node.Node.TheVariants as nodes
@@ -29,7 +28,6 @@ use Rattle.rk_message.specs.declared.handover.Tenure.{Tenure}
 use Rattle.rk_message.specs.declared.handover.Transfer.{Transfer}
 use Rattle.rk_message.specs.declared.message.Body.{Body}
 use Rattle.rk_message.specs.declared.message.Body.TheVariants as bodies
-use Rattle.rk_message.specs.declared.message.Message.{Message}
 use Rattle.rk_message.specs.declared.pulling.Got.{Got}
 use Rattle.rk_message.specs.declared.pulling.Pulled.{Pulled}
 use Rattle.rk_message.specs.declared.rebuilding.CopySegment.{CopySegment}
@@ -42,7 +40,9 @@ use Rattle.rk_sound.specs.Posts.{post_of}
 use Rattle.rk_sound.specs.Logs.{stored_of}
 use Rattle.rk_sound.specs.Receives.{scan_items}
 use Rattle.rk_sound.specs.Rebuilds.{READ_BACKUP, IsReadPart}
-use Rattle.rk_sound.specs.Messages.{Messages, SaysOf, IfMaster, ByMaster, IsOf, IsOfTarget, PrepareFits, CloseFits, RebuildFits, OwnFits, IsOwner, ReleaseFits, ReadyIn, TransferIn, IsFrozenSource, JoinedIn, RebuiltIn, GrantAgrees, AskAgrees, IsFromSource, PulledAgrees, GotAgrees, CopyIn}
+use Rattle.rk_sound.specs.Messages.{SaysOf, IfMaster, ByMaster, IsOf, IsOfTarget, PrepareFits, CloseFits, RebuildFits, OwnFits, IsOwner, ReleaseFits, ReadyIn, TransferIn, IsFrozenSource, JoinedIn, RebuiltIn, GrantAgrees, AskAgrees, IsFromSource, PulledAgrees, GotAgrees, CopyIn}
+use Rattle.rk_sound.specs.View.{View}
+use Rattle.rk_sound.specs.Whole.{MessagesOf}
 use Rattle.rk_laws_parts.proofs.Seen.{LooksAs, AllLook}
 
 -- what is said where a node is a master, it says as well where that follows
@@ -174,102 +174,107 @@ copy_looks phase logs logs' stored live copy same says = says
 -- ---- all kinds
 
 -- what a message says of a row, it says where each tablet looks as before, and backups are known to hold as much
-says_of_looks : (row : Row) (logs logs' : ℕ → Log) (written written' : ℕ → Written) (stored : ℕ → Segments) (handovers handovers' : ℕ → ℕ → Handover) (completions : ℕ → ℕ → Completions) (merged : ℕ → ℕ → List Ended) (live : ℕ → Bool) (handed : NumberMap Handed) (from to : Node) (body : Body) → AllLook written written' handovers handovers' → ((q : ℕ) → (logs' q).known ≡ (logs q).known) → SaysOf row logs written stored handovers completions merged live handed from to body → SaysOf row logs' written' stored handovers' completions merged live handed from to body
-says_of_looks row logs logs' written written' stored handovers handovers' completions merged live handed from to (bodies.Prepare prepare) looks same says =
-    if_master to (λ m. PrepareFits row (handovers m row.tablet) (live m) m prepare)
-    (λ m. PrepareFits row (handovers' m row.tablet) (live m) m prepare)
-    (λ m. prepare_looks row (handovers m row.tablet) (handovers' m row.tablet) (live m) m prepare (looks.each m row.tablet)) says
-says_of_looks row logs logs' written written' stored handovers handovers' completions merged live handed from to (bodies.Ready ready) looks same says =
-    by_master from (λ m. IsOf row ready.tenure → ReadyIn row.phase (handovers m row.tablet) row.term m ready.place)
-    (λ m. IsOf row ready.tenure → ReadyIn row.phase (handovers' m row.tablet) row.term m ready.place)
-    (λ m told is.
-    ready_looks row.phase (handovers m row.tablet) (handovers' m row.tablet) row.term m ready.place (looks.each m row.tablet)
-    (told is)) says
-says_of_looks row logs logs' written written' stored handovers handovers' completions merged live handed from to (bodies.Close tenure) looks same says =
-    if_master to (λ m. CloseFits row (handovers m row.tablet) (live m) m tenure)
-    (λ m. CloseFits row (handovers' m row.tablet) (live m) m tenure)
-    (λ m. close_looks row (handovers m row.tablet) (handovers' m row.tablet) (live m) m tenure (looks.each m row.tablet)) says
-says_of_looks row logs logs' written written' stored handovers handovers' completions merged live handed from to (bodies.Transfer transfer) looks same says =
-    by_master from (λ m. IsOf row transfer.tenure → TransferIn row.phase (handovers m row.tablet) (completions m row.tablet) row.term m transfer)
-    (λ m. IsOf row transfer.tenure → TransferIn row.phase (handovers' m row.tablet) (completions m row.tablet) row.term m transfer)
-    (λ m told is.
-    transfer_looks row.phase (handovers m row.tablet) (handovers' m row.tablet) (completions m row.tablet) row.term m transfer (looks.each m row.tablet)
-    (told is)) says
-says_of_looks row logs logs' written written' stored handovers handovers' completions merged live handed from to (bodies.Grant grant) looks same says = (
-  says.0,
-  if_master to (λ m. GrantAgrees row (handovers m row.tablet) (live m) (get handed row.tablet) m grant)
-      (λ m. GrantAgrees row (handovers' m row.tablet) (live m) (get handed row.tablet) m grant)
-      (λ m.
-      grant_looks row (handovers m row.tablet) (handovers' m row.tablet) (live m) (get handed row.tablet) m grant
-      (looks.each m row.tablet)) says.1,
-)
-says_of_looks row logs logs' written written' stored handovers handovers' completions merged live handed from to (bodies.Pull pull) looks same says = (
-  says.0,
-  by_master from (λ m. AskAgrees row handovers (lineage_of row.phase) m to pull.tenure)
-      (λ m. AskAgrees row handovers' (lineage_of row.phase) m to pull.tenure)
-      (λ m. ask_looks row handovers handovers' (lineage_of row.phase) m to pull.tenure (looks.each m row.tablet)) says.1,
-)
-says_of_looks row logs logs' written written' stored handovers handovers' completions merged live handed from to (bodies.Pulled pulled) looks same says = (
-  says.0,
-  if_master to (λ m. PulledAgrees row written handovers live (lineage_of row.phase) from m pulled)
-      (λ m. PulledAgrees row written' handovers' live (lineage_of row.phase) from m pulled)
-      (λ m. pulled_looks row written written' handovers handovers' live (lineage_of row.phase) from m pulled looks) says.1,
-)
-says_of_looks row logs logs' written written' stored handovers handovers' completions merged live handed from to (bodies.Want want) looks same says = (
-  says.0,
-  by_master from (λ m. AskAgrees row handovers (lineage_of row.phase) m to want.tenure)
-      (λ m. AskAgrees row handovers' (lineage_of row.phase) m to want.tenure)
-      (λ m. ask_looks row handovers handovers' (lineage_of row.phase) m to want.tenure (looks.each m row.tablet)) says.1,
-)
-says_of_looks row logs logs' written written' stored handovers handovers' completions merged live handed from to (bodies.Got got) looks same says = (
-  says.0,
-  if_master to (λ m. GotAgrees row written handovers live (lineage_of row.phase) from m got)
-      (λ m. GotAgrees row written' handovers' live (lineage_of row.phase) from m got)
-      (λ m. got_looks row written written' handovers handovers' live (lineage_of row.phase) from m got looks) says.1,
-)
-says_of_looks row logs logs' written written' stored handovers handovers' completions merged live handed from to (bodies.Joined tenure) looks same says =
-    by_master from
-    (λ m. IsOf row tenure → JoinedIn row.phase (handovers m row.tablet) (written m).applied row.term m)
-    (λ m. IsOf row tenure → JoinedIn row.phase (handovers' m row.tablet) (written' m).applied row.term m)
-    (λ m told is.
-    joined_looks row.phase (handovers m row.tablet) (handovers' m row.tablet) (written m).applied (written' m).applied row.term m
-    (looks.each m row.tablet) (looks.applied m) (told is)) says
-says_of_looks row logs logs' written written' stored handovers handovers' completions merged live handed from to (bodies.Own tenure) looks same says =
-    if_master to (λ m. OwnFits row (handovers m row.tablet) (live m) m tenure)
-    (λ m. OwnFits row (handovers' m row.tablet) (live m) m tenure)
-    (λ m. own_looks row (handovers m row.tablet) (handovers' m row.tablet) (live m) m tenure (looks.each m row.tablet)) says
-says_of_looks row logs logs' written written' stored handovers handovers' completions merged live handed from to (bodies.Release tenure) looks same says =
-    if_master to (λ m. ReleaseFits row (handovers m row.tablet) (live m) m tenure)
-    (λ m. ReleaseFits row (handovers' m row.tablet) (live m) m tenure)
-    (λ m. release_looks row (handovers m row.tablet) (handovers' m row.tablet) (live m) m tenure (looks.each m row.tablet)) says
-says_of_looks row logs logs' written written' stored handovers handovers' completions merged live handed from to (bodies.Rebuild rebuild) looks same says =
-    if_master to (λ m. RebuildFits row (handovers m row.tablet) (live m) m rebuild)
-    (λ m. RebuildFits row (handovers' m row.tablet) (live m) m rebuild)
-    (λ m. rebuild_looks row (handovers m row.tablet) (handovers' m row.tablet) (live m) m rebuild (looks.each m row.tablet)) says
-says_of_looks row logs logs' written written' stored handovers handovers' completions merged live handed from to (bodies.Copy copy) looks same says = λ is.
-    copy_looks row.phase logs logs' stored live copy (same copy.master) (says is)
-says_of_looks row logs logs' written written' stored handovers handovers' completions merged live handed from to (bodies.Rebuilt rebuilt) looks same says =
-    by_master from
-    (λ m. IsOf row rebuilt.tenure
-    → RebuiltIn row.phase (handovers m row.tablet) (merged m row.tablet) (written m).applied row.term m rebuilt)
-    (λ m. IsOf row rebuilt.tenure
-    → RebuiltIn row.phase (handovers' m row.tablet) (merged m row.tablet) (written' m).applied row.term m rebuilt)
-    (λ m told is.
-    rebuilt_looks row.phase (handovers m row.tablet) (handovers' m row.tablet) (merged m row.tablet) (written m).applied (written' m).applied row.term m
-    rebuilt (looks.each m row.tablet) (looks.applied m) (told is)) says
-says_of_looks row logs logs' written written' stored handovers handovers' completions merged live handed from to body looks same says = says
+module _ (v : View) (logs' : ℕ → Log) (written' : ℕ → Written) (handovers' : ℕ → ℕ → Handover) (looks : AllLook v.written written' v.handovers handovers') (same : (q : ℕ) → (logs' q).known ≡ (v.logs q).known) where
+  abbrev SaysBefore : Row → Node → Node → Body → Type 0
+  SaysBefore row = SaysOf row v.logs v.written v.stored v.handovers v.completions v.merged v.live v.handed
 
--- each tablet looks as before, as much is applied and counts as before, and backups are known to hold as much
-pub messages_looks : (rows : List Row) (logs logs' : ℕ → Log) (written written' : ℕ → Written) (stored : ℕ → Segments) (handovers handovers' : ℕ → ℕ → Handover) (completions : ℕ → ℕ → Completions) (merged : ℕ → ℕ → List Ended) (live : ℕ → Bool) (handed : NumberMap Handed) (journal : List Placed) (wire : NumberMap Message) → Messages rows logs written stored handovers completions merged live handed journal wire → AllLook written written' handovers handovers' → ((q : ℕ) → (logs' q).known ≡ (logs q).known) → Messages rows logs' written' stored handovers' completions merged live handed journal wire
-messages_looks rows logs logs' written written' stored handovers handovers' completions merged live handed journal wire old looks same = record {
-  of_rows =
-      each_weaker (λ n m. All (λ row. SaysOf row logs written stored handovers completions merged live handed m.from m.to m.body) rows)
-      (λ n m. All (λ row. SaysOf row logs' written' stored handovers' completions merged live handed m.from m.to m.body) rows) wire
-      (λ n m.
-      All-weaker (λ row. SaysOf row logs written stored handovers completions merged live handed m.from m.to m.body)
-      (λ row. SaysOf row logs' written' stored handovers' completions merged live handed m.from m.to m.body)
-      (λ row.
-      says_of_looks row logs logs' written written' stored handovers handovers' completions merged live handed m.from m.to m.body looks same) rows)
-      old.of_rows;
-  others = old.others;
-}
+  abbrev SaysAfter : Row → Node → Node → Body → Type 0
+  SaysAfter row = SaysOf row logs' written' v.stored handovers' v.completions v.merged v.live v.handed
+
+  says_of_looks : (row : Row) (from to : Node) (body : Body) → SaysBefore row from to body → SaysAfter row from to body
+  says_of_looks row from to (bodies.Prepare prepare) says =
+      if_master to (λ m. PrepareFits row (v.handovers m row.tablet) (v.live m) m prepare)
+      (λ m. PrepareFits row (handovers' m row.tablet) (v.live m) m prepare)
+      (λ m. prepare_looks row (v.handovers m row.tablet) (handovers' m row.tablet) (v.live m) m prepare (looks.each m row.tablet)) says
+  says_of_looks row from to (bodies.Ready ready) says =
+      by_master from (λ m. IsOf row ready.tenure → ReadyIn row.phase (v.handovers m row.tablet) row.term m ready.place)
+      (λ m. IsOf row ready.tenure → ReadyIn row.phase (handovers' m row.tablet) row.term m ready.place)
+      (λ m told is.
+      ready_looks row.phase (v.handovers m row.tablet) (handovers' m row.tablet) row.term m ready.place (looks.each m row.tablet)
+      (told is)) says
+  says_of_looks row from to (bodies.Close tenure) says =
+      if_master to (λ m. CloseFits row (v.handovers m row.tablet) (v.live m) m tenure)
+      (λ m. CloseFits row (handovers' m row.tablet) (v.live m) m tenure)
+      (λ m. close_looks row (v.handovers m row.tablet) (handovers' m row.tablet) (v.live m) m tenure (looks.each m row.tablet)) says
+  says_of_looks row from to (bodies.Transfer transfer) says =
+      by_master from (λ m. IsOf row transfer.tenure → TransferIn row.phase (v.handovers m row.tablet) (v.completions m row.tablet) row.term m transfer)
+      (λ m. IsOf row transfer.tenure → TransferIn row.phase (handovers' m row.tablet) (v.completions m row.tablet) row.term m transfer)
+      (λ m told is.
+      transfer_looks row.phase (v.handovers m row.tablet) (handovers' m row.tablet) (v.completions m row.tablet) row.term m transfer (looks.each m row.tablet)
+      (told is)) says
+  says_of_looks row from to (bodies.Grant grant) says = (
+    says.0,
+    if_master to (λ m. GrantAgrees row (v.handovers m row.tablet) (v.live m) (get v.handed row.tablet) m grant)
+        (λ m. GrantAgrees row (handovers' m row.tablet) (v.live m) (get v.handed row.tablet) m grant)
+        (λ m.
+        grant_looks row (v.handovers m row.tablet) (handovers' m row.tablet) (v.live m) (get v.handed row.tablet) m grant
+        (looks.each m row.tablet)) says.1,
+  )
+  says_of_looks row from to (bodies.Pull pull) says = (
+    says.0,
+    by_master from (λ m. AskAgrees row v.handovers (lineage_of row.phase) m to pull.tenure)
+        (λ m. AskAgrees row handovers' (lineage_of row.phase) m to pull.tenure)
+        (λ m. ask_looks row v.handovers handovers' (lineage_of row.phase) m to pull.tenure (looks.each m row.tablet)) says.1,
+  )
+  says_of_looks row from to (bodies.Pulled pulled) says = (
+    says.0,
+    if_master to (λ m. PulledAgrees row v.written v.handovers v.live (lineage_of row.phase) from m pulled)
+        (λ m. PulledAgrees row written' handovers' v.live (lineage_of row.phase) from m pulled)
+        (λ m. pulled_looks row v.written written' v.handovers handovers' v.live (lineage_of row.phase) from m pulled looks) says.1,
+  )
+  says_of_looks row from to (bodies.Want want) says = (
+    says.0,
+    by_master from (λ m. AskAgrees row v.handovers (lineage_of row.phase) m to want.tenure)
+        (λ m. AskAgrees row handovers' (lineage_of row.phase) m to want.tenure)
+        (λ m. ask_looks row v.handovers handovers' (lineage_of row.phase) m to want.tenure (looks.each m row.tablet)) says.1,
+  )
+  says_of_looks row from to (bodies.Got got) says = (
+    says.0,
+    if_master to (λ m. GotAgrees row v.written v.handovers v.live (lineage_of row.phase) from m got)
+        (λ m. GotAgrees row written' handovers' v.live (lineage_of row.phase) from m got)
+        (λ m. got_looks row v.written written' v.handovers handovers' v.live (lineage_of row.phase) from m got looks) says.1,
+  )
+  says_of_looks row from to (bodies.Joined tenure) says =
+      by_master from
+      (λ m. IsOf row tenure → JoinedIn row.phase (v.handovers m row.tablet) (v.written m).applied row.term m)
+      (λ m. IsOf row tenure → JoinedIn row.phase (handovers' m row.tablet) (written' m).applied row.term m)
+      (λ m told is.
+      joined_looks row.phase (v.handovers m row.tablet) (handovers' m row.tablet) (v.written m).applied (written' m).applied row.term m
+      (looks.each m row.tablet) (looks.applied m) (told is)) says
+  says_of_looks row from to (bodies.Own tenure) says =
+      if_master to (λ m. OwnFits row (v.handovers m row.tablet) (v.live m) m tenure)
+      (λ m. OwnFits row (handovers' m row.tablet) (v.live m) m tenure)
+      (λ m. own_looks row (v.handovers m row.tablet) (handovers' m row.tablet) (v.live m) m tenure (looks.each m row.tablet)) says
+  says_of_looks row from to (bodies.Release tenure) says =
+      if_master to (λ m. ReleaseFits row (v.handovers m row.tablet) (v.live m) m tenure)
+      (λ m. ReleaseFits row (handovers' m row.tablet) (v.live m) m tenure)
+      (λ m. release_looks row (v.handovers m row.tablet) (handovers' m row.tablet) (v.live m) m tenure (looks.each m row.tablet)) says
+  says_of_looks row from to (bodies.Rebuild rebuild) says =
+      if_master to (λ m. RebuildFits row (v.handovers m row.tablet) (v.live m) m rebuild)
+      (λ m. RebuildFits row (handovers' m row.tablet) (v.live m) m rebuild)
+      (λ m. rebuild_looks row (v.handovers m row.tablet) (handovers' m row.tablet) (v.live m) m rebuild (looks.each m row.tablet)) says
+  says_of_looks row from to (bodies.Copy copy) says = λ is.
+      copy_looks row.phase v.logs logs' v.stored v.live copy (same copy.master) (says is)
+  says_of_looks row from to (bodies.Rebuilt rebuilt) says =
+      by_master from
+      (λ m. IsOf row rebuilt.tenure
+      → RebuiltIn row.phase (v.handovers m row.tablet) (v.merged m row.tablet) (v.written m).applied row.term m rebuilt)
+      (λ m. IsOf row rebuilt.tenure
+      → RebuiltIn row.phase (handovers' m row.tablet) (v.merged m row.tablet) (written' m).applied row.term m rebuilt)
+      (λ m told is.
+      rebuilt_looks row.phase (v.handovers m row.tablet) (handovers' m row.tablet) (v.merged m row.tablet) (v.written m).applied (written' m).applied row.term m
+      rebuilt (looks.each m row.tablet) (looks.applied m) (told is)) says
+  says_of_looks row from to body says = says
+
+  -- each tablet looks as before, as much is applied and counts as before, and backups are known to hold as much
+  pub messages_looks : MessagesOf v → MessagesOf (record v { logs = logs'; written = written'; handovers = handovers' })
+  messages_looks old = record {
+    of_rows =
+        each_weaker (λ n m. All (λ row. SaysBefore row m.from m.to m.body) v.rows)
+        (λ n m. All (λ row. SaysAfter row m.from m.to m.body) v.rows) v.wire
+        (λ n m.
+        All-weaker (λ row. SaysBefore row m.from m.to m.body) (λ row. SaysAfter row m.from m.to m.body)
+        (λ row. says_of_looks row m.from m.to m.body) v.rows)
+        old.of_rows;
+    others = old.others;
+  }

@@ -257,7 +257,7 @@ receives_staged v master call value sound may =
     let stages = stages v master call value sound may in
     let done : FirstIsDone v.written served.row.range (lineage_of served.row.phase) =
     All-contains (λ row. FirstIsDone v.written row.range (lineage_of row.phase)) v.rows served.row sound.rest.done served.has_row in
-    let low = counter_low base rows (truth_of base before.written) before.rests before.written before.handovers live handed journal wire master table key counters served in
+    let low = counter_low v master table key counters served in
     let fits : (before.written master).applied ≤ length (before.written master).entries =
     applied_within (before.logs master) (before.written master) (stored_of stored master) (held.each master) in
     record {

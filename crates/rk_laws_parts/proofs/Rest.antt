@@ -153,7 +153,7 @@ rest_staged v master call value sound may =
     let item : Held = item_of call counter value in
     let own : IsEntryOf call (entries.Held item) = record { client_is = refl; seq_is = refl; table_is = refl; key_is = refl } in
     let low : floor_of (sure row ++ before.rests row) ≤ counter =
-    counter_low base rows sure before.rests before.written before.handovers live handed journal wire master call.table call.key counters served in
+    counter_low v master call.table call.key counters served in
     let goes : IsRest base row.range (sure row) (after.rests row) journal asked =
     subst (λ (list : List Entry). IsRest base row.range (sure row) list journal asked) (sym stages.rest_here)
     (is_rest_staged base row.range (sure row) (before.rests row) journal asked call counter value

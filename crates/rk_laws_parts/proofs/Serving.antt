@@ -5,11 +5,9 @@ use Rattle.std.proofs.lemmas.Bool.{eq-eqb}
 use Rattle.std.proofs.lemmas.Bool.Decides.{nat_tests}
 use Rattle.std.proofs.lemmas.List.Elements.{All-contains}
 use Rattle.rk_types.specs.Range.{meets}
-use Rattle.rk_types.specs.declared.history.Placed.{Placed}
 use Rattle.rk_types.specs.declared.lineage.Member.{Member}
 use Rattle.rk_types.specs.declared.range.Range.{Range}
 use Rattle.rk_transfer.specs.Handover.{is_serving}
-use Rattle.rk_transfer.specs.declared.handover.Handover.{Handover}
 use Rattle.rk_transfer.specs.declared.role.Role.{Role}
 use Rattle.rk_transfer.specs.declared.role.Role.TheVariants as roles
 use Rattle.rk_tablet_map.proofs.Lawful.{number_of}
@@ -20,10 +18,10 @@ use Rattle.rk_tablet_map.specs.declared.phase.Phase.TheVariants.{Owned, Opening,
 use Rattle.rk_tablet_map.specs.declared.row.Row.{Row}
 use Rattle.rk_world.specs.Lineage.{is_member}
 use Rattle.rk_world.specs.RoleTests.{is_absent}
-use Rattle.rk_world.specs.Written.{Written}
-use Rattle.rk_sound.specs.Rows.{Rows}
 use Rattle.rk_sound.specs.Posts.{OnlyRebuilder, FirstRebuilder, LastRebuilder, OutsideRebuilder, FormerMember, Bystander, rebuilder_post, post_of, bond_of, Holds, StillCounts}
-use Rattle.rk_sound.specs.Roles.{Roles, RoleFits}
+use Rattle.rk_sound.specs.Roles.{RoleFits}
+use Rattle.rk_sound.specs.View.{View}
+use Rattle.rk_sound.specs.Whole.{RowsOf, RolesOf}
 use Rattle.rk_laws_parts.proofs.Apart.{one_precedes}
 use Rattle.rk_laws_parts.proofs.Speakers.{speaks_serving, speaker_of, speaker_is}
 
@@ -95,40 +93,40 @@ found_stands (first ∷ rows) number row found =
     first_or rows first row number (found_stands rows number row) (eqb first.tablet number) found
 
 -- a tablet that is served here and meets a row is the row's, and its master speaks for the row
-pub serves_for : (rows : List Row) (handovers : ℕ → ℕ → Handover) (written : ℕ → Written) (live : ℕ → Bool) (journal : List Placed) (row : Row) (master tablet : ℕ) → Rows rows written journal → Roles rows handovers written live → Contains rows row → live master ≡ true → is_serving (handovers master tablet).role ≡ true → meets (handovers master tablet).range row.range ≡ true → (tablet ≡ row.tablet) × (master ≡ speaker_of row.phase)
-serves_for rows handovers written live journal row master tablet rows_fit roles_fit stands lives serves met =
-    at (row_of rows tablet) refl (roles_fit.known master tablet lives (present (handovers master tablet).role serves))
+pub serves_for : (v : View) (row : Row) (master tablet : ℕ) → RowsOf v → RolesOf v → Contains v.rows row → v.live master ≡ true → is_serving (v.handovers master tablet).role ≡ true → meets (v.handovers master tablet).range row.range ≡ true → (tablet ≡ row.tablet) × (master ≡ speaker_of row.phase)
+serves_for v row master tablet rows_fit roles_fit stands lives serves met =
+    at (row_of v.rows tablet) refl (roles_fit.known master tablet lives (present (v.handovers master tablet).role serves))
   where
-    at : (found : Option Row) → row_of rows tablet ≡ found → is_some found ≡ true → (tablet ≡ row.tablet) × (master ≡ speaker_of row.phase)
+    at : (found : Option Row) → row_of v.rows tablet ≡ found → is_some found ≡ true → (tablet ≡ row.tablet) × (master ≡ speaker_of row.phase)
     at None found some = absurd (cc)
     at (Some own) found some =
-        let here = found_stands rows tablet own found in
-        let number : own.tablet ≡ tablet = number_of rows tablet own found in
-        let serving : is_serving (handovers master own.tablet).role ≡ true =
-        subst (λ (n : ℕ). is_serving (handovers master n).role ≡ true) (sym number) serves in
-        let fits : RoleFits own master (handovers master own.tablet) (written master).applied =
+        let here = found_stands v.rows tablet own found in
+        let number : own.tablet ≡ tablet = number_of v.rows tablet own found in
+        let serving : is_serving (v.handovers master own.tablet).role ≡ true =
+        subst (λ (n : ℕ). is_serving (v.handovers master n).role ≡ true) (sym number) serves in
+        let fits : RoleFits own master (v.handovers master own.tablet) (v.written master).applied =
         All-contains
-        (λ r. StillCounts (live master) (handovers master r.tablet).term r.term
-        → RoleFits r master (handovers master r.tablet) (written master).applied) rows own (roles_fit.fitting master) here (inl lives) in
+        (λ r. StillCounts (v.live master) (v.handovers master r.tablet).term r.term
+        → RoleFits r master (v.handovers master r.tablet) (v.written master).applied) v.rows own (roles_fit.fitting master) here (inl lives) in
         let speaker : master ≡ speaker_of own.phase =
-        speaker_is own master (handovers master own.tablet) (written master).applied fits
-        (speaks_serving (post_of own.phase master) (handovers master own.tablet) own.term serving) in
+        speaker_is own master (v.handovers master own.tablet) (v.written master).applied fits
+        (speaks_serving (post_of own.phase master) (v.handovers master own.tablet) own.term serving) in
         let member : is_member (lineage_of own.phase) master ≡ true =
         subst (λ (m : ℕ). is_member (lineage_of own.phase) m ≡ true) (sym speaker)
-        (speaker_member own.phase (handovers master own.tablet).role own.term (handovers master own.tablet).term (written master).applied
-        (subst (λ (m : ℕ). Holds (bond_of (post_of own.phase m) (handovers master own.tablet).role) own.term (handovers master own.tablet).term (written master).applied) speaker fits)
+        (speaker_member own.phase (v.handovers master own.tablet).role own.term (v.handovers master own.tablet).term (v.written master).applied
+        (subst (λ (m : ℕ). Holds (bond_of (post_of own.phase m) (v.handovers master own.tablet).role) own.term (v.handovers master own.tablet).term (v.written master).applied) speaker fits)
         serving) in
-        let range : (handovers master own.tablet).range ≡ own.range =
+        let range : (v.handovers master own.tablet).range ≡ own.range =
         All-contains
-        (λ r. StillCounts (live master) (handovers master r.tablet).term r.term
-        → is_member (lineage_of r.phase) master ≡ true → (handovers master r.tablet).range ≡ r.range) rows own
+        (λ r. StillCounts (v.live master) (v.handovers master r.tablet).term r.term
+        → is_member (lineage_of r.phase) master ≡ true → (v.handovers master r.tablet).range ≡ r.range) v.rows own
         (roles_fit.ranged master) here (inl lives) member in
         let meeting : meets own.range row.range ≡ true =
-        subst (λ (r : Range). meets r row.range ≡ true) range (subst (λ (n : ℕ). meets (handovers master n).range row.range ≡ true) (sym number) met) in
+        subst (λ (r : Range). meets r row.range ≡ true) range (subst (λ (n : ℕ). meets (v.handovers master n).range row.range ≡ true) (sym number) met) in
         let same : own ≡ row = same_row own here meeting in
         (sym number ∙ ap (λ (r : Row). r.tablet) same, speaker ∙ ap (λ (r : Row). speaker_of r.phase) same)
       where
-        same_row : (own : Row) → Contains rows own → meets own.range row.range ≡ true → own ≡ row
+        same_row : (own : Row) → Contains v.rows own → meets own.range row.range ≡ true → own ≡ row
         same_row own here meeting =
             ⊎_elim
             (λ (is : own ≡ row). is)
@@ -136,14 +134,14 @@ serves_for rows handovers written live journal row master tablet rows_fit roles_
             absurd (⊎_elim
             (λ (h : Precedes own row). let e : true ≡ false = sym meeting ∙ h.apart in differ e)
             (λ (h : Precedes row own). let e : true ≡ false = sym (meets_either own.range row.range meeting) ∙ h.apart in differ e) p))
-            (one_precedes rows own row rows_fit.apart here stands)
+            (one_precedes v.rows own row rows_fit.apart here stands)
           where
             differ : true ≡ false → ⊥
             differ e = absurd (cc)
 
 -- so two living masters that answer calls for a range of one row are one, for one tablet
-pub one_serves : (rows : List Row) (handovers : ℕ → ℕ → Handover) (written : ℕ → Written) (live : ℕ → Bool) (journal : List Placed) (row : Row) (a b i j : ℕ) → Rows rows written journal → Roles rows handovers written live → Contains rows row → live a ≡ true → live b ≡ true → is_serving (handovers a i).role ≡ true → is_serving (handovers b j).role ≡ true → meets (handovers a i).range row.range ≡ true → meets (handovers b j).range row.range ≡ true → (a ≡ b) × (i ≡ j)
-one_serves rows handovers written live journal row a b i j rows_fit roles_fit stands live_a live_b serves_a serves_b met_a met_b =
-    let first = serves_for rows handovers written live journal row a i rows_fit roles_fit stands live_a serves_a met_a in
-    let second = serves_for rows handovers written live journal row b j rows_fit roles_fit stands live_b serves_b met_b in
+pub one_serves : (v : View) (row : Row) (a b i j : ℕ) → RowsOf v → RolesOf v → Contains v.rows row → v.live a ≡ true → v.live b ≡ true → is_serving (v.handovers a i).role ≡ true → is_serving (v.handovers b j).role ≡ true → meets (v.handovers a i).range row.range ≡ true → meets (v.handovers b j).range row.range ≡ true → (a ≡ b) × (i ≡ j)
+one_serves v row a b i j rows_fit roles_fit stands live_a live_b serves_a serves_b met_a met_b =
+    let first = serves_for v row a i rows_fit roles_fit stands live_a serves_a met_a in
+    let second = serves_for v row b j rows_fit roles_fit stands live_b serves_b met_b in
     (first.1 ∙ sym second.1, first.0 ∙ sym second.0)

@@ -4,10 +4,8 @@ use Rattle.std.specs.Prelude.{◌≡◌, ◌≤◌, [], ◌∷◌, ℕ, Bool, tr
 use Rattle.std.specs.List.{Contains}
 use Rattle.std.proofs.lemmas.Bool.{cases_eq}
 use Rattle.std.proofs.lemmas.List.Elements.{All-contains}
-use Rattle.rk_types.specs.NumberMap.{NumberMap}
 use Rattle.rk_types.specs.declared.call.Call.{Call}
 use Rattle.rk_types.specs.declared.held.Held.{Held}
-use Rattle.rk_types.specs.declared.history.Placed.{Placed}
 use Rattle.rk_types.specs.declared.lineage.Member.{Member}
 use Rattle.rk_model.proofs.Places.{slice_get_front}
 use Rattle.rk_entry.specs.declared.entry.Entry.{Entry}
@@ -19,19 +17,18 @@ use Rattle.rk_tablet_map.specs.Phase.{lineage_of}
 use Rattle.rk_tablet_map.specs.declared.phase.Phase.{Phase}
 use Rattle.rk_tablet_map.specs.declared.phase.Phase.TheVariants.{Owned, Opening, Moving, Rebuilding}
 use Rattle.rk_tablet_map.specs.declared.row.Row.{Row}
-use Rattle.rk_message.specs.declared.message.Message.{Message}
 use Rattle.rk_world.specs.Ranges.{has_key}
 use Rattle.rk_world.specs.Lineage.{last_of}
-use Rattle.rk_world.specs.Base.{Base}
 use Rattle.rk_world.specs.Merge.{floor_of}
-use Rattle.rk_world.specs.Coordinator.{Handed}
 use Rattle.rk_world.specs.Written.{Written}
 use Rattle.rk_sound.specs.Rows.{AreApart, IsFormed}
 use Rattle.rk_sound.specs.Posts.{post_of, speaks, StillCounts}
 use Rattle.rk_sound.specs.Roles.{Roles, RoleFits}
-use Rattle.rk_sound.specs.Counters.{Counters, IsNext}
+use Rattle.rk_sound.specs.Counters.{IsNext}
 use Rattle.rk_sound.specs.Changes.{IsServed}
 use Rattle.rk_sound.specs.Small.{risen, with_one_more}
+use Rattle.rk_sound.specs.View.{View, truths, rests}
+use Rattle.rk_sound.specs.Whole.{CountersOf}
 use Rattle.rk_laws_parts.proofs.Changing.{Lane, Stages}
 use Rattle.rk_laws_parts.proofs.Differs.{differs_each, keeps_each, now_same, differs_cases}
 use Rattle.rk_laws_parts.proofs.Alike.{AreAlike, alike_all, alike_counted}
@@ -39,15 +36,15 @@ use Rattle.rk_laws_parts.proofs.Speakers.{speaks_serving, speaker_of, speaker_is
 use Rattle.rk_laws_parts.proofs.Seen.{AllLook, LooksAs, looks_same, counted_looks}
 
 -- the counter of a tablet is above all that counts for its row, where its master serves it
-pub counter_low : (base : Base) (rows : List Row) (truths rests : Row → List Entry) (written : ℕ → Written) (handovers : ℕ → ℕ → Handover) (live : ℕ → Bool) (handed : NumberMap Handed) (journal : List Placed) (wire : NumberMap Message) (master table : ℕ) (key : List ℕ) → Counters base rows truths rests written handovers live handed journal wire → (served : IsServed rows (handovers master) (live master) master table key) → floor_of (truths served.row ++ rests served.row) ≤ (handovers master served.row.tablet).counter
-counter_low base rows truths rests written handovers live handed journal wire master table key counters served =
-    let next : IsNext served.row.range (truths served.row ++ rests served.row) (written master) (handovers master served.row.tablet).counter =
+pub counter_low : (v : View) (master table : ℕ) (key : List ℕ) → CountersOf v (truths v) (rests v) → (served : IsServed v.rows (v.handovers master) (v.live master) master table key) → floor_of (truths v served.row ++ rests v served.row) ≤ (v.handovers master served.row.tablet).counter
+counter_low v master table key counters served =
+    let next : IsNext served.row.range (truths v served.row ++ rests v served.row) (v.written master) (v.handovers master served.row.tablet).counter =
     All-contains
-    (λ row. StillCounts (live master) (handovers master row.tablet).term row.term
-    → speaks (post_of row.phase master) (handovers master row.tablet) row.term ≡ true
-    → IsNext row.range (truths row ++ rests row) (written master) (handovers master row.tablet).counter) rows served.row
+    (λ row. StillCounts (v.live master) (v.handovers master row.tablet).term row.term
+    → speaks (post_of row.phase master) (v.handovers master row.tablet) row.term ≡ true
+    → IsNext row.range (truths v row ++ rests v row) (v.written master) (v.handovers master row.tablet).counter) v.rows served.row
     (counters.counted master) served.has_row (inl served.lives)
-    (speaks_serving (post_of served.row.phase master) (handovers master served.row.tablet) served.row.term served.serves) in
+    (speaks_serving (post_of served.row.phase master) (v.handovers master served.row.tablet) served.row.term served.serves) in
     next.low
 
 -- the lineage of a row in such a phase has at most two members, and they are two

@@ -49,7 +49,7 @@ module _ (w : World) (master : ℕ) (changed : Master) (number : ℕ) (tablet : 
       (λ other. ap (f q) (master_other w master changed q other))
 
   keeps : {X : Type 0} (f : Tablet → X) (q r : ℕ) → f (tablet_in (with_master w master changed) q r) ≡ put2 (λ q r. f (tablet_in w q r)) master number (f tablet) q r
-  keeps f = keeps_with f w master number changed tablet here apart
+  keeps f = keeps_with w master number changed tablet here apart f
 
   pub view_master : view (with_master w master changed) ≡ changed_view (view w) master changed.log (written_by changed (marks_of w.ledger master)) changed.records changed.calls number tablet
   view_master i = record (view w) {

@@ -128,7 +128,7 @@ module _ (v : View) (master : ℕ) (call : Call) (value : Option (List ℕ)) (so
 
   low : floor_of (truths v row ++ rests v row) ≤ item.version
   low =
-      counter_low v.base v.rows (truths v) (rests v) v.written v.handovers v.live v.handed v.journal v.wire master call.table call.key
+      counter_low v master call.table call.key
       sound.counters may.served
 
   order : OrderOf now (truths v) (rests now)
@@ -195,8 +195,7 @@ module _ (v : View) (master : ℕ) (call : Call) (value : Option (List ℕ)) (so
 
   messages : MessagesOf now
   messages =
-      messages_looks v.rows v.logs now.logs v.written now.written v.stored v.handovers now.handovers v.completions v.merged v.live
-      v.handed v.journal v.wire sound.messages looks known_same
+      messages_looks v now.logs now.written now.handovers looks known_same sound.messages
 
   -- with the truths as they were
   parts : SoundParts now (truths v) (rests now)

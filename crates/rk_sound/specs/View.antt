@@ -15,7 +15,7 @@ use Rattle.rk_tablet_map.specs.declared.row.Row.{Row}
 use Rattle.rk_message.specs.declared.message.Message.{Message}
 use Rattle.rk_world.specs.Base.{Base}
 use Rattle.rk_world.specs.Gather.{Gather}
-use Rattle.rk_world.specs.Tablet.{Tablet, Pulling}
+use Rattle.rk_world.specs.Tablet.{Pulling}
 use Rattle.rk_world.specs.Coordinator.{Handed}
 use Rattle.rk_world.specs.Ledger.{LastCall, asked_by}
 use Rattle.rk_world.specs.Written.{Written, truth_of, rest_of}
@@ -85,13 +85,3 @@ truths v = truth_of v.base v.written
 -- the rest of each row
 abbrev pub rests : View → Row → List Entry
 rests v = rest_of v.written
-
--- what each master has of each tablet
-abbrev pub keeps : View → ℕ → ℕ → Tablet
-keeps v master tablet = record {
-  handover = v.handovers master tablet;
-  completions = v.completions master tablet;
-  pulling = v.pullings master tablet;
-  gather = v.gathers master tablet;
-  merged_ends = v.merged master tablet;
-}
