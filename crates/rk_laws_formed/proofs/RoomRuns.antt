@@ -4,13 +4,13 @@ use Rattle.rk_world.specs.declared.error.StepError.{StepError}
 use Rattle.rk_world.specs.Formed.{IsWellFormed}
 use Rattle.rk_world.specs.Refusals.{refusal}
 use Rattle.rk_world.specs.Room.{HasRoom, MOST_NUMBER}
-use Rattle.rk_world.specs.Runs.{Accepts, Asks, Happening, Happens, IsCalm, IsCalmHappening, MayAllOccur, MayOccur, after, run, world_stepped}
+use Rattle.rk_world.specs.Runs.{Accepts, AllHaveRoom, Asks, Happening, Happens, IsCalm, IsCalmHappening, MayAllOccur, MayOccur, after, run, world_stepped}
 use Rattle.rk_world.specs.Step.{stepped_by}
 use Rattle.rk_world.specs.World.{World}
 use Rattle.rk_laws_formed.specs.Fitting.{AllLogsFit, LogsFit}
 use Rattle.rk_laws_formed.proofs.Happenings.{formed_accepts, formed_asks}
 use Rattle.rk_laws_formed.proofs.RoomEvents.{room_event}
-use Rattle.rk_laws_formed.proofs.Whole.{AllHaveRoom, formed_after, formed_run}
+use Rattle.rk_laws_formed.proofs.Whole.{formed_after, formed_run}
 
 first_logs_fit : (w : World) (list : List Happening) → AllLogsFit w list → LogsFit w
 first_logs_fit w [] fits = fits
