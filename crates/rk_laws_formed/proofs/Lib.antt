@@ -49,3 +49,5 @@ pub mod FewWorks
 pub mod StepsFew
 pub mod RoomEvents
 pub mod RoomRuns
+pub mod LogBytes
+pub mod StepBytes
