@@ -51,3 +51,4 @@ pub mod RoomEvents
 pub mod RoomRuns
 pub mod LogBytes
 pub mod StepBytes
+pub mod ByteEvents

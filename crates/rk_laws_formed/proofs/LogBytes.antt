@@ -1,10 +1,10 @@
 -- How many bytes a master's segments and side logs have after a step: where nothing is appended no more than before, and an entry more
 -- where one is.
-use Rattle.std.proofs.Common.{◌≡◌, ◌≤◌, ◌<◌, ◌+◌, ◌==◌, ◌&&◌, ◌^◌, ◌*◌, ℕ, Bool, true, false, cond, not, T, List, [], ◌∷◌, ◌++◌, length, map, sum, Option, None, Some, refl, sym, subst, ap, ◌∙◌, arith}
+use Rattle.std.proofs.Common.{◌≡◌, ◌≤◌, ◌+◌, ◌==◌, ◌&&◌, ◌^◌, ℕ, cond, not, T, List, [], ◌∷◌, ◌++◌, length, map, sum, Option, None, Some, refl, sym, subst, ap, ◌∙◌, arith}
 use Rattle.std.specs.Cmp.{ranked}
 use Rattle.std.specs.FinMap.Entries.{below_all, by_order}
 use Rattle.std.specs.List.{sum_by}
-use Rattle.std.specs.Ordering.{eq_by_cmp, is_eq, is_lt, nat_cmp}
+use Rattle.std.specs.Ordering.{is_eq, nat_cmp}
 use Rattle.std.specs.declared.cmp.Ordering.TheVariants.{Less, Equal, Greater}
 use Rattle.std.proofs.lemmas.Bool.{cond_both}
 use Rattle.std.proofs.lemmas.List.Sums.{sum-map, sum_by-append, sum_by-cons}
@@ -13,8 +13,6 @@ use Rattle.rk_types.specs.Range.{meets}
 use Rattle.rk_types.specs.declared.range.Range.{Range}
 use Rattle.rk_entry.specs.Spelling.{spelled}
 use Rattle.rk_entry.specs.declared.entry.Entry.{Entry}
-use Rattle.rk_log.specs.Cut.{cut}
-use Rattle.rk_log.specs.Log.{segment_bytes, with_entry}
 use Rattle.rk_world.specs.Handovers.{given_up, with_others_given_up}
 use Rattle.rk_world.specs.Master.{Master, log_bytes, tablet_at, unsealed_bytes, with_appended, with_tablet}
 use Rattle.rk_world.specs.Tablet.{Pulling, Tablet, no_tablet, pulling_from}
@@ -38,7 +36,7 @@ use Rattle.rk_world.specs.Material.{as_entries}
 use Rattle.rk_world.specs.Refusals.{MOST_CLIENTS}
 use Rattle.rk_laws_formed.proofs.Bounds.{within_sum_of}
 use Rattle.rk_laws_formed.proofs.Sealing.{none_spelled}
-use Rattle.rk_laws_formed.proofs.Maps.{above_all, first, is_below, second}
+use Rattle.rk_laws_formed.proofs.Maps.{above_all, first, second}
 use Rattle.rk_laws_formed.proofs.Sizes.{bytes_spelled}
 
 -- ---- a map by number
@@ -149,7 +147,7 @@ given_up_less id range (here ∷ rest) =
       given_up_less id range rest,
       sum_by-cons (λ (entry : ℕ × Tablet). unsealed_bytes entry.1) here rest,
       sum_by-cons (λ (entry : ℕ × Tablet). unsealed_bytes entry.1) now
-      (map (λ (entry : ℕ × Tablet). (entry.0, cond (not (entry.0 == id) && meets entry.1.handover.range range) (given_up entry.1) entry.1)) rest),
+          (map (λ (entry : ℕ × Tablet). (entry.0, cond (not (entry.0 == id) && meets entry.1.handover.range range) (given_up entry.1) entry.1)) rest),
     )
 
 pub bytes_given_up : (master : Master) (id : ℕ) (range : Range) → log_bytes (with_others_given_up master id range) ≤ log_bytes master

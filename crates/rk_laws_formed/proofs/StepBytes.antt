@@ -1,6 +1,6 @@
 -- How many bytes a master has after a message or its turn, where no side log and no copy is appended: for a request and a grant an entry
 -- more, and at most as many again for each tablet that changes.
-use Rattle.std.proofs.Common.{◌≡◌, ◌≤◌, ◌<◌, ◌+◌, ◌*◌, ◌==◌, ℕ, Bool, true, false, cond, not, nat_lt, All, List, [], ◌∷◌, length, Option, None, Some, refl, sym, subst, ap, ◌∙◌, ⊎_elim, arith}
+use Rattle.std.proofs.Common.{◌≡◌, ◌≤◌, ◌<◌, ◌+◌, ◌*◌, ◌==◌, ℕ, Bool, true, false, cond, nat_lt, All, [], ◌∷◌, length, Option, None, Some, refl, sym, ap, ◌∙◌, ⊎_elim, arith}
 use Rattle.std.specs.Prelude.{⊤, unwrap_or}
 use Rattle.std.proofs.lemmas.Bool.{cases_eq, cond_both}
 use Rattle.std.proofs.lemmas.List.Elements.{All-head, All-tail, All-weaker}
@@ -41,7 +41,7 @@ use Rattle.rk_done.specs.Completions.{completions_from}
 use Rattle.rk_world.specs.Waiting.{freezing, tablet_frozen}
 use Rattle.rk_world.specs.RoleTests.{is_frozen_at}
 use Rattle.rk_world.specs.Worked.{Worked, changed, sending}
-use Rattle.rk_laws_formed.proofs.LogBytes.{LONGEST_LEFT, bytes_appended, bytes_given_up, bytes_with_tablet, carried_short, held_short, pulls_none, refused_short, size_found, sum_inserted, unsealed_at_most}
+use Rattle.rk_laws_formed.proofs.LogBytes.{bytes_appended, bytes_given_up, bytes_with_tablet, carried_short, held_short, pulls_none, refused_short, size_found, sum_inserted, unsealed_at_most}
 use Rattle.rk_laws_formed.proofs.Maps.{All_pairs}
 use Rattle.rk_laws_formed.proofs.Requests.{IsFormedChoice, choice_formed}
 use Rattle.rk_laws_formed.proofs.Rising.{rising_within}
@@ -183,7 +183,7 @@ module _ (master : Master) (below : log_bytes master < WORN_BYTES) where
             arith,
             are.clients,
             rising_within grant.ends limits.clients told.told.rising
-            (All-weaker (IsFormedEnd limits) (λ end. IsClient limits end.client) (λ end formed. formed.client) grant.ends told.told.each),
+                (All-weaker (IsFormedEnd limits) (λ end. IsClient limits end.client) (λ end formed. formed.client) grant.ends told.told.each),
           )
 
       granted_tablet : Tablet
