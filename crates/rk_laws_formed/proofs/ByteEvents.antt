@@ -1,5 +1,5 @@
--- The bytes of all logs of a lane fit after each event but those that put a batch into side logs, append copies, or let tablets close:
--- a master told Stored, Pulled, Got, Rebuild or Copy.
+-- The bytes of all logs of a lane fit after each event but those by which a master may append more than an entry: where it is told
+-- Pulled, Got, Rebuild or Copy, or Stored while a tablet of its own waits for its side segments.
 use Rattle.std.proofs.Common.{◌≡◌, ◌≤◌, ◌<◌, ◌+◌, ℕ, false, Option, None, Some, [], refl, subst, arith}
 use Rattle.std.specs.Prelude.{IfSome, unwrap_or, ⊤}
 use Rattle.std.proofs.lemmas.Bool.{cond_both}
@@ -33,19 +33,20 @@ use Rattle.rk_laws_formed.proofs.Bounds.{within_sum_of}
 use Rattle.rk_laws_formed.proofs.Events.{comes_fresh}
 use Rattle.rk_laws_formed.proofs.LogBytes.{bytes_with_tablet, inserted_most, unsealed_at_most}
 use Rattle.rk_laws_formed.proofs.Rooms.{room_again, room_come, room_crashed, room_forgotten}
-use Rattle.rk_laws_formed.proofs.StepBytes.{BytesFit, IsPlainBody, split_bytes, told_bytes, turn_bytes}
+use Rattle.rk_laws_formed.proofs.StepBytes.{BytesFit, IsPlainBody, split_bytes, told_bytes}
+use Rattle.rk_laws_formed.proofs.TurnBytes.{turn_bytes}
 use Rattle.rk_laws_formed.proofs.Worlds.{formed_limits, master_of}
 
 -- ---- which events
 
 -- a message by which at most an entry is appended, by its receiver
-abbrev pub IsPlainFor : Node → Body → Type 0
-IsPlainFor (nodes.Master master) body = IsPlainBody body
-IsPlainFor to body = ⊤
+abbrev pub IsPlainFor : World → Node → Body → Type 0
+IsPlainFor w (nodes.Master master) body = IsPlainBody (master_at w master) body
+IsPlainFor w to body = ⊤
 
 -- an event by which at most an entry is appended
 abbrev pub IsPlainEvent : World → Event → Type 0
-IsPlainEvent w (events.Deliver number) = IfSome (get w.wire.messages number) (λ message. IsPlainFor message.to message.body)
+IsPlainEvent w (events.Deliver number) = IfSome (get w.wire.messages number) (λ message. IsPlainFor w message.to message.body)
 IsPlainEvent w event = ⊤
 
 -- ---- a master changes
@@ -63,7 +64,7 @@ logs_fit w number master fresh fits = omega (arith, fresh, fits, inserted_most l
 
 -- ---- a message and a turn
 
-master_bytes : (w : World) (number : ℕ) (message : Message) → bytes_of_logs w < WORN_BYTES → IsMaster w.coordinator.masters number → IsFormedMessage (limits_of w) message → IsPlainBody message.body → IsWellFormed w → HasRoom w → bytes_of_logs (to_master w number message).world < MOST_BYTES
+master_bytes : (w : World) (number : ℕ) (message : Message) → bytes_of_logs w < WORN_BYTES → IsMaster w.coordinator.masters number → IsFormedMessage (limits_of w) message → IsPlainBody (master_at w number) message.body → IsWellFormed w → HasRoom w → bytes_of_logs (to_master w number message).world < MOST_BYTES
 master_bytes w number message fresh there told plain formed room =
     cond_both (has_crashed w number) (losing w) (worked_at w number (seen_in message.body) (master_step (master_at w number) message))
     (λ (stepped : Stepped). bytes_of_logs stepped.world < MOST_BYTES)
@@ -95,7 +96,7 @@ backup_bytes w backup sender body called room =
     fits =
         omega (arith, room.bytes, stored_logs w backup (λ segments. stored_after segments sender body called) (get w.backups backup))
 
-received_bytes : (w : World) (message : Message) (to : Node) (called : Called) → message.to ≡ to → bytes_of_logs w < WORN_BYTES → IsFormedMessage (limits_of w) message → IsPlainFor to message.body → IsWellFormed w → HasRoom w → bytes_of_logs (delivered_to w message to called).world < MOST_BYTES
+received_bytes : (w : World) (message : Message) (to : Node) (called : Called) → message.to ≡ to → bytes_of_logs w < WORN_BYTES → IsFormedMessage (limits_of w) message → IsPlainFor w to message.body → IsWellFormed w → HasRoom w → bytes_of_logs (delivered_to w message to called).world < MOST_BYTES
 received_bytes w message (nodes.Client client) called is fresh told plain formed room = room.bytes
 received_bytes w message nodes.Coordinator called is fresh told plain formed room = room.bytes
 received_bytes w message (nodes.Master master) called is fresh told plain formed room =
@@ -106,7 +107,7 @@ received_bytes w message (nodes.Backup backup) called is fresh told plain formed
 delivered_bytes : (w : World) (number : ℕ) (called : Called) → bytes_of_logs w < WORN_BYTES → IsPlainEvent w (events.Deliver number) → IsWellFormed w → HasRoom w → bytes_of_logs (happened w (events.Deliver number) called).world < MOST_BYTES
 delivered_bytes w number called fresh plain formed room = go (get w.wire.messages number) refl plain
   where
-    go : (found : Option Message) → get w.wire.messages number ≡ found → IfSome found (λ message. IsPlainFor message.to message.body) → bytes_of_logs (delivered w found called).world < MOST_BYTES
+    go : (found : Option Message) → get w.wire.messages number ≡ found → IfSome found (λ message. IsPlainFor w message.to message.body) → bytes_of_logs (delivered w found called).world < MOST_BYTES
     go None is it = room.bytes
     go (Some message) is it =
         received_bytes w message message.to called refl fresh (formed.wire.each number message is) it formed room

@@ -74,7 +74,7 @@ few_at w number there formed room =
       entries = omega (arith, entries_few (master_at w number));
     }
 
--- the greatest number of a lane that is not worn, with all that one step may add
+-- a well formed lane with room whose greatest number is not worn
 record IsLow (w : World) : Type 0 where
   formed : IsWellFormed w
   room : HasRoom w
