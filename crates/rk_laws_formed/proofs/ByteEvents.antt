@@ -64,7 +64,8 @@ logs_fit w number master fresh fits = omega (arith, fresh, fits, inserted_most l
 
 -- ---- a message and a turn
 
-master_bytes : (w : World) (number : ℕ) (message : Message) → bytes_of_logs w < WORN_BYTES → IsMaster w.coordinator.masters number → IsFormedMessage (limits_of w) message → IsPlainBody (master_at w number) message.body → IsWellFormed w → HasRoom w → bytes_of_logs (to_master w number message).world < MOST_BYTES
+master_bytes : (w : World) (number : ℕ) (message : Message) → bytes_of_logs w < WORN_BYTES → IsMaster w.coordinator.masters number → IsFormedMessage (limits_of w) message
+    → IsPlainBody (master_at w number) message.body → IsWellFormed w → HasRoom w → bytes_of_logs (to_master w number message).world < MOST_BYTES
 master_bytes w number message fresh there told plain formed room =
     cond_both (has_crashed w number) (losing w) (worked_at w number (seen_in message.body) (master_step (master_at w number) message))
     (λ (stepped : Stepped). bytes_of_logs stepped.world < MOST_BYTES)

@@ -135,7 +135,8 @@ bytes_appended master entry =
     )
 
 -- each other tablet of a range is given up
-given_up_less : (id : ℕ) (range : Range) (tablets : NumberMap Tablet) → sum_by (λ (entry : ℕ × Tablet). unsealed_bytes entry.1) (map (λ (entry : ℕ × Tablet). (entry.0, cond (not (entry.0 == id) && meets entry.1.handover.range range) (given_up entry.1) entry.1)) tablets) ≤ sum_by (λ (entry : ℕ × Tablet). unsealed_bytes entry.1) tablets
+given_up_less : (id : ℕ) (range : Range) (tablets : NumberMap Tablet)
+    → sum_by (λ (entry : ℕ × Tablet). unsealed_bytes entry.1) (map (λ (entry : ℕ × Tablet). (entry.0, cond (not (entry.0 == id) && meets entry.1.handover.range range) (given_up entry.1) entry.1)) tablets) ≤ sum_by (λ (entry : ℕ × Tablet). unsealed_bytes entry.1) tablets
 given_up_less id range [] = omega arith
 given_up_less id range (here ∷ rest) =
     let now : ℕ × Tablet = (here.0, cond (not (here.0 == id) && meets here.1.handover.range range) (given_up here.1) here.1) in
