@@ -134,7 +134,7 @@ entries_counters most (entry ∷ entries) master each =
     (item_counters most master entry each))
 
 -- a move to another role keeps the counter
-pub in_role_counter : (handover : Handover) (role : Option Role) → EachMoved (λ now. now.counter ≡ handover.counter) (in_role handover role)
+in_role_counter : (handover : Handover) (role : Option Role) → EachMoved (λ now. now.counter ≡ handover.counter) (in_role handover role)
 in_role_counter handover None now is = absurd (cc is)
 in_role_counter handover (Some role) now is =
     let same : record handover { role = role } ≡ now = cc is in
@@ -208,7 +208,7 @@ stored_counters most master backup stored None each =
 
 -- ---- a turn
 
-pub test_counters : (most : ℕ) (b : Bool) (a c : Worked) → CountersWithin most a.master → CountersWithin most c.master → CountersWithin most (cond b a c).master
+test_counters : (most : ℕ) (b : Bool) (a c : Worked) → CountersWithin most a.master → CountersWithin most c.master → CountersWithin most (cond b a c).master
 test_counters most true a c left right = left
 test_counters most false a c left right = right
 

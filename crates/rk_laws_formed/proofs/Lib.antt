@@ -48,4 +48,8 @@ pub mod RebuildCounters
 pub mod FewWorks
 pub mod StepsFew
 pub mod RoomEvents
+pub mod LogBytes
+pub mod TurnBytes
+pub mod StepBytes
+pub mod ByteEvents
 pub mod RoomRuns

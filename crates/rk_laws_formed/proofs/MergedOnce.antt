@@ -95,7 +95,8 @@ apart_by_call all a b first second apart =
 -- ---- the ends that have their place
 
 -- what holds of each end that has its place holds of all that are placed
-placed_each : (P Q : Ended → Type 0) (S : List Ended → Type 0) (all later seen ends : List Ended) → S seen → ((seen : List Ended) (end : Ended) → S seen → S (seen ++ end ∷ [])) → ((seen : List Ended) (end : Ended) → S seen → Q end → HasPlace all later seen end → P end) → All Q ends → All P (placed_ends all later seen ends)
+placed_each : (P Q : Ended → Type 0) (S : List Ended → Type 0) (all later seen ends : List Ended) → S seen → ((seen : List Ended) (end : Ended) → S seen → S (seen ++ end ∷ []))
+    → ((seen : List Ended) (end : Ended) → S seen → Q end → HasPlace all later seen end → P end) → All Q ends → All P (placed_ends all later seen ends)
 placed_each P Q S all later seen [] start next holds each = All-nil P
 placed_each P Q S all later seen (end ∷ ends) start next holds each =
     let rest = placed_each P Q S all later (seen ++ end ∷ []) ends (next seen end start) next holds (All-tail Q end ends each) in
@@ -161,7 +162,8 @@ apart_later all (ends ∷ later) end is_last none each =
     (apart_later all later end is_last both.1 (All-tail (All (IsHeldBy all)) ends later each))
 
 -- the ends of one member that have their place there, before those of later members
-placed_once : (all : List Ended) (later : List (List Ended)) (seen ends : List Ended) → All (IsHeldBy all) ends → All (All (IsHeldBy all)) later → AreOfDistinctClients (ends_by_place all later) → AreOfDistinctClients (placed_ends all (flat_map (λ told. told) later) seen ends ++ ends_by_place all later)
+placed_once : (all : List Ended) (later : List (List Ended)) (seen ends : List Ended) → All (IsHeldBy all) ends → All (All (IsHeldBy all)) later
+    → AreOfDistinctClients (ends_by_place all later) → AreOfDistinctClients (placed_ends all (flat_map (λ told. told) later) seen ends ++ ends_by_place all later)
 placed_once all later seen [] each others once = once
 placed_once all later seen (end ∷ ends) each others once =
     let told = flat_map (λ told. told) later in

@@ -71,7 +71,8 @@ merging_few most master id tablet merged (Some handover) each within = record {
 }
 
 -- a rebuild goes on, from entries that are well formed
-goes_on_few : (limits : Limits) (master : Master) (id : ℕ) → All (IsFormedGathered limits) (tablet_at master id).gather.members → All (IsFormedEntry limits) (rebuilds.own_material master (tablet_at master id)) → CountersWithin (limits.top + 1) master → IsFewWork (limits.top + 1) 1 (rebuilds.rebuild_goes_on master id)
+goes_on_few : (limits : Limits) (master : Master) (id : ℕ) → All (IsFormedGathered limits) (tablet_at master id).gather.members
+    → All (IsFormedEntry limits) (rebuilds.own_material master (tablet_at master id)) → CountersWithin (limits.top + 1) master → IsFewWork (limits.top + 1) 1 (rebuilds.rebuild_goes_on master id)
 goes_on_few limits master id members own each =
     elim (next_reading it.gather) as (λ reading. IsFewWork (limits.top + 1) 1 (rebuilds.rebuilding_on master id reading)) [
       | None ↦

@@ -119,7 +119,7 @@ record_formed limits (Some item) formed = go item.value formed.lawful.value
 -- ---- choices
 
 -- a choice whose tablet is there, and whose answer or entry keeps to the limits
-abbrev IsFormedChoice : Limits → Master → Choice → Type 0
+abbrev pub IsFormedChoice : Limits → Master → Choice → Type 0
 IsFormedChoice limits master Redirects = ⊤
 IsFormedChoice limits master (Repeats end) = IsLawfulOutcome end
 IsFormedChoice limits master Ignores = ⊤
@@ -200,7 +200,7 @@ mutation_formed limits number master id tablet call formed there ended lawful = 
     go (looks.Old seq) is = tt
 
 -- what a master does with a lawful call
-choice_formed : (limits : Limits) (number : ℕ) (master : Master) (call : Call) → IsFormedMaster limits number master → IsLawfulCall call
+pub choice_formed : (limits : Limits) (number : ℕ) (master : Master) (call : Call) → IsFormedMaster limits number master → IsLawfulCall call
     → IsFormedChoice limits master (choice_of master call)
 choice_formed limits number master call formed lawful = go (serving master call.table call.key) refl
   where

@@ -74,7 +74,7 @@ few_at w number there formed room =
       entries = omega (arith, entries_few (master_at w number));
     }
 
--- the greatest number of a lane that is not worn, with all that one step may add
+-- a well formed lane with room whose greatest number is not worn
 record IsLow (w : World) : Type 0 where
   formed : IsWellFormed w
   room : HasRoom w
@@ -90,7 +90,8 @@ work_fits w low number seen worked within few =
     (top_after_work w low.formed 2 number seen worked within few.counters)
 
 -- what a request has seen has stood; and where no client sends it nothing is served
-told_fits : (w : World) (low : IsLow w) (number : ℕ) (sender : Node) (body : Body) → IsFormedBody (limits_of w) sender body → IsFewWork (w.top + 2) MOST_AT_ONCE (told_master (master_at w number) sender body) → (worked_at w number (seen_in body) (told_master (master_at w number) sender body)).world.top < MOST_NUMBER
+told_fits : (w : World) (low : IsLow w) (number : ℕ) (sender : Node) (body : Body) → IsFormedBody (limits_of w) sender body
+    → IsFewWork (w.top + 2) MOST_AT_ONCE (told_master (master_at w number) sender body) → (worked_at w number (seen_in body) (told_master (master_at w number) sender body)).world.top < MOST_NUMBER
 told_fits w low number (nodes.Client client) (bodies.Request request) says few =
     let seen = says.seen in
     work_fits w low number request.seen _ (omega arith) few

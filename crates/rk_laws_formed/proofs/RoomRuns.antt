@@ -3,11 +3,14 @@ use Rattle.std.proofs.Common.{◌≡◌, ◌<◌, List, [], ◌∷◌, Option, N
 use Rattle.rk_world.specs.declared.error.StepError.{StepError}
 use Rattle.rk_world.specs.Formed.{IsWellFormed}
 use Rattle.rk_world.specs.Refusals.{refusal}
-use Rattle.rk_world.specs.Room.{HasRoom, MOST_NUMBER}
+use Rattle.rk_world.specs.Room.{HasRoom, MOST_BYTES, MOST_NUMBER}
 use Rattle.rk_world.specs.Runs.{Accepts, AllHaveRoom, Asks, Happening, Happens, IsCalm, IsCalmHappening, MayAllOccur, MayOccur, after, run, world_stepped}
 use Rattle.rk_world.specs.Step.{stepped_by}
-use Rattle.rk_world.specs.World.{World}
+use Rattle.rk_world.specs.World.{World, bytes_of_logs}
+use Rattle.std.specs.Prelude.{⊤}
 use Rattle.rk_laws_formed.specs.Fitting.{AllLogsFit, LogsFit}
+use Rattle.rk_laws_formed.specs.Plain.{IsPlainEvent}
+use Rattle.rk_laws_formed.proofs.ByteEvents.{bytes_event}
 use Rattle.rk_laws_formed.proofs.Happenings.{formed_accepts, formed_asks}
 use Rattle.rk_laws_formed.proofs.RoomEvents.{room_event}
 use Rattle.rk_laws_formed.proofs.Whole.{formed_after, formed_run}
@@ -43,3 +46,22 @@ room_run w (happening ∷ later) may calm formed number fits =
 pub formed_run_fitting : (w : World) (list : List Happening) → MayAllOccur w list → IsCalm w list → w.top < MOST_NUMBER → AllLogsFit w list → IsWellFormed w → IsWellFormed (run w list)
 formed_run_fitting w list may calm number fits formed =
     formed_run w list may calm (room_run w list may calm formed number fits) formed
+
+-- ---- the bytes
+
+-- by what happens at most an entry is appended
+abbrev pub IsPlainHappening : World → Happening → Type 0
+IsPlainHappening w (Happens event called) = IsPlainEvent w event
+IsPlainHappening w (Asks session) = ⊤
+IsPlainHappening w (Accepts number session) = ⊤
+
+-- then the bytes of all logs fit after it
+pub bytes_after : (w : World) (happening : Happening) → MayOccur w happening → IsPlainHappening w happening → IsWellFormed w → HasRoom w → bytes_of_logs (after w happening) < MOST_BYTES
+bytes_after w (Happens event called) may plain formed room = go (refusal w event) refl
+  where
+    go : (refused : Option StepError) → refusal w event ≡ refused → bytes_of_logs (world_stepped w (stepped_by w event called refused)) < MOST_BYTES
+    go None none = bytes_event w event called may.0 none plain formed room
+    go (Some error) none = room.bytes
+bytes_after w (Asks session) may plain formed room = (formed_asks w session may (record { formed = formed; room = room })).room.bytes
+bytes_after w (Accepts number session) may plain formed room =
+    (formed_accepts w number session may (record { formed = formed; room = room })).room.bytes

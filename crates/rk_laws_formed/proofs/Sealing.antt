@@ -57,7 +57,8 @@ first_spelled : (item : Held) (items : List Held) → spelled_all (as_entries (i
 unfolding spelled_all
 first_spelled item items = refl
 
-none_spelled : spelled_all (as_entries []) ≡ []
+-- no items take no bytes
+pub none_spelled : spelled_all (as_entries []) ≡ []
 unfolding spelled_all
 none_spelled = refl
 

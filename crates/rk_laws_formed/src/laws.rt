@@ -11,12 +11,13 @@ ghost use Rattle.rk_world.specs.Client.{Session, busy, new_session, next_call, s
 ghost use Rattle.rk_world.specs.Formed.{IsWellFormed};
 ghost use Rattle.rk_world.specs.Premises.{IsAfterStart, IsLawfulCall, MOST_MASTERS, MayAct, MayCome, MayHappen};
 ghost use Rattle.rk_world.specs.Refusals.{refusal};
-ghost use Rattle.rk_world.specs.Room.{HasRoom, MOST_NUMBER};
+ghost use Rattle.rk_world.specs.Room.{HasRoom, MOST_BYTES, MOST_NUMBER};
 ghost use Rattle.rk_world.specs.Runs.{AllHaveRoom, Happening, IsCalm, IsCalmEvent, IsFormedWithRoom, MayAllOccur, run};
 ghost use Rattle.rk_world.specs.Runs as runs;
 ghost use Rattle.rk_world.specs.Step.{happened};
-ghost use Rattle.rk_world.specs.World.{World, new_world};
+ghost use Rattle.rk_world.specs.World.{World, bytes_of_logs, new_world};
 ghost use Rattle.rk_laws_formed.specs.Fitting.{AllLogsFit};
+ghost use Rattle.rk_laws_formed.specs.Plain.{IsPlainEvent};
 
 /// A lane where nothing has happened is well formed, with at most eight masters and one to four backups.
 pub fn new_lanes_are_well_formed()
@@ -25,11 +26,15 @@ pub fn new_lanes_are_well_formed()
 {}
 
 /// A well formed lane stays so at each event that may happen there, is not refused and leaves another master alive, where the
-/// lane has room before and after it. The greatest number fits by itself then.
+/// lane has room before and after it. The greatest number fits by itself then, and so do the bytes of all logs where at most
+/// an entry is appended.
 pub fn events_keep_lanes_well_formed()
     ensures number { (w : World) (event : Event) (called : Called)
         → IsWellFormed w → HasRoom w → refusal w event ≡ None → IsCalmEvent w event → MayCome called → MayHappen w event
         → (happened w event called).world.top < MOST_NUMBER }
+    ensures bytes { (w : World) (event : Event) (called : Called)
+        → IsWellFormed w → HasRoom w → MayHappen w event → refusal w event ≡ None → IsPlainEvent w event
+        → bytes_of_logs (happened w event called).world < MOST_BYTES }
     ensures event { (w : World) (event : Event) (called : Called)
         → MayHappen w event → MayCome called → IsCalmEvent w event → refusal w event ≡ None
         → HasRoom w → HasRoom (happened w event called).world

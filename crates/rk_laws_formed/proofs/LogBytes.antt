@@ -1,0 +1,197 @@
+-- How many bytes a master's segments and side logs have after a step: where nothing is appended no more than before, and an entry more
+-- where one is.
+use Rattle.std.proofs.Common.{◌≡◌, ◌≤◌, ◌+◌, ◌==◌, ◌&&◌, ◌^◌, ℕ, cond, not, T, List, [], ◌∷◌, ◌++◌, length, map, sum, Option, None, Some, refl, sym, subst, ap, ◌∙◌, arith}
+use Rattle.std.specs.Cmp.{ranked}
+use Rattle.std.specs.FinMap.Entries.{below_all, by_order}
+use Rattle.std.specs.List.{sum_by}
+use Rattle.std.specs.Ordering.{is_eq, nat_cmp}
+use Rattle.std.specs.declared.cmp.Ordering.TheVariants.{Less, Equal, Greater}
+use Rattle.std.proofs.lemmas.Bool.{cond_both}
+use Rattle.std.proofs.lemmas.List.Sums.{sum-map, sum_by-append, sum_by-cons}
+use Rattle.rk_types.specs.NumberMap.{IsInOrder, NumberMap, get, insert}
+use Rattle.rk_types.specs.Range.{meets}
+use Rattle.rk_types.specs.declared.range.Range.{Range}
+use Rattle.rk_entry.specs.Spelling.{spelled}
+use Rattle.rk_entry.specs.declared.entry.Entry.{Entry}
+use Rattle.rk_world.specs.Handovers.{given_up, with_others_given_up}
+use Rattle.rk_world.specs.Master.{Master, log_bytes, tablet_at, unsealed_bytes, with_appended, with_tablet}
+use Rattle.rk_world.specs.Tablet.{Pulling, Tablet, no_tablet, pulling_from}
+use Rattle.std.specs.Prelude.{IfSome, unwrap_or}
+use Rattle.rk_types.specs.Text.{key_fault, value_fault}
+use Rattle.rk_types.specs.declared.held.Held.{Held}
+use Rattle.rk_types.specs.declared.text.TheConstants.{LONGEST_KEY, LONGEST_VALUE}
+use Rattle.rk_entry.proofs.Sizes.{spelled_count}
+use Rattle.rk_entry.proofs.TextLaws.{text_within}
+use Rattle.rk_entry.specs.Entries.{spelled_all}
+use Rattle.rk_entry.specs.Kinds.{is_marked, kind_of}
+use Rattle.rk_entry.specs.Lengths.{value_count}
+use Rattle.rk_entry.specs.Spelling.{mark_count}
+use Rattle.rk_entry.specs.declared.entry.Carried.{Carried}
+use Rattle.rk_entry.specs.declared.entry.Entry.TheVariants as entries
+use Rattle.rk_entry.specs.declared.entry.Refused.{Refused}
+use Rattle.rk_entry.specs.declared.kind.Kind.{Kind}
+use Rattle.rk_entry.specs.declared.kind.TheConstants.{MARK_BYTES}
+use Rattle.rk_world.specs.Formed.{MOST_BASE_CLIENTS}
+use Rattle.rk_world.specs.Material.{as_entries}
+use Rattle.rk_world.specs.Refusals.{MOST_CLIENTS}
+use Rattle.rk_laws_formed.proofs.Bounds.{within_sum_of}
+use Rattle.rk_laws_formed.proofs.Sealing.{none_spelled}
+use Rattle.rk_laws_formed.proofs.Maps.{above_all, first, second}
+use Rattle.rk_laws_formed.proofs.Sizes.{bytes_spelled}
+
+-- ---- a map by number
+
+-- the size of what is under a number, 0 where nothing is
+abbrev pub size_found : {X : Type 0} → (X → ℕ) → Option X → ℕ
+size_found size None = 0
+size_found size (Some thing) = size thing
+
+-- nothing is under a number that is below all
+none_below : {X : Type 0} (size : X → ℕ) (n : ℕ) (things : NumberMap X) → T (below_all nat_cmp n things) → (q : ℕ) → q ≤ n → (found : Option X) → get things q ≡ found → size_found size found ≡ 0
+none_below size n things below q up None is = refl
+none_below size n things below q up (Some thing) is =
+    let above = above_all n things q thing below is in
+    absurd (omega arith)
+
+-- a thing under a number counts in place of what was there
+pub sum_inserted : {X : Type 0} (size : X → ℕ) (things : NumberMap X) (number : ℕ) (thing : X) → IsInOrder things → sum_by (λ entry. size entry.1) (insert things number thing) + size_found size (get things number) ≡ sum_by (λ entry. size entry.1) things + size thing
+sum_inserted {X} size [] number thing order =
+    omega (arith, sum_by-cons (λ (entry : ℕ × X). size entry.1) (number, thing) [])
+sum_inserted {X} size (here ∷ things) number thing order =
+    let whole = sum_by-cons (λ (entry : ℕ × X). size entry.1) here things in
+    let rest = sum_inserted size things number thing (second (below_all nat_cmp here.0 things) _ order) in
+    elim (nat_cmp number here.0) as (λ o. nat_cmp number here.0 ≡ o → sum_by (λ (entry : ℕ × X). size entry.1) (by_order o ((number, thing) ∷ here ∷ things) ((here.0, thing) ∷ things) (here ∷ insert things number thing)) + size_found size (cond (is_eq o) (Some here.1) (get things number)) ≡ sum_by (λ (entry : ℕ × X). size entry.1) (here ∷ things) + size thing) [
+      | Less ↦ λ is.
+          let less = ranked number here.0 Less (sym is) in
+          omega (
+            arith,
+            sum_by-cons (λ (entry : ℕ × X). size entry.1) (number, thing) (here ∷ things),
+            none_below size here.0 things (first (below_all nat_cmp here.0 things) _ order) number (omega arith) (get things number) refl,
+          )
+      | Equal ↦ λ is. omega (arith, whole, sum_by-cons (λ (entry : ℕ × X). size entry.1) (here.0, thing) things)
+      | Greater ↦ λ is. omega (arith, whole, rest, sum_by-cons (λ (entry : ℕ × X). size entry.1) here (insert things number thing))
+    ]
+    refl
+
+-- and in any map no more than beside all that is there
+sum_inserted_most : {X : Type 0} (size : X → ℕ) (things : NumberMap X) (number : ℕ) (thing : X) → sum_by (λ entry. size entry.1) (insert things number thing) ≤ sum_by (λ entry. size entry.1) things + size thing
+sum_inserted_most {X} size [] number thing =
+    omega (arith, sum_by-cons (λ (entry : ℕ × X). size entry.1) (number, thing) [])
+sum_inserted_most {X} size (here ∷ things) number thing =
+    let whole = sum_by-cons (λ (entry : ℕ × X). size entry.1) here things in
+    let rest = sum_inserted_most size things number thing in
+    elim (nat_cmp number here.0) as (λ o. sum_by (λ (entry : ℕ × X). size entry.1) (by_order o ((number, thing) ∷ here ∷ things) ((here.0, thing) ∷ things) (here ∷ insert things number thing)) ≤ sum_by (λ (entry : ℕ × X). size entry.1) (here ∷ things) + size thing) [
+      | Less ↦ omega (arith, sum_by-cons (λ (entry : ℕ × X). size entry.1) (number, thing) (here ∷ things))
+      | Equal ↦ omega (arith, whole, sum_by-cons (λ (entry : ℕ × X). size entry.1) (here.0, thing) things)
+      | Greater ↦ omega (arith, whole, rest, sum_by-cons (λ (entry : ℕ × X). size entry.1) here (insert things number thing))
+    ]
+
+pub inserted_most : {X : Type 0} (size : X → ℕ) (things : NumberMap X) (number : ℕ) (thing : X) → sum (map (λ entry. size entry.1) (insert things number thing)) ≤ sum (map (λ entry. size entry.1) things) + size thing
+inserted_most size things number thing =
+    omega (
+      arith,
+      sum_inserted_most size things number thing,
+      sum-map (λ entry. size entry.1) things,
+      sum-map (λ entry. size entry.1) (insert things number thing),
+    )
+
+-- ---- a tablet
+
+-- workers that have pulled nothing have no bytes
+none_pulled : (none : List Held) → none ≡ [] → sum (map (λ items. length (spelled_all (as_entries items))) (none ∷ none ∷ none ∷ none ∷ [])) ≡ 0
+none_pulled none is =
+    let bytes : length (spelled_all (as_entries none)) ≡ 0 =
+    ap (λ (items : List Held). length (spelled_all (as_entries items))) is ∙ ap (λ (l : List ℕ). length l) none_spelled in
+    subst (λ (n : ℕ). sum (n ∷ n ∷ n ∷ n ∷ []) ≡ 0) (sym bytes) refl
+
+-- a tablet for which nothing is pulled has none
+pub pulls_none : (tablet : Tablet) (source : ℕ) → tablet.pulling ≡ pulling_from source → unsealed_bytes tablet ≡ 0
+pulls_none tablet source is =
+    subst (λ (pulling : Pulling). sum (map (λ items. length (spelled_all (as_entries items))) pulling.sides) ≡ 0) (sym is) (none_pulled [] refl)
+
+-- a tablet of a master has no more than the master
+pub unsealed_at_most : (master : Master) (id : ℕ) → unsealed_bytes (tablet_at master id) ≤ log_bytes master
+unsealed_at_most master id = go (get master.tablets id) refl
+  where
+    go : (found : Option Tablet) → get master.tablets id ≡ found → unsealed_bytes (unwrap_or found no_tablet) ≤ log_bytes master
+    go None is = omega (arith, pulls_none no_tablet 0 refl)
+    go (Some tablet) is = omega (arith, within_sum_of unsealed_bytes master.tablets id tablet is)
+
+-- ---- a master that changes
+
+-- one of its tablets is so
+pub bytes_with_tablet : (master : Master) (id : ℕ) (tablet : Tablet) → log_bytes (with_tablet master id tablet) ≤ log_bytes master + unsealed_bytes tablet
+bytes_with_tablet master id tablet = omega (arith, inserted_most unsealed_bytes master.tablets id tablet)
+
+-- an entry is appended
+pub bytes_appended : (master : Master) (entry : Entry) → log_bytes (with_appended master entry) ≡ log_bytes master + length (spelled entry)
+bytes_appended master entry =
+    omega (
+      arith,
+      bytes_spelled (master.log.entries ++ entry ∷ []),
+      bytes_spelled master.log.entries,
+      sum_by-append (λ (e : Entry). length (spelled e)) master.log.entries (entry ∷ []),
+      sum_by-cons (λ (e : Entry). length (spelled e)) entry [],
+    )
+
+-- each other tablet of a range is given up
+given_up_less : (id : ℕ) (range : Range) (tablets : NumberMap Tablet)
+    → sum_by (λ (entry : ℕ × Tablet). unsealed_bytes entry.1) (map (λ (entry : ℕ × Tablet). (entry.0, cond (not (entry.0 == id) && meets entry.1.handover.range range) (given_up entry.1) entry.1)) tablets) ≤ sum_by (λ (entry : ℕ × Tablet). unsealed_bytes entry.1) tablets
+given_up_less id range [] = omega arith
+given_up_less id range (here ∷ rest) =
+    let now : ℕ × Tablet = (here.0, cond (not (here.0 == id) && meets here.1.handover.range range) (given_up here.1) here.1) in
+    let less = cond_both (not (here.0 == id) && meets here.1.handover.range range) (given_up here.1) here.1 (λ (tablet : Tablet). unsealed_bytes tablet ≤ unsealed_bytes here.1)
+    (λ is. omega (arith, pulls_none (given_up here.1) here.1.pulling.source refl)) (λ other. omega arith) in
+    omega (
+      arith,
+      less,
+      given_up_less id range rest,
+      sum_by-cons (λ (entry : ℕ × Tablet). unsealed_bytes entry.1) here rest,
+      sum_by-cons (λ (entry : ℕ × Tablet). unsealed_bytes entry.1) now
+          (map (λ (entry : ℕ × Tablet). (entry.0, cond (not (entry.0 == id) && meets entry.1.handover.range range) (given_up entry.1) entry.1)) rest),
+    )
+
+pub bytes_given_up : (master : Master) (id : ℕ) (range : Range) → log_bytes (with_others_given_up master id range) ≤ log_bytes master
+bytes_given_up master id range =
+    omega (
+      arith,
+      given_up_less id range master.tablets,
+      sum-map (λ (entry : ℕ × Tablet). unsealed_bytes entry.1) master.tablets,
+      sum-map (λ (entry : ℕ × Tablet). unsealed_bytes entry.1) (with_others_given_up master id range).tablets,
+    )
+
+-- ---- entries
+
+-- an entry that a request or a grant leaves is no longer than this
+abbrev pub LONGEST_LEFT : ℕ
+LONGEST_LEFT = 2 ^ 20
+
+mark_few : (kind : Kind) → mark_count kind ≤ 1
+mark_few kind = cond_both (is_marked kind) MARK_BYTES 0 (λ (n : ℕ). n ≤ 1) (λ is. omega arith) (λ is. omega arith)
+
+value_few : (value : Option (List ℕ)) → IfSome value (λ value. value_fault value ≡ None) → value_count value ≤ 2 ^ 17
+value_few None fits = omega arith
+value_few (Some value) fits = omega (arith, (text_within 0 LONGEST_VALUE value fits).1)
+
+pub held_short : (held : Held) → key_fault held.key ≡ None → IfSome held.value (λ value. value_fault value ≡ None) → length (spelled (entries.Held held)) ≤ LONGEST_LEFT
+held_short held key value =
+    omega (
+      arith,
+      spelled_count (entries.Held held),
+      mark_few (kind_of (entries.Held held)),
+      (text_within 1 LONGEST_KEY held.key key).1,
+      value_few held.value value,
+    )
+
+pub refused_short : (refused : Refused) → key_fault refused.key ≡ None → length (spelled (entries.Refused refused)) ≤ LONGEST_LEFT
+refused_short refused key =
+    omega (
+      arith,
+      spelled_count (entries.Refused refused),
+      mark_few (kind_of (entries.Refused refused)),
+      (text_within 1 LONGEST_KEY refused.key key).1,
+    )
+
+pub carried_short : (carried : Carried) → length carried.ends ≤ MOST_CLIENTS + MOST_BASE_CLIENTS → length (spelled (entries.Carried carried)) ≤ LONGEST_LEFT
+carried_short carried few =
+    omega (arith, few, spelled_count (entries.Carried carried), mark_few (kind_of (entries.Carried carried)))

@@ -1,0 +1,251 @@
+-- How many bytes a master has after a message or its turn, where no side log and no copy is appended: for a request and a grant an entry
+-- more, and at most as many again for each tablet that changes.
+use Rattle.std.proofs.Common.{◌≤◌, ◌<◌, ◌+◌, ◌*◌, ◌==◌, ℕ, Bool, true, false, cond, [], length, Option, None, Some, refl, ap, arith}
+use Rattle.std.specs.Prelude.{⊤}
+use Rattle.std.proofs.lemmas.Bool.{cond_both}
+use Rattle.std.proofs.lemmas.List.Elements.{All-weaker}
+use Rattle.rk_types.specs.Hashing.{hash_of}
+use Rattle.rk_types.specs.NumberMap.{IsInOrder}
+use Rattle.rk_types.specs.declared.call.Call.{Call}
+use Rattle.rk_types.specs.declared.node.Node.{Node}
+use Rattle.rk_types.specs.declared.node.Node.TheVariants as nodes
+use Rattle.rk_entry.specs.declared.entry.Entry.TheVariants as entries
+use Rattle.rk_message.specs.declared.handover.Grant.{Grant}
+use Rattle.rk_message.specs.declared.handover.Prepare.{Prepare}
+use Rattle.rk_message.specs.declared.handover.Tenure.{Tenure}
+use Rattle.rk_message.specs.declared.message.Body.{Body}
+use Rattle.rk_message.specs.declared.message.Body.TheVariants as bodies
+use Rattle.rk_transfer.specs.Handover.{closed, frozen, granted, owned, prepared, released}
+use Rattle.rk_transfer.specs.declared.handover.Handover.{Handover}
+use Rattle.rk_transfer.specs.declared.role.Role.{Role}
+use Rattle.rk_transfer.specs.declared.role.Role.TheVariants as roles
+use Rattle.rk_world.specs.declared.choice.Choice.{Choice}
+use Rattle.rk_world.specs.declared.choice.Choice.TheVariants.{Redirects, Repeats, Ignores, Wants, Reads, Writes, Refuses}
+use Rattle.rk_world.specs.Formed.{IsFormedMaster, MOST_BASE_CLIENTS}
+use Rattle.rk_world.specs.Handovers as handovers
+use Rattle.rk_world.specs.Limits.{IsClient, IsFormedBody, IsFormedEnd, IsFormedGrant, Limits}
+use Rattle.rk_world.specs.Master.{Master, is_settled, log_bytes, tablet_at, unsealed_bytes, with_appended, with_call, with_tablet, without_items}
+use Rattle.rk_world.specs.MasterStep.{backup_message, client_message, order, peer_message, told_master}
+use Rattle.rk_world.specs.Premises.{IsLawfulCall}
+use Rattle.rk_world.specs.Refusals.{MOST_CLIENTS, WORN_BYTES}
+use Rattle.rk_world.specs.Requests.{call_of, choice_of, chosen, counted_up, item_of, refusal_of, with_staged, with_wanted}
+use Rattle.rk_world.specs.Ranges.{range_below, range_from}
+use Rattle.rk_world.specs.Splits.{has_parts, with_half, with_halves, with_split}
+use Rattle.rk_world.specs.Tablet.{Tablet, pulling_from, with_handover, without_merged}
+use Rattle.rk_done.specs.Completions.{completions_from}
+use Rattle.rk_world.specs.Waiting.{freezing, tablet_frozen}
+use Rattle.rk_world.specs.RoleTests.{is_frozen_at}
+use Rattle.rk_world.specs.Worked.{Worked, changed, sending}
+use Rattle.rk_laws_formed.proofs.LogBytes.{bytes_appended, bytes_given_up, bytes_with_tablet, carried_short, held_short, pulls_none, refused_short, unsealed_at_most}
+use Rattle.rk_laws_formed.proofs.Requests.{IsFormedChoice, choice_formed}
+use Rattle.rk_laws_formed.proofs.Rising.{rising_within}
+use Rattle.rk_laws_formed.proofs.Tablets.{tablet_with_same}
+use Rattle.rk_laws_formed.proofs.Work.{AreLimits}
+use Rattle.rk_log.specs.Log.{overreach}
+use Rattle.rk_laws_formed.specs.Plain.{IsPlainBody}
+use Rattle.rk_laws_formed.proofs.TurnBytes.{stored_bytes}
+
+-- what a master of a lane that is not worn may have after a step, so that the lane's logs fit
+abbrev pub BytesFit : Master → Type 0
+BytesFit master = log_bytes master < 3 * WORN_BYTES
+
+same_unsealed : (master : Master) (id : ℕ) (tablet : Tablet) → unsealed_bytes tablet ≤ log_bytes master → log_bytes (with_tablet master id tablet) ≤ log_bytes master + log_bytes master
+same_unsealed master id tablet few = omega (arith, few, bytes_with_tablet master id tablet)
+
+-- a tablet freezes, or stays
+freezing_bytes : (master : Master) (id : ℕ) (tablet : Tablet) (moved : Option Handover) → log_bytes (freezing master id tablet moved) ≤ log_bytes master + unsealed_bytes tablet
+freezing_bytes master id tablet None = omega arith
+freezing_bytes master id tablet (Some handover) =
+    cond_both (is_settled master tablet.handover.range) (tablet_frozen master id tablet handover) master
+    (λ (now : Master). log_bytes now ≤ log_bytes master + unsealed_bytes tablet)
+    (λ settled. bytes_with_tablet master id (with_handover tablet handover)) (λ staged. omega arith)
+
+module _ (master : Master) (below : log_bytes master < WORN_BYTES) where
+  kept : BytesFit master
+  kept = omega (arith, below)
+
+  tested : (b : Bool) (x y : Worked) → BytesFit x.master → BytesFit y.master → BytesFit (cond b x y).master
+  tested true x y left right = left
+  tested false x y left right = right
+
+  -- ---- a request
+
+  chosen_fits : (limits : Limits) (asked : ℕ) (call : Call) (choice : Choice) → IsLawfulCall call → IsFormedChoice limits master choice → BytesFit (chosen master asked call choice).master
+  chosen_fits limits asked call Redirects lawful formed = kept
+  chosen_fits limits asked call (Repeats end) lawful formed = kept
+  chosen_fits limits asked call Ignores lawful formed = kept
+  chosen_fits limits asked call (Wants id) lawful formed =
+      omega (arith, below, same_unsealed master id (with_wanted (tablet_at master id) (hash_of call.key)) (unsealed_at_most master id))
+  chosen_fits limits asked call (Reads outcome) lawful formed = kept
+  chosen_fits limits asked call (Writes id value) lawful formed =
+      let item = item_of call (tablet_at master id).handover.counter value in
+      omega (
+        arith,
+        below,
+        bytes_with_tablet (with_staged master call (entries.Held item)) id (counted_up (tablet_at master id)),
+        bytes_appended (with_call master call) (entries.Held item),
+        held_short item lawful.key formed.1,
+        unsealed_at_most master id,
+      )
+  chosen_fits limits asked call (Refuses found absent) lawful formed =
+      omega (
+        arith,
+        below,
+        bytes_appended (with_call master call) (refusal_of call found absent),
+        refused_short (record { table = call.table; found = found; client = call.client; seq = call.seq; absent = absent; key = call.key }) lawful.key,
+      )
+
+  -- ---- handovers
+
+  moved_fits : (now : Master) (id : ℕ) (moved : Option Handover) → log_bytes now ≤ log_bytes master → BytesFit (handovers.with_move now id moved)
+  moved_fits now id None few = omega (arith, few, below)
+  moved_fits now id (Some handover) few =
+      omega (
+        arith,
+        few,
+        below,
+        same_unsealed now id (without_merged (with_handover (tablet_at now id) handover)) (unsealed_at_most now id),
+      )
+
+  again_fits : (tenure : Tenure) (role : Role) (term : ℕ) → BytesFit (handovers.ready_again master tenure role term).master
+  again_fits tenure (roles.Wanting from) term = tested (term == tenure.term) _ _ kept kept
+  again_fits tenure roles.Absent term = kept
+  again_fits tenure roles.Serving term = kept
+  again_fits tenure roles.Closing term = kept
+  again_fits tenure roles.Frozen term = kept
+  again_fits tenure roles.Receiving term = kept
+  again_fits tenure (roles.Joining entry) term = kept
+  again_fits tenure (roles.Rebuilding from entry) term = kept
+
+  prepare_fits : (prepare : Prepare) → BytesFit (handovers.prepare_taken master prepare).master
+  prepare_fits prepare =
+      let id = prepare.tenure.tablet in
+      let now = handovers.with_others_given_up (without_items master prepare.range) id prepare.range in
+      tested (handovers.is_greater master id prepare.tenure.term prepare.range) _ _
+      (moved_fits now id (prepared (tablet_at now id).handover prepare.tenure.term prepare.range (length master.log.entries))
+      (bytes_given_up (without_items master prepare.range) id prepare.range))
+      (again_fits prepare.tenure (tablet_at master id).handover.role (tablet_at master id).handover.term)
+
+  closing_fits : (id : ℕ) (moved : Option Handover) → BytesFit (handovers.closing master id moved)
+  closing_fits id None = kept
+  closing_fits id (Some handover) =
+      let closing : Tablet = without_merged (with_handover (tablet_at master id) handover) in
+      let now = with_tablet master id closing in
+      omega (
+        arith,
+        below,
+        freezing_bytes now id (tablet_at now id) (frozen handover handover.term),
+        same_unsealed master id closing (unsealed_at_most master id),
+        ap unsealed_bytes (tablet_with_same master id closing),
+        unsealed_at_most master id,
+      )
+
+  transferring_fits : (now : Master) (tenure : Tenure) → BytesFit now → BytesFit (handovers.transferring now tenure).master
+  transferring_fits now tenure fits =
+      let tablet = tablet_at now tenure.tablet in
+      cond_both (is_frozen_at tablet tenure.term) (sending now (handovers.transfer now tenure tablet)) (changed now)
+      (λ (worked : Worked). BytesFit worked.master) (λ is. fits) (λ other. fits)
+
+  close_fits : (tenure : Tenure) → BytesFit (handovers.close_taken master tenure).master
+  close_fits tenure =
+      transferring_fits (handovers.closing master tenure.tablet (closed (tablet_at master tenure.tablet).handover tenure.term)) tenure
+      (closing_fits tenure.tablet (closed (tablet_at master tenure.tablet).handover tenure.term))
+
+  granting_fits : (limits : Limits) (grant : Grant) (moved : Option Handover) → AreLimits limits → IsFormedGrant limits grant → BytesFit (handovers.granting master grant moved).master
+  granting_fits limits grant None are told = kept
+  granting_fits limits grant (Some handover) are told =
+      omega (
+        arith,
+        below,
+        are.clients,
+        bytes_with_tablet (with_appended master (handovers.carried_entry handover grant)) grant.tenure.tablet granted_tablet,
+        pulls_none granted_tablet grant.source refl,
+        bytes_appended master (handovers.carried_entry handover grant),
+        carried_short (record { range = handover.range; term = handover.term; floor = grant.floor; ends = grant.ends }) few,
+      )
+    where
+      few : length grant.ends ≤ MOST_CLIENTS + MOST_BASE_CLIENTS
+      few =
+          omega (
+            arith,
+            are.clients,
+            rising_within grant.ends limits.clients told.told.rising
+                (All-weaker (IsFormedEnd limits) (λ end. IsClient limits end.client) (λ end formed. formed.client) grant.ends told.told.each),
+          )
+
+      granted_tablet : Tablet
+      granted_tablet = record (without_merged (tablet_at master grant.tenure.tablet)) {
+        handover = handover;
+        completions = completions_from [] grant.ends;
+        pulling = pulling_from grant.source;
+      }
+
+  owning_fits : (id : ℕ) (moved : Option Handover) → BytesFit (handovers.owning master id moved).master
+  owning_fits id None = kept
+  owning_fits id (Some handover) =
+      let tablet : Tablet = record (without_merged (tablet_at master id)) { handover = handover; pulling = pulling_from 0 } in
+      omega (arith, below, bytes_with_tablet master id tablet, pulls_none tablet 0 refl)
+
+  releasing_fits : (id : ℕ) (moved : Option Handover) → BytesFit (handovers.releasing master id moved).master
+  releasing_fits id None = kept
+  releasing_fits id (Some handover) = moved_fits (without_items master handover.range) id (Some handover) (omega arith)
+
+  -- ---- what a master makes of a message
+
+  client_fits : (limits : Limits) (number client : ℕ) (body : Body) → IsFormedMaster limits number master → IsFormedBody limits (nodes.Client client) body → BytesFit (client_message master client body).master
+  client_fits limits number client (bodies.Request request) formed says =
+      chosen_fits limits request.tablet (call_of client request) (choice_of master (call_of client request)) says.call
+      (choice_formed limits number master (call_of client request) formed says.call)
+  client_fits limits number client _ formed says = kept
+
+  order_fits : (limits : Limits) (body : Body) → AreLimits limits → IsFormedBody limits nodes.Coordinator body → IsPlainBody master body → BytesFit (order master body).master
+  order_fits limits (bodies.Prepare prepare) are says plain = prepare_fits prepare
+  order_fits limits (bodies.Close tenure) are says plain = close_fits tenure
+  order_fits limits (bodies.Grant grant) are says plain =
+      granting_fits limits grant (granted (tablet_at master grant.tenure.tablet).handover grant.tenure.term grant.floor) are says
+  order_fits limits (bodies.Own tenure) are says plain =
+      owning_fits tenure.tablet (owned (tablet_at master tenure.tablet).handover tenure.term master.applied)
+  order_fits limits (bodies.Release tenure) are says plain =
+      releasing_fits tenure.tablet (released (tablet_at master tenure.tablet).handover tenure.term)
+  order_fits limits (bodies.Rebuild rebuild) are says plain = absurd plain
+  order_fits limits _ are says plain = kept
+
+  peer_fits : (sender : ℕ) (body : Body) → IsPlainBody master body → BytesFit (peer_message master (nodes.Master sender) body).master
+  peer_fits sender (bodies.Pull pull) plain =
+      tested (is_frozen_at (tablet_at master pull.tenure.tablet) pull.tenure.term) _ (changed master) kept kept
+  peer_fits sender (bodies.Want want) plain =
+      tested (is_frozen_at (tablet_at master want.tenure.tablet) want.tenure.term) _ (changed master) kept kept
+  peer_fits sender (bodies.Pulled pulled) plain = absurd plain
+  peer_fits sender (bodies.Got message) plain = absurd plain
+  peer_fits sender _ plain = kept
+
+  backup_fits : (backup : ℕ) (body : Body) → IsInOrder master.tablets → IsPlainBody master body → BytesFit (backup_message master backup body).master
+  backup_fits backup (bodies.Stored stored) order plain =
+      omega (arith, below, stored_bytes master backup stored (overreach master.log stored.segment stored.length) order plain)
+  backup_fits backup (bodies.Copy copy) order plain = absurd plain
+  backup_fits backup _ order plain = kept
+
+  -- a message that appends at most an entry
+  pub told_bytes : (limits : Limits) (number : ℕ) (sender : Node) (body : Body) → AreLimits limits → IsFormedMaster limits number master → IsFormedBody limits sender body → IsPlainBody master body → BytesFit (told_master master sender body).master
+  told_bytes limits number (nodes.Client client) body are formed says plain = client_fits limits number client body formed says
+  told_bytes limits number nodes.Coordinator body are formed says plain = order_fits limits body are says plain
+  told_bytes limits number (nodes.Master sender) body are formed says plain = peer_fits sender body plain
+  told_bytes limits number (nodes.Backup backup) body are formed says plain = backup_fits backup body formed.tablets_order plain
+
+-- ---- a split
+
+-- both parts of a tablet have its items
+pub split_bytes : (master : Master) (tablet at new term : ℕ) → log_bytes (with_split master tablet at new term) ≤ 3 * log_bytes master
+split_bytes master tablet at new term =
+    let it = tablet_at master tablet in
+    let lower = with_half it (range_below it.handover.range at) term in
+    let upper = with_half it (range_from it.handover.range at) term in
+    cond_both (has_parts it.handover.range at) (with_halves master tablet it at new term) master (λ (now : Master). log_bytes now ≤ 3 * log_bytes master)
+    (λ parts.
+    omega (
+      arith,
+      unsealed_at_most master tablet,
+      bytes_with_tablet master tablet lower,
+      bytes_with_tablet (with_tablet master tablet lower) new upper,
+    ))
+    (λ whole. omega arith)
