@@ -1,7 +1,7 @@
 -- The bytes of all logs of a lane fit after each event but those by which a master may append more than an entry: where it is told
 -- Pulled, Got, Rebuild or Copy, or Stored while a tablet of its own waits for its side segments.
 use Rattle.std.proofs.Common.{◌≡◌, ◌≤◌, ◌<◌, ◌+◌, ℕ, false, Option, None, Some, [], refl, subst, arith}
-use Rattle.std.specs.Prelude.{IfSome, unwrap_or, ⊤}
+use Rattle.std.specs.Prelude.{IfSome, unwrap_or}
 use Rattle.std.proofs.lemmas.Bool.{cond_both}
 use Rattle.rk_types.specs.NumberMap.{get}
 use Rattle.rk_types.specs.declared.node.Node.{Node}

@@ -1,7 +1,6 @@
 -- How many bytes a master has after a message or its turn, where no side log and no copy is appended: for a request and a grant an entry
 -- more, and at most as many again for each tablet that changes.
 use Rattle.std.proofs.Common.{◌≤◌, ◌<◌, ◌+◌, ◌*◌, ◌==◌, ℕ, Bool, true, false, cond, [], length, Option, None, Some, refl, ap, arith}
-use Rattle.std.specs.Prelude.{⊤}
 use Rattle.std.proofs.lemmas.Bool.{cond_both}
 use Rattle.std.proofs.lemmas.List.Elements.{All-weaker}
 use Rattle.rk_types.specs.Hashing.{hash_of}

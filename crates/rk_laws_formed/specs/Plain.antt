@@ -1,5 +1,5 @@
 -- Events by which at most an entry is appended, so that the logs of a lane that is not worn fit after them.
-use Rattle.std.specs.Prelude.{⊤, ⊥, None, All, IfSome}
+use Rattle.std.specs.Prelude.{⊤, None, All, IfSome}
 use Rattle.rk_types.specs.NumberMap.{get}
 use Rattle.rk_types.specs.declared.node.Node.{Node}
 use Rattle.rk_types.specs.declared.node.Node.TheVariants as nodes
