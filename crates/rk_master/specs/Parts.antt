@@ -23,7 +23,7 @@ abbrev pub tablet_of : TabletLane → Tablet
 tablet_of lane = record no_tablet {
   handover = lane.handover;
   completions = lane.completions.completions;
-  pulling = record (pulling_from 0) { token = lane.token; hashes = lane.wanted; sealed = lane.sealed };
+  pulling = record (pulling_from lane.source) { token = lane.token; hashes = lane.wanted; sealed = lane.sealed };
 }
 
 -- the tablets by number

@@ -4,16 +4,18 @@ ghost use Rattle.rk_world.specs.Master.{new_master};
 ghost use Rattle.rk_world.specs.Premises.{IsLawfulCall};
 ghost use Rattle.rk_log.specs.Log.{IsBackup, overreach};
 ghost use Rattle.rk_world.specs.Commits.{stored_taken};
+ghost use Rattle.rk_world.specs.Handovers.{close_taken};
 ghost use Rattle.rk_world.specs.Requests.{call_of, request_taken};
 ghost use Rattle.rk_world.specs.Step.{with_added};
 
+use crate::orders::take_close;
 use crate::requests::take_request;
 use crate::state::MasterState;
 use crate::stored::take_stored;
 use crate::tablets::serve;
 use crate::work::Worked;
 use rk_log::MOST_BACKUPS;
-use rk_message::{Request, Stored};
+use rk_message::{Request, Stored, Tenure};
 use rk_types::{NoMemory, Range};
 use std::alloc::Global;
 use std::marker::Model;
@@ -94,6 +96,22 @@ impl MasterLane {
         }
         self.spent = true;
         let work = take_stored(&mut self.state, backup, stored)?;
+        self.spent = false;
+        Ok(work)
+    }
+
+    /// Takes the coordinator's order to close a tablet: it answers no more calls, and once nothing of it is staged it is
+    /// frozen, and what its next owner has to know is told, also again. After `NoMemory` the master is spent. A binary
+    /// search, a step for each staged entry, and one for each client where that is told.
+    pub fn take_close(&mut self, tenure: Tenure) -> Result<Worked, NoMemory>
+        ensures ok { IfOk result (λ work. IsSomeAnd self.old (λ master. IsWork (close_taken master tenure) self.new work)) }
+        ensures err { OnErr result (self.new ≡ None) }
+    {
+        if self.spent {
+            return Err(NoMemory);
+        }
+        self.spent = true;
+        let work = take_close(&mut self.state, tenure)?;
         self.spent = false;
         Ok(work)
     }
