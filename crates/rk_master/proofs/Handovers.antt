@@ -1,21 +1,23 @@
 -- What the coordinator's orders do, at the place of their tablet.
-use Rattle.std.proofs.Common.{◌≡◌, ℕ, ◌<◌, Bool, true, false, cond, ltb, List, [], ◌∷◌, length, get_or, set, slice_get, Option, Some, None, is_some, unwrap_or, refl, sym, ap, ◌∙◌, arith}
+use Rattle.std.proofs.Common.{◌≡◌, ℕ, ◌<◌, Bool, true, false, cond, eqb, ltb, List, [], ◌∷◌, length, get_or, set, slice_get, Option, Some, None, is_some, unwrap_or, refl, sym, ap, ◌∙◌, arith}
 use Rattle.std.proofs.lemmas.Bool.{cond-true, cond-false, false≢true}
 use Rattle.std.proofs.lemmas.List.{get_or-set_same, set-get_or}
 use Rattle.std.proofs.lemmas.Option.{slice_get-get_or}
 use Rattle.std.proofs.Math.ListN.{length-set}
 use Rattle.rk_types.specs.NumberMap.{NumberMap, IsInOrder, get, insert}
 use Rattle.rk_types.proofs.NumberMaps.{get_same}
-use Rattle.rk_transfer.specs.Handover.{closed, frozen, in_role, role_closed}
+use Rattle.rk_types.specs.declared.held.Held.{Held}
+use Rattle.rk_table.specs.Items.{without}
+use Rattle.rk_transfer.specs.Handover.{closed, frozen, owned, released, in_role, role_closed, role_owned, role_released}
 use Rattle.rk_transfer.specs.declared.handover.Handover.{Handover}
 use Rattle.rk_transfer.specs.declared.role.Role.{Role}
 use Rattle.rk_transfer.specs.declared.role.Role.TheVariants as roles
 use Rattle.rk_message.specs.declared.handover.Tenure.{Tenure}
 use Rattle.rk_message.specs.declared.message.Message.{Message}
-use Rattle.rk_world.specs.Handovers.{closing, close_taken, transfer, transferring, with_move}
-use Rattle.rk_world.specs.Master.{Master, tablet_at}
+use Rattle.rk_world.specs.Handovers.{closing, close_taken, owning, own_taken, releasing, release_taken, transfer, transferring, with_move}
+use Rattle.rk_world.specs.Master.{Master, tablet_at, without_items}
 use Rattle.rk_world.specs.RoleTests.{is_frozen_at}
-use Rattle.rk_world.specs.Tablet.{Tablet, no_tablet, with_handover, without_merged}
+use Rattle.rk_world.specs.Tablet.{Tablet, no_tablet, pulling_from, with_handover, without_merged}
 use Rattle.rk_world.specs.Waiting.{freezing}
 use Rattle.rk_world.specs.Worked.{Worked, changed, sending}
 use Rattle.rk_master.specs.declared.tablet_lane.TabletLane.{TabletLane}
@@ -41,21 +43,68 @@ pub stays_so : (moved : Option Handover) (old new : Handover) → is_some moved 
 stays_so None old new failed is = is
 stays_so (Some after) old new failed is = absurd (false≢true (sym failed))
 
+-- the role that a move turns to
+pub role_is : (handover after : Handover) (role : Role) → in_role handover (Some role) ≡ Some after → after.role ≡ role
+role_is handover after role is =
+    let same : record handover { role = role } ≡ after = cc is in sym (ap (λ (h : Handover). h.role) same)
+
 -- the role after a close
 pub closed_role : (handover after : Handover) (term : ℕ) → closed handover term ≡ Some after → after.role ≡ roles.Closing
 closed_role handover after term is = go (ltb handover.term term) is
   where
     by_role : (role : Role) → in_role (record handover { term = term }) (role_closed role) ≡ Some after → after.role ≡ roles.Closing
     by_role roles.Absent e = cc e
-    by_role roles.Serving e = let same : record handover { term = term; role = roles.Closing } ≡ after = cc e in sym (ap (λ (h : Handover). h.role) same)
+    by_role roles.Serving e = role_is (record handover { term = term }) after roles.Closing e
     by_role roles.Closing e = cc e
     by_role roles.Frozen e = cc e
     by_role (roles.Wanting from) e = cc e
     by_role roles.Receiving e = cc e
-    by_role (roles.Joining entry) e = let same : record handover { term = term; role = roles.Closing } ≡ after = cc e in sym (ap (λ (h : Handover). h.role) same)
-    by_role (roles.Rebuilding from entry) e = let same : record handover { term = term; role = roles.Closing } ≡ after = cc e in sym (ap (λ (h : Handover). h.role) same)
+    by_role (roles.Joining entry) e = role_is (record handover { term = term }) after roles.Closing e
+    by_role (roles.Rebuilding from entry) e = role_is (record handover { term = term }) after roles.Closing e
 
     go : (b : Bool) → cond b (in_role (record handover { term = term }) (role_closed handover.role)) None ≡ Some after → after.role ≡ roles.Closing
+    go true e = by_role handover.role e
+    go false e = cc e
+
+-- after an own
+pub owned_role : (handover after : Handover) (term applied : ℕ) → owned handover term applied ≡ Some after → after.role ≡ roles.Serving
+owned_role handover after term applied is = go (eqb handover.term term) is
+  where
+    by_test : (b : Bool) → in_role handover (cond b (Some roles.Serving) None) ≡ Some after → after.role ≡ roles.Serving
+    by_test true e = role_is handover after roles.Serving e
+    by_test false e = cc e
+
+    by_role : (role : Role) → in_role handover (role_owned applied role) ≡ Some after → after.role ≡ roles.Serving
+    by_role roles.Absent e = cc e
+    by_role roles.Serving e = cc e
+    by_role roles.Closing e = cc e
+    by_role roles.Frozen e = cc e
+    by_role (roles.Wanting from) e = cc e
+    by_role roles.Receiving e = cc e
+    by_role (roles.Joining None) e = cc e
+    by_role (roles.Joining (Some entry)) e = by_test (ltb entry applied) e
+    by_role (roles.Rebuilding from None) e = cc e
+    by_role (roles.Rebuilding from (Some entry)) e = by_test (ltb entry applied) e
+
+    go : (b : Bool) → cond b (in_role handover (role_owned applied handover.role)) None ≡ Some after → after.role ≡ roles.Serving
+    go true e = by_role handover.role e
+    go false e = cc e
+
+-- and after a release
+pub released_role : (handover after : Handover) (term : ℕ) → released handover term ≡ Some after → after.role ≡ roles.Absent
+released_role handover after term is = go (eqb handover.term term) is
+  where
+    by_role : (role : Role) → in_role handover (role_released role) ≡ Some after → after.role ≡ roles.Absent
+    by_role roles.Absent e = cc e
+    by_role roles.Serving e = cc e
+    by_role roles.Closing e = cc e
+    by_role roles.Frozen e = role_is handover after roles.Absent e
+    by_role (roles.Wanting from) e = cc e
+    by_role roles.Receiving e = cc e
+    by_role (roles.Joining entry) e = cc e
+    by_role (roles.Rebuilding from entry) e = cc e
+
+    go : (b : Bool) → cond b (in_role handover (role_released handover.role)) None ≡ Some after → after.role ≡ roles.Absent
     go true e = by_role handover.role e
     go false e = cc e
 
@@ -144,6 +193,43 @@ pub not_told : (master : Master) (tenure : Tenure) (tablet : Tablet) → tablet_
 not_told master tenure tablet there not_frozen =
     sym (ap (telling master tenure) there ∙ cond-false (is_frozen_at tablet tenure.term) (sending master (transfer master tenure tablet)) (changed master) not_frozen)
 
+-- ---- an Own
+
+-- one that does not apply
+pub own_failed : (master : Master) (tenure : Tenure) (tablet : Tablet) → tablet_at master tenure.tablet ≡ tablet → owned tablet.handover tenure.term master.applied ≡ None
+    → changed master ≡ own_taken master tenure
+own_failed master tenure tablet there none =
+    sym (ap (owning master tenure.tablet) (ap (λ (t : Tablet). owned t.handover tenure.term master.applied) there ∙ none))
+
+-- a tablet that is owned
+pub own_made : (master : Master) (rows : List Row) (i : ℕ) (read : Row) (handover : Handover) (lane : TabletLane) (tenure : Tenure)
+    → IsInOrder rows → IsAt tenure.tablet rows i → read ≡ get_or rows i read → owned read.1.handover tenure.term master.applied ≡ Some handover
+    → tablet_of lane ≡ record (tablet_of (moved_lane read.1 handover)) { pulling = pulling_from 0 }
+    → changed (with_rows master (set rows i (read.0, lane))) ≡ own_taken (with_rows master rows) tenure
+own_made master rows i read handover lane tenure order at is moved lane_is =
+    let tablet = tablet_read rows tenure.tablet i read order at is in
+    ap (λ (tablets : NumberMap Tablet). changed (record master { tablets = tablets })) (changed_read rows tenure.tablet i read lane order at is ∙ ap (insert (tablets_of rows) tenure.tablet) lane_is)
+    ∙ ap (λ (t : Tablet). changed (record master { tablets = insert (tablets_of rows) tenure.tablet (record (without_merged t) { handover = handover; pulling = pulling_from 0 }) })) (sym tablet)
+    ∙ sym (ap (owning (with_rows master rows) tenure.tablet) (ap (λ (t : Tablet). owned t.handover tenure.term master.applied) tablet ∙ moved))
+
+-- ---- a Release
+
+-- one that does not apply
+pub release_failed : (master : Master) (tenure : Tenure) (tablet : Tablet) → tablet_at master tenure.tablet ≡ tablet → released tablet.handover tenure.term ≡ None
+    → changed master ≡ release_taken master tenure
+release_failed master tenure tablet there none =
+    sym (ap (releasing master tenure.tablet) (ap (λ (t : Tablet). released t.handover tenure.term) there ∙ none))
+
+-- a tablet that is released
+pub release_made : (master : Master) (records : List Held) (rows : List Row) (i : ℕ) (read : Row) (handover : Handover) (tenure : Tenure)
+    → IsInOrder rows → IsAt tenure.tablet rows i → read ≡ get_or rows i read → released read.1.handover tenure.term ≡ Some handover → records ≡ without handover.range master.records
+    → changed (with_rows (record master { records = records }) (set rows i (read.0, moved_lane read.1 handover))) ≡ release_taken (with_rows master rows) tenure
+release_made master records rows i read handover tenure order at is moved dropped =
+    let tablet = tablet_read rows tenure.tablet i read order at is in
+    ap (λ (items : List Held). changed (with_rows (record master { records = items }) (set rows i (read.0, moved_lane read.1 handover)))) dropped
+    ∙ ap changed (move_made (without_items master handover.range) rows tenure.tablet i read handover order at is)
+    ∙ sym (ap (releasing (with_rows master rows) tenure.tablet) (ap (λ (t : Tablet). released t.handover tenure.term) tablet ∙ moved))
+
 -- ---- what was worked
 
 -- nothing is sent, and nothing served
@@ -167,3 +253,11 @@ close_absent master tenure absent =
     not_told master tenure no_tablet absent refl
     ∙ sym (ap (λ (moved : Option Handover). transferring (closing master tenure.tablet moved) tenure)
     (ap (λ (tablet : Tablet). closed tablet.handover tenure.term) absent ∙ none_either (ltb 0 tenure.term) None))
+
+-- nor does an Own
+pub own_absent : (master : Master) (tenure : Tenure) → tablet_at master tenure.tablet ≡ no_tablet → changed master ≡ own_taken master tenure
+own_absent master tenure absent = own_failed master tenure no_tablet absent (none_either (eqb 0 tenure.term) None)
+
+-- or a Release
+pub release_absent : (master : Master) (tenure : Tenure) → tablet_at master tenure.tablet ≡ no_tablet → changed master ≡ release_taken master tenure
+release_absent master tenure absent = release_failed master tenure no_tablet absent (none_either (eqb 0 tenure.term) None)

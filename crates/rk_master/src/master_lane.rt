@@ -4,11 +4,11 @@ ghost use Rattle.rk_world.specs.Master.{new_master};
 ghost use Rattle.rk_world.specs.Premises.{IsLawfulCall};
 ghost use Rattle.rk_log.specs.Log.{IsBackup, overreach};
 ghost use Rattle.rk_world.specs.Commits.{stored_taken};
-ghost use Rattle.rk_world.specs.Handovers.{close_taken};
+ghost use Rattle.rk_world.specs.Handovers.{close_taken, own_taken, release_taken};
 ghost use Rattle.rk_world.specs.Requests.{call_of, request_taken};
 ghost use Rattle.rk_world.specs.Step.{with_added};
 
-use crate::orders::take_close;
+use crate::orders::{take_close, take_own, take_release};
 use crate::requests::take_request;
 use crate::state::MasterState;
 use crate::stored::take_stored;
@@ -114,6 +114,31 @@ impl MasterLane {
         let work = take_close(&mut self.state, tenure)?;
         self.spent = false;
         Ok(work)
+    }
+
+    /// Takes the coordinator's order to own a tablet, which applies once the entry that closes the target's role is
+    /// applied: from then on it is served as one that was never moved. `NoMemory` only where the master is spent. A
+    /// binary search.
+    pub fn take_own(&mut self, tenure: Tenure) -> Result<Worked, NoMemory>
+        ensures ok { IfOk result (λ work. IsSomeAnd self.old (λ master. IsWork (own_taken master tenure) self.new work)) }
+        ensures err { OnErr result (self.new ≡ None) }
+    {
+        if self.spent {
+            return Err(NoMemory);
+        }
+        Ok(take_own(&mut self.state, tenure))
+    }
+
+    /// Takes the coordinator's order to release a frozen tablet: it is absent, and its items are dropped. `NoMemory` only
+    /// where the master is spent. A binary search, and where the order applies a look at each record.
+    pub fn take_release(&mut self, tenure: Tenure) -> Result<Worked, NoMemory>
+        ensures ok { IfOk result (λ work. IsSomeAnd self.old (λ master. IsWork (release_taken master tenure) self.new work)) }
+        ensures err { OnErr result (self.new ≡ None) }
+    {
+        if self.spent {
+            return Err(NoMemory);
+        }
+        Ok(take_release(&mut self.state, tenure))
     }
 
     /// Adds a tablet, which is served from now on. `NoMemory` also where the master is spent; nothing has changed then. A

@@ -5,6 +5,7 @@ ghost use Rattle.rk_transfer.specs.Handover.{closed};
 ghost use Rattle.rk_types.specs.NumberMap.{IsInOrder};
 ghost use Rattle.rk_world.specs.Handovers as handovers;
 ghost use Rattle.rk_world.specs.Master.{tablet_at};
+ghost use Rattle.rk_world.specs.Worked.{changed};
 ghost use Rattle.rk_master.specs.Parts.{worked_of};
 ghost use Rattle.rk_master.specs.Places.{IsAt};
 ghost use Rattle.rk_master.specs.State.{IsState, master_of};
@@ -29,6 +30,64 @@ pub(crate) fn take_close(state: &mut MasterState, tenure: Tenure) -> Result<Work
     };
     close(state, at, tenure);
     tell_frozen(state, at, tenure)
+}
+
+/// A master takes an Own: the tablet is its own, and what was pulled is forgotten, where every entry of it is applied. One
+/// binary search.
+pub(crate) fn take_own(state: &mut MasterState, tenure: Tenure) -> Worked
+    requires { IsState state.old }
+    ensures state { IsState state.new }
+    ensures ok { worked_of (master_of state.new) result ≡ handovers.own_taken (master_of state.old) tenure }
+{
+    let Ok(at) = search(state.tablets.as_slice(), tenure.tablet) else {
+        return state.nothing();
+    };
+    own(state, at, tenure);
+    state.nothing()
+}
+
+// The tablet at a place is owned where that move applies.
+fn own(state: &mut MasterState, at: usize, tenure: Tenure)
+    requires state { IsState state.old }
+    requires place { IsAt tenure.tablet state.old.tablets.items at }
+    ensures state { IsState state.new }
+    ensures ok { changed (master_of state.new) ≡ handovers.own_taken (master_of state.old) tenure }
+{
+    let applied = state.applied;
+    let tablet = &mut state.tablets[at].1;
+    if !tablet.handover.own(tenure.term, applied) {
+        return;
+    }
+    tablet.pull_from(0);
+}
+
+/// A master takes a Release: the frozen tablet is absent, and its items are dropped. One binary search, and where it
+/// applies a look at each record.
+pub(crate) fn take_release(state: &mut MasterState, tenure: Tenure) -> Worked
+    requires { IsState state.old }
+    ensures state { IsState state.new }
+    ensures ok { worked_of (master_of state.new) result ≡ handovers.release_taken (master_of state.old) tenure }
+{
+    let Ok(at) = search(state.tablets.as_slice(), tenure.tablet) else {
+        return state.nothing();
+    };
+    release(state, at, tenure);
+    state.nothing()
+}
+
+// The tablet at a place is released where that move applies.
+fn release(state: &mut MasterState, at: usize, tenure: Tenure)
+    requires state { IsState state.old }
+    requires place { IsAt tenure.tablet state.old.tablets.items at }
+    ensures state { IsState state.new }
+    ensures ok { changed (master_of state.new) ≡ handovers.release_taken (master_of state.old) tenure }
+{
+    let tablet = &mut state.tablets[at].1;
+    if !tablet.handover.release(tenure.term) {
+        return;
+    }
+    let range = tablet.handover.range;
+    state.records.drop_range(&range);
 }
 
 // The tablet at a place closes where that move applies, and freezes at once where nothing of it is staged. A step for each
