@@ -1,20 +1,26 @@
 -- What the coordinator's orders do, at the place of their tablet.
-use Rattle.std.proofs.Common.{◌≡◌, ℕ, ◌<◌, Bool, true, false, cond, eqb, ltb, List, [], ◌∷◌, length, get_or, set, slice_get, Option, Some, None, is_some, unwrap_or, refl, sym, ap, ◌∙◌, arith}
-use Rattle.std.proofs.lemmas.Bool.{cond-true, cond-false, false≢true}
+use Rattle.std.proofs.Common.{◌≡◌, ℕ, ◌<◌, Bool, true, false, cond, not, ◌&&◌, eqb, ltb, map, subst, List, [], ◌∷◌, length, get_or, set, slice_get, Option, Some, None, is_some, unwrap_or, refl, sym, ap, ◌∙◌, arith}
+use Rattle.std.specs.List.{list_all}
+use Rattle.std.specs.Option.{option_map}
+use Rattle.std.specs.Ordering.{nat_cmp, is_eq}
+use Rattle.std.proofs.lemmas.Bool.{cond-true, cond-false, eq-eqb, false≢true, lt-ltb}
 use Rattle.std.proofs.lemmas.List.{get_or-set_same, set-get_or}
 use Rattle.std.proofs.lemmas.Option.{slice_get-get_or}
 use Rattle.std.proofs.Math.ListN.{length-set}
 use Rattle.rk_types.specs.NumberMap.{NumberMap, IsInOrder, get, insert}
-use Rattle.rk_types.proofs.NumberMaps.{get_same}
+use Rattle.rk_types.proofs.NumberMaps.{get_same, same_number}
+use Rattle.rk_types.specs.Range.{meets}
 use Rattle.rk_types.specs.declared.held.Held.{Held}
+use Rattle.rk_types.specs.declared.range.Range.{Range}
 use Rattle.rk_table.specs.Items.{without}
-use Rattle.rk_transfer.specs.Handover.{closed, frozen, owned, released, in_role, role_closed, role_owned, role_released}
+use Rattle.rk_transfer.specs.Handover.{closed, frozen, owned, prepared, released, in_role, role_closed, role_owned, role_released}
 use Rattle.rk_transfer.specs.declared.handover.Handover.{Handover}
 use Rattle.rk_transfer.specs.declared.role.Role.{Role}
 use Rattle.rk_transfer.specs.declared.role.Role.TheVariants as roles
+use Rattle.rk_message.specs.declared.handover.Prepare.{Prepare}
 use Rattle.rk_message.specs.declared.handover.Tenure.{Tenure}
 use Rattle.rk_message.specs.declared.message.Message.{Message}
-use Rattle.rk_world.specs.Handovers.{closing, close_taken, owning, own_taken, releasing, release_taken, transfer, transferring, with_move}
+use Rattle.rk_world.specs.Handovers.{closing, close_taken, given_up, is_above, is_greater, prepare_taken, preparing, ready, ready_again, tablet_prepared, with_others_given_up, owning, own_taken, releasing, release_taken, transfer, transferring, with_move}
 use Rattle.rk_world.specs.Master.{Master, tablet_at, without_items}
 use Rattle.rk_world.specs.RoleTests.{is_frozen_at}
 use Rattle.rk_world.specs.Tablet.{Tablet, no_tablet, pulling_from, with_handover, without_merged}
@@ -22,9 +28,9 @@ use Rattle.rk_world.specs.Waiting.{freezing}
 use Rattle.rk_world.specs.Worked.{Worked, changed, sending}
 use Rattle.rk_master.specs.declared.tablet_lane.TabletLane.{TabletLane}
 use Rattle.rk_master.specs.declared.work.Worked.{Worked as Work}
-use Rattle.rk_master.specs.Parts.{tablet_in, tablet_of, tablets_of, worked_of}
+use Rattle.rk_master.specs.Parts.{changing, given_up_but, tablet_in, tablet_of, tablets_of, worked_of}
 use Rattle.rk_master.specs.Places.{Row, IsAt}
-use Rattle.rk_master.proofs.Places.{changed_there, tablet_there}
+use Rattle.rk_master.proofs.Places.{changed_there, get_tablet, tablet_there}
 
 -- ---- a move
 
@@ -229,6 +235,91 @@ release_made master records rows i read handover tenure order at is moved droppe
     ap (λ (items : List Held). changed (with_rows (record master { records = items }) (set rows i (read.0, moved_lane read.1 handover)))) dropped
     ∙ ap changed (move_made (without_items master handover.range) rows tenure.tablet i read handover order at is)
     ∙ sym (ap (releasing (with_rows master rows) tenure.tablet) (ap (λ (t : Tablet). released t.handover tenure.term) tablet ∙ moved))
+
+-- ---- a Prepare
+
+-- it applies by a greater term
+pub begins : (handover : Handover) (term : ℕ) (range : Range) (from : ℕ) → handover.term < term → is_some (prepared handover term range from) ≡ true
+begins handover term range from greater =
+    ap (λ (b : Bool). is_some (cond b (Some (record handover { role = roles.Wanting from; term = term; range = range })) None)) (lt-ltb handover.term term greater)
+
+-- and the role is Wanting then
+pub prepared_role : (handover after : Handover) (term : ℕ) (range : Range) (from : ℕ) → prepared handover term range from ≡ Some after → after.role ≡ roles.Wanting from
+prepared_role handover after term range from is = go (ltb handover.term term) is
+  where
+    go : (b : Bool) → cond b (Some (record handover { role = roles.Wanting from; term = term; range = range })) None ≡ Some after → after.role ≡ roles.Wanting from
+    go true e = let same : record handover { role = roles.Wanting from; term = term; range = range } ≡ after = cc e in sym (ap (λ (h : Handover). h.role) same)
+    go false e = cc e
+
+-- a tablet that stays as it is is found as it was
+kept_itself : (change : ℕ → Tablet → Tablet) (number : ℕ) (tablets : NumberMap Tablet) → ((tablet : Tablet) → change number tablet ≡ tablet)
+    → get (map (changing change) tablets) number ≡ get tablets number
+kept_itself change number [] stays = refl
+kept_itself change number (entry ∷ tablets) stays = go (is_eq (nat_cmp number entry.0)) refl (kept_itself change number tablets stays)
+  where
+    go : (b : Bool) → is_eq (nat_cmp number entry.0) ≡ b → get (map (changing change) tablets) number ≡ get tablets number
+        → cond b (Some (change entry.0 entry.1)) (get (map (changing change) tablets) number) ≡ cond b (Some entry.1) (get tablets number)
+    go true is rest = ap Some (subst (λ (n : ℕ). change n entry.1 ≡ entry.1) (same_number number entry.0 is) (stays entry.1))
+    go false is rest = rest
+
+-- the tablet that a Prepare is about is not given up
+stays_itself : (number : ℕ) (range : Range) (tablet : Tablet) → given_up_but number range number tablet ≡ tablet
+stays_itself number range tablet =
+    ap (λ (b : Bool). cond (not b && meets tablet.handover.range range) (given_up tablet) tablet) (eq-eqb number number refl)
+
+-- nothing is merged in a tablet of a lane
+none_merged : (rows : List Row) (number : ℕ) → without_merged (tablet_in rows number) ≡ tablet_in rows number
+none_merged rows number =
+    ap (λ (o : Option Tablet). without_merged (unwrap_or o no_tablet)) (get_tablet rows number)
+    ∙ go (get rows number)
+    ∙ sym (ap (λ (o : Option Tablet). unwrap_or o no_tablet) (get_tablet rows number))
+  where
+    go : (o : Option TabletLane) → without_merged (unwrap_or (option_map tablet_of o) no_tablet) ≡ unwrap_or (option_map tablet_of o) no_tablet
+    go None = refl
+    go (Some lane) = refl
+
+-- a master that made ready for a tablet
+pub prepared_so : (master : Master) (rows others after : List Row) (records : List Held) (prepare : Prepare) (before handover : Handover)
+    → before ≡ (tablet_in rows prepare.tenure.tablet).handover → prepared before prepare.tenure.term prepare.range (length master.log.entries) ≡ Some handover
+    → records ≡ without prepare.range master.records
+    → tablets_of others ≡ map (changing (given_up_but prepare.tenure.tablet prepare.range)) (tablets_of rows)
+    → tablets_of after ≡ insert (tablets_of others) prepare.tenure.tablet (with_handover (tablet_in others prepare.tenure.tablet) handover)
+    → with_rows (record master { records = records }) after ≡ tablet_prepared (with_rows master rows) prepare
+prepared_so master rows others after records prepare before handover before_is moved dropped others_are after_is =
+    let number : ℕ = prepare.tenure.tablet in
+    let range : Range = prepare.range in
+    let now : Master = with_others_given_up (without_items (with_rows master rows) range) number range in
+    let kept : (tablet_at now number).handover ≡ before =
+    ap (λ (o : Option Tablet). (unwrap_or o no_tablet).handover) (kept_itself (given_up_but number range) number (tablets_of rows) (stays_itself number range)) ∙ sym before_is in
+    let moved_now : prepared (tablet_at now number).handover prepare.tenure.term range (length master.log.entries) ≡ Some handover =
+    ap (λ (h : Handover). prepared h prepare.tenure.term range (length master.log.entries)) kept ∙ moved in
+    (λ i. record master {
+      records = dropped i;
+      tablets = (after_is ∙ ap (λ (t : Tablet). insert (tablets_of others) number (with_handover t handover)) (sym (none_merged others number))) i;
+    })
+    ∙ ap (λ (tablets : NumberMap Tablet). with_move (record master { records = without range master.records; tablets = tablets }) number (Some handover)) others_are
+    ∙ sym (ap (with_move now number) moved_now)
+
+-- it says so
+pub prepare_made : (master now : Master) (prepare : Prepare) (place : ℕ) → now ≡ tablet_prepared master prepare → place ≡ length master.log.entries
+    → (tablet_at master prepare.tenure.tablet).handover.term < prepare.tenure.term → list_all (is_above prepare.range prepare.tenure.term) master.tablets ≡ true
+    → sending now (ready master prepare.tenure place) ≡ prepare_taken master prepare
+prepare_made master now prepare place now_is place_is greater above =
+    let handover : Handover = (tablet_at master prepare.tenure.tablet).handover in
+    let is : is_greater master prepare.tenure.tablet prepare.tenure.term prepare.range ≡ true =
+    (λ i. lt-ltb handover.term prepare.tenure.term greater i && above i) in
+    (λ i. sending (now_is i) (ready master prepare.tenure (place_is i)))
+    ∙ sym (cond-true (is_greater master prepare.tenure.tablet prepare.tenure.term prepare.range) (preparing master prepare)
+    (ready_again master prepare.tenure handover.role handover.term) is)
+
+-- a master that made ready says so again
+pub ready_so : (master : Master) (tenure : Tenure) (role : Role) (term from : ℕ) → role ≡ roles.Wanting from → term ≡ tenure.term
+    → sending master (ready master tenure from) ≡ ready_again master tenure role term
+ready_so master tenure role term from role_is term_is =
+    sym (
+    ap (λ (r : Role). ready_again master tenure r term) role_is
+    ∙ cond-true (eqb term tenure.term) (sending master (ready master tenure from)) (changed master) (eq-eqb term tenure.term term_is)
+    )
 
 -- ---- what was worked
 

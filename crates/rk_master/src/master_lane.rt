@@ -4,18 +4,18 @@ ghost use Rattle.rk_world.specs.Master.{new_master};
 ghost use Rattle.rk_world.specs.Premises.{IsLawfulCall};
 ghost use Rattle.rk_log.specs.Log.{IsBackup, overreach};
 ghost use Rattle.rk_world.specs.Commits.{stored_taken};
-ghost use Rattle.rk_world.specs.Handovers.{close_taken, own_taken, release_taken};
+ghost use Rattle.rk_world.specs.Handovers.{close_taken, own_taken, prepare_taken, release_taken};
 ghost use Rattle.rk_world.specs.Requests.{call_of, request_taken};
 ghost use Rattle.rk_world.specs.Step.{with_added};
 
-use crate::orders::{take_close, take_own, take_release};
+use crate::orders::{take_close, take_own, take_prepare, take_release};
 use crate::requests::take_request;
 use crate::state::MasterState;
 use crate::stored::take_stored;
 use crate::tablets::serve;
 use crate::work::Worked;
 use rk_log::MOST_BACKUPS;
-use rk_message::{Request, Stored, Tenure};
+use rk_message::{Prepare, Request, Stored, Tenure};
 use rk_types::{NoMemory, Range};
 use std::alloc::Global;
 use std::marker::Model;
@@ -112,6 +112,23 @@ impl MasterLane {
         }
         self.spent = true;
         let work = take_close(&mut self.state, tenure)?;
+        self.spent = false;
+        Ok(work)
+    }
+
+    /// Takes the coordinator's order to make ready for a tablet, which applies by a term above that of the tablet and of
+    /// each tablet here whose range meets this one: the items of the range are dropped, each other tablet there is given
+    /// up, and the coordinator is told at which place of the log the tablet's entries begin, also again. After `NoMemory`
+    /// the master is spent. Two binary searches, two looks at each tablet, and where the order applies one at each record.
+    pub fn take_prepare(&mut self, prepare: Prepare) -> Result<Worked, NoMemory>
+        ensures ok { IfOk result (λ work. IsSomeAnd self.old (λ master. IsWork (prepare_taken master prepare) self.new work)) }
+        ensures err { OnErr result (self.new ≡ None) }
+    {
+        if self.spent {
+            return Err(NoMemory);
+        }
+        self.spent = true;
+        let work = take_prepare(&mut self.state, prepare)?;
         self.spent = false;
         Ok(work)
     }

@@ -1,22 +1,23 @@
 // What a master makes of the coordinator's orders that hand a tablet over. Each finds its tablet by a binary search; one
 // that the master does not know is Absent at term 0, and no move but a prepare applies to that.
-ghost use Rattle.std.specs.Prelude.{◌≡◌, IfOk, OnOk};
+ghost use Rattle.std.specs.Prelude.{◌≡◌, ◌<◌, IfOk, OnOk};
 ghost use Rattle.rk_transfer.specs.Handover.{closed};
 ghost use Rattle.rk_types.specs.NumberMap.{IsInOrder};
 ghost use Rattle.rk_world.specs.Handovers as handovers;
-ghost use Rattle.rk_world.specs.Master.{tablet_at};
-ghost use Rattle.rk_world.specs.Worked.{changed};
-ghost use Rattle.rk_master.specs.Parts.{worked_of};
+ghost use Rattle.rk_world.specs.Master.{Master, tablet_at};
+ghost use Rattle.rk_world.specs.Worked.{changed, sending};
+ghost use Rattle.rk_master.specs.Parts.{tablet_in, worked_of};
 ghost use Rattle.rk_master.specs.Places.{IsAt};
 ghost use Rattle.rk_master.specs.State.{IsState, master_of};
 
 use crate::state::MasterState;
-use crate::tablets::search;
+use crate::tablets::{give_up_others, hand, handover_of, is_above_all, search};
 use crate::waiting::freeze_at;
 use crate::work::Worked;
-use rk_message::Tenure;
+use rk_message::{Body, Message, Prepare, Ready, Tenure};
 use rk_table::RecordTable;
-use rk_types::NoMemory;
+use rk_transfer::{Handover, Role};
+use rk_types::{NoMemory, Node};
 
 /// A master takes a Close: the tablet answers no more calls, and once nothing of it is staged its Transfer is told, also
 /// again. One binary search, a step for each staged entry, and one for each client where the Transfer is told.
@@ -88,6 +89,72 @@ fn release(state: &mut MasterState, at: usize, tenure: Tenure)
     }
     let range = tablet.handover.range;
     state.records.drop_range(&range);
+}
+
+/// A master takes a Prepare: it drops the items of the range, gives up each other tablet there, and says where its entries
+/// of the tablet begin; where it made ready at this term it says so again. `NoMemory` only for want of memory. A binary
+/// search or two, a look at each tablet, and where it applies one at each record.
+pub(crate) fn take_prepare(state: &mut MasterState, prepare: Prepare) -> Result<Worked, NoMemory>
+    requires { IsState state.old }
+    ensures state { OnOk result (IsState state.new) }
+    ensures ok { IfOk result (λ work. worked_of (master_of state.new) work ≡ handovers.prepare_taken (master_of state.old) prepare) }
+{
+    let tenure = prepare.tenure;
+    let before = handover_of(state.tablets.as_slice(), tenure.tablet);
+    if tenure.term <= before.term
+        || !is_above_all(state.tablets.as_slice(), &prepare.range, tenure.term)
+    {
+        return ready_again(state, tenure, before);
+    }
+    make_ready(state, prepare, before)?;
+    tell_ready(state, tenure, state.log.length())
+}
+
+// A master that made ready at this term says so again, by the handover that it has.
+fn ready_again(state: &MasterState, tenure: Tenure, handover: Handover) -> Result<Worked, NoMemory>
+    ensures { IfOk result (λ work. worked_of (master_of state.now) work
+        ≡ handovers.ready_again (master_of state.now) tenure handover.role handover.term) }
+{
+    let Role::Wanting { from } = handover.role else {
+        return Ok(state.nothing());
+    };
+    if handover.term != tenure.term {
+        return Ok(state.nothing());
+    }
+    tell_ready(state, tenure, from)
+}
+
+// A master says that its entries of the tablet begin at this place.
+fn tell_ready(state: &MasterState, tenure: Tenure, place: u64) -> Result<Worked, NoMemory>
+    ensures { IfOk result (λ work. (asked : Master) → asked.number ≡ state.now.number
+        → worked_of (master_of state.now) work ≡ sending (master_of state.now) (handovers.ready asked tenure place)) }
+{
+    let mut work = state.nothing();
+    work.send(Message {
+        from: Node::Master(state.number),
+        to: Node::Coordinator,
+        body: Body::Ready(Ready { tenure, place }),
+    })?;
+    Ok(work)
+}
+
+// A master makes ready for a tablet that has this handover, by a greater term.
+fn make_ready(state: &mut MasterState, prepare: Prepare, before: Handover) -> Result<(), NoMemory>
+    requires state { IsState state.old }
+    requires before { before ≡ (tablet_in state.old.tablets.items prepare.tenure.tablet).handover }
+    requires greater { before.term < prepare.tenure.term }
+    ensures state { OnOk result (IsState state.new) }
+    ensures log { state.new.log ≡ state.old.log }
+    ensures number { state.new.number ≡ state.old.number }
+    ensures ok { OnOk result (master_of state.new ≡ handovers.tablet_prepared (master_of state.old) prepare) }
+{
+    let mut handover = before;
+    let _ = handover.prepare(prepare.tenure.term, prepare.range, state.log.length());
+    state.records.drop_range(&prepare.range);
+    let tablet = prepare.tenure.tablet;
+    give_up_others(state.tablets.as_mut_slice(), tablet, &prepare.range);
+    hand(&mut state.tablets, tablet, handover)?;
+    Ok(())
 }
 
 // The tablet at a place closes where that move applies, and freezes at once where nothing of it is staged. A step for each

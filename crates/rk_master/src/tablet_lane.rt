@@ -5,7 +5,7 @@ ghost use Rattle.rk_types.specs.Hashing.{hash_of};
 ghost use Rattle.rk_types.specs.declared.held.Held.{Held as Item};
 ghost use Rattle.rk_world.specs.Ranges.{has_key};
 ghost use Rattle.rk_world.specs.Master.{Master, serves_key};
-ghost use Rattle.rk_world.specs.Handovers.{transfer as transfer_lem};
+ghost use Rattle.rk_world.specs.Handovers.{given_up, transfer as transfer_lem};
 ghost use Rattle.rk_world.specs.RoleTests.{is_absent as is_absent_lem, is_frozen_at as is_frozen_at_lem};
 ghost use Rattle.rk_world.specs.Requests.{counted_up, is_known as is_known_lem, with_wanted};
 ghost use Rattle.rk_transfer.specs.Handover.{frozen, joined};
@@ -152,6 +152,14 @@ impl TabletLane {
         self.wanted.clear();
         self.token = FIRST;
         self.sealed = self.sealed.empty_like();
+    }
+
+    /// The tablet is given up: it is absent, what was pulled is forgotten, and its term and range stay.
+    pub(crate) fn give_up(&mut self)
+        ensures { tablet_of self.new ≡ given_up (tablet_of self.old) }
+    {
+        self.pull_from(self.source);
+        self.handover.role = Role::Absent;
     }
 
     /// A target that has all takes the place of the entry that closes its role.
