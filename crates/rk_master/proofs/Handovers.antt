@@ -1,5 +1,6 @@
 -- What the coordinator's orders do, at the place of their tablet.
 use Rattle.std.proofs.Common.{◌≡◌, ℕ, ◌<◌, Bool, true, false, cond, not, ◌&&◌, eqb, ltb, map, subst, List, [], ◌∷◌, length, get_or, set, slice_get, Option, Some, None, is_some, unwrap_or, refl, sym, ap, ◌∙◌, arith}
+use Rattle.std.specs.Prelude.{IfSome}
 use Rattle.std.specs.List.{list_all}
 use Rattle.std.specs.Option.{option_map}
 use Rattle.std.specs.Ordering.{nat_cmp, is_eq}
@@ -13,14 +14,18 @@ use Rattle.rk_types.specs.Range.{meets}
 use Rattle.rk_types.specs.declared.held.Held.{Held}
 use Rattle.rk_types.specs.declared.range.Range.{Range}
 use Rattle.rk_table.specs.Items.{without}
-use Rattle.rk_transfer.specs.Handover.{closed, frozen, owned, prepared, released, in_role, role_closed, role_owned, role_released}
+use Rattle.rk_transfer.specs.Handover.{closed, frozen, granted, role_granted, owned, prepared, released, in_role, role_closed, role_owned, role_released}
 use Rattle.rk_transfer.specs.declared.handover.Handover.{Handover}
 use Rattle.rk_transfer.specs.declared.role.Role.{Role}
 use Rattle.rk_transfer.specs.declared.role.Role.TheVariants as roles
+use Rattle.rk_entry.specs.Lawful.{IsLawfulEntry}
+use Rattle.rk_log.specs.Log.{Log, with_entry}
+use Rattle.rk_done.specs.Completions.{completions_from}
+use Rattle.rk_message.specs.declared.handover.Grant.{Grant}
 use Rattle.rk_message.specs.declared.handover.Prepare.{Prepare}
 use Rattle.rk_message.specs.declared.handover.Tenure.{Tenure}
 use Rattle.rk_message.specs.declared.message.Message.{Message}
-use Rattle.rk_world.specs.Handovers.{closing, close_taken, given_up, is_above, is_greater, prepare_taken, preparing, ready, ready_again, tablet_prepared, with_others_given_up, owning, own_taken, releasing, release_taken, transfer, transferring, with_move}
+use Rattle.rk_world.specs.Handovers.{carried_entry, granting, grant_taken, closing, close_taken, given_up, is_above, is_greater, prepare_taken, preparing, ready, ready_again, tablet_prepared, with_others_given_up, owning, own_taken, releasing, release_taken, transfer, transferring, with_move}
 use Rattle.rk_world.specs.Master.{Master, tablet_at, without_items}
 use Rattle.rk_world.specs.RoleTests.{is_frozen_at}
 use Rattle.rk_world.specs.Tablet.{Tablet, no_tablet, pulling_from, with_handover, without_merged}
@@ -28,7 +33,7 @@ use Rattle.rk_world.specs.Waiting.{freezing}
 use Rattle.rk_world.specs.Worked.{Worked, changed, sending}
 use Rattle.rk_master.specs.declared.tablet_lane.TabletLane.{TabletLane}
 use Rattle.rk_master.specs.declared.work.Worked.{Worked as Work}
-use Rattle.rk_master.specs.Parts.{changing, given_up_but, tablet_in, tablet_of, tablets_of, worked_of}
+use Rattle.rk_master.specs.Parts.{IsGrantable, changing, given_up_but, tablet_in, tablet_of, tablets_of, worked_of}
 use Rattle.rk_master.specs.Places.{Row, IsAt}
 use Rattle.rk_master.proofs.Places.{changed_there, get_tablet, tablet_there}
 
@@ -321,6 +326,54 @@ ready_so master tenure role term from role_is term_is =
     ∙ cond-true (eqb term tenure.term) (sending master (ready master tenure from)) (changed master) (eq-eqb term tenure.term term_is)
     )
 
+-- ---- a Grant
+
+-- the role after it
+pub granted_role : (handover after : Handover) (term counter : ℕ) → granted handover term counter ≡ Some after → after.role ≡ roles.Receiving
+granted_role handover after term counter is = go (eqb handover.term term) is
+  where
+    by_role : (role : Role) → in_role (record handover { counter = counter }) (role_granted role) ≡ Some after → after.role ≡ roles.Receiving
+    by_role roles.Absent e = cc e
+    by_role roles.Serving e = cc e
+    by_role roles.Closing e = cc e
+    by_role roles.Frozen e = cc e
+    by_role (roles.Wanting from) e = role_is (record handover { counter = counter }) after roles.Receiving e
+    by_role roles.Receiving e = cc e
+    by_role (roles.Joining entry) e = cc e
+    by_role (roles.Rebuilding from entry) e = cc e
+
+    go : (b : Bool) → cond b (in_role (record handover { counter = counter }) (role_granted handover.role)) None ≡ Some after → after.role ≡ roles.Receiving
+    go true e = by_role handover.role e
+    go false e = cc e
+
+-- one that does not apply
+pub grant_failed : (master : Master) (grant : Grant) (tablet : Tablet) → tablet_at master grant.tenure.tablet ≡ tablet → granted tablet.handover grant.tenure.term grant.floor ≡ None
+    → changed master ≡ grant_taken master grant
+grant_failed master grant tablet there none =
+    sym (ap (granting master grant) (ap (λ (t : Tablet). granted t.handover grant.tenure.term grant.floor) there ∙ none))
+
+-- a target that is granted its tablet
+pub grant_made : (master : Master) (log : Log) (rows : List Row) (i : ℕ) (read : Row) (handover : Handover) (lane : TabletLane) (grant : Grant)
+    → IsInOrder rows → IsAt grant.tenure.tablet rows i → read ≡ get_or rows i read → granted read.1.handover grant.tenure.term grant.floor ≡ Some handover
+    → log ≡ with_entry master.log (carried_entry handover grant)
+    → tablet_of lane ≡ record (tablet_of (moved_lane read.1 handover)) { completions = completions_from [] grant.ends; pulling = pulling_from grant.source }
+    → changed (with_rows (record master { log = log }) (set rows i (read.0, lane))) ≡ grant_taken (with_rows master rows) grant
+grant_made master log rows i read handover lane grant order at is moved log_is lane_is =
+    let number : ℕ = grant.tenure.tablet in
+    let tablet = tablet_read rows number i read order at is in
+    let tablets = changed_read rows number i read lane order at is ∙ ap (insert (tablets_of rows) number) lane_is
+    ∙ ap (λ (t : Tablet). insert (tablets_of rows) number (record (without_merged t) { handover = handover; completions = completions_from [] grant.ends; pulling = pulling_from grant.source })) (sym tablet) in
+    (λ i. changed (record master { log = log_is i; tablets = tablets i }))
+    ∙ sym (ap (granting (with_rows master rows) grant) (ap (λ (t : Tablet). granted t.handover grant.tenure.term grant.floor) tablet ∙ moved))
+
+-- its entry can be spelled
+pub grant_lawful : (rows : List Row) (i : ℕ) (read : Row) (master : Master) (handover : Handover) (grant : Grant)
+    → IsInOrder rows → IsAt grant.tenure.tablet rows i → read ≡ get_or rows i read → granted read.1.handover grant.tenure.term grant.floor ≡ Some handover
+    → IsGrantable (with_rows master rows) grant → IsLawfulEntry (carried_entry handover grant)
+grant_lawful rows i read master handover grant order at is moved lawful =
+    subst (λ (o : Option Handover). IfSome o (λ after. IsLawfulEntry (carried_entry after grant)))
+    (ap (λ (t : Tablet). granted t.handover grant.tenure.term grant.floor) (tablet_read rows grant.tenure.tablet i read order at is) ∙ moved) lawful
+
 -- ---- what was worked
 
 -- nothing is sent, and nothing served
@@ -345,10 +398,14 @@ close_absent master tenure absent =
     ∙ sym (ap (λ (moved : Option Handover). transferring (closing master tenure.tablet moved) tenure)
     (ap (λ (tablet : Tablet). closed tablet.handover tenure.term) absent ∙ none_either (ltb 0 tenure.term) None))
 
--- nor does an Own
+-- nor an Own
 pub own_absent : (master : Master) (tenure : Tenure) → tablet_at master tenure.tablet ≡ no_tablet → changed master ≡ own_taken master tenure
 own_absent master tenure absent = own_failed master tenure no_tablet absent (none_either (eqb 0 tenure.term) None)
 
--- or a Release
+-- nor a Release
 pub release_absent : (master : Master) (tenure : Tenure) → tablet_at master tenure.tablet ≡ no_tablet → changed master ≡ release_taken master tenure
 release_absent master tenure absent = release_failed master tenure no_tablet absent (none_either (eqb 0 tenure.term) None)
+
+-- nor a Grant
+pub grant_absent : (master : Master) (grant : Grant) → tablet_at master grant.tenure.tablet ≡ no_tablet → changed master ≡ grant_taken master grant
+grant_absent master grant absent = grant_failed master grant no_tablet absent (none_either (eqb 0 grant.tenure.term) None)

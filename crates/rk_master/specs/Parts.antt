@@ -1,5 +1,5 @@
 -- What the parts of a master in code stand for.
-use Rattle.std.specs.Prelude.{◌≡◌, ℕ, ◌==◌, ◌&&◌, not, if◌then◌else◌, List, [], ◌++◌, Option, Some, None, is_some, map}
+use Rattle.std.specs.Prelude.{◌≡◌, IfSome, ℕ, ◌==◌, ◌&&◌, not, if◌then◌else◌, List, [], ◌++◌, Option, Some, None, is_some, map}
 use Rattle.std.specs.List.{AllByRecursion}
 use Rattle.rk_types.specs.declared.held.Held.{Held}
 use Rattle.rk_types.specs.Range.{meets}
@@ -9,11 +9,13 @@ use Rattle.rk_entry.specs.declared.entry.Entry.{Entry}
 use Rattle.rk_entry.specs.declared.entry.Entry.TheVariants as entries
 use Rattle.rk_entry.specs.Lawful.{IsLawfulEntry}
 use Rattle.rk_table.specs.Items.{with_newer}
+use Rattle.rk_transfer.specs.Handover.{granted}
 use Rattle.rk_transfer.specs.declared.handover.Handover.{Handover}
 use Rattle.rk_transfer.specs.declared.role.Role.TheVariants as roles
+use Rattle.rk_message.specs.declared.handover.Grant.{Grant}
 use Rattle.rk_world.specs.Tablet.{Tablet, no_tablet, pulling_from}
-use Rattle.rk_world.specs.Master.{Master}
-use Rattle.rk_world.specs.Handovers.{given_up}
+use Rattle.rk_world.specs.Master.{Master, tablet_at}
+use Rattle.rk_world.specs.Handovers.{carried_entry, given_up}
 use Rattle.rk_world.specs.Worked.{Worked}
 use Rattle.rk_world.specs.Waiting.{joined_entry}
 use Rattle.rk_master.specs.declared.work.Worked.{Worked as Work}
@@ -84,3 +86,9 @@ changing change entry = (entry.0, change entry.0 entry.1)
 abbrev pub given_up_but : ℕ → Range → ℕ → Tablet → Tablet
 given_up_but kept range number tablet =
     if not (number == kept) && meets tablet.handover.range range then given_up tablet else tablet
+
+-- where a Grant applies, the entry that begins what the target has of the tablet can be spelled
+abbrev pub IsGrantable : Master → Grant → Type 0
+IsGrantable master grant =
+    IfSome (granted (tablet_at master grant.tenure.tablet).handover grant.tenure.term grant.floor)
+    (λ handover. IsLawfulEntry (carried_entry handover grant))

@@ -4,18 +4,19 @@ ghost use Rattle.rk_world.specs.Master.{new_master};
 ghost use Rattle.rk_world.specs.Premises.{IsLawfulCall};
 ghost use Rattle.rk_log.specs.Log.{IsBackup, overreach};
 ghost use Rattle.rk_world.specs.Commits.{stored_taken};
-ghost use Rattle.rk_world.specs.Handovers.{close_taken, own_taken, prepare_taken, release_taken};
+ghost use Rattle.rk_world.specs.Handovers.{close_taken, grant_taken, own_taken, prepare_taken, release_taken};
 ghost use Rattle.rk_world.specs.Requests.{call_of, request_taken};
 ghost use Rattle.rk_world.specs.Step.{with_added};
+ghost use Rattle.rk_master.specs.Parts.{IsGrantable};
 
-use crate::orders::{take_close, take_own, take_prepare, take_release};
+use crate::orders::{take_close, take_grant, take_own, take_prepare, take_release};
 use crate::requests::take_request;
 use crate::state::MasterState;
 use crate::stored::take_stored;
 use crate::tablets::serve;
 use crate::work::Worked;
 use rk_log::MOST_BACKUPS;
-use rk_message::{Prepare, Request, Stored, Tenure};
+use rk_message::{Grant, Prepare, Request, Stored, Tenure};
 use rk_types::{NoMemory, Range};
 use std::alloc::Global;
 use std::marker::Model;
@@ -129,6 +130,25 @@ impl MasterLane {
         }
         self.spent = true;
         let work = take_prepare(&mut self.state, prepare)?;
+        self.spent = false;
+        Ok(work)
+    }
+
+    /// Takes the coordinator's order to serve a tablet for which this master made ready at that term: by what the source
+    /// told, which begins the tablet's entries in the log, and pulling from there. Where it applies, the range and the
+    /// numbers of that entry must be lawful. After `NoMemory` the master is spent; it also comes where the log is full, or
+    /// the entry does not fit a segment. A binary search, and where it applies a search for each end and the time to spell
+    /// the entry.
+    pub fn take_grant(&mut self, grant: Grant) -> Result<Worked, NoMemory>
+        requires { IfSome self.old (λ master. IsGrantable master grant) }
+        ensures ok { IfOk result (λ work. IsSomeAnd self.old (λ master. IsWork (grant_taken master grant) self.new work)) }
+        ensures err { OnErr result (self.new ≡ None) }
+    {
+        if self.spent {
+            return Err(NoMemory);
+        }
+        self.spent = true;
+        let work = take_grant(&mut self.state, grant)?;
         self.spent = false;
         Ok(work)
     }

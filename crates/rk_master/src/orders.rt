@@ -1,23 +1,28 @@
 // What a master makes of the coordinator's orders that hand a tablet over. Each finds its tablet by a binary search; one
 // that the master does not know is Absent at term 0, and no move but a prepare applies to that.
-ghost use Rattle.std.specs.Prelude.{◌≡◌, ◌<◌, IfOk, OnOk};
+ghost use Rattle.std.specs.Prelude.{◌≡◌, ◌<◌, [], IfOk, OnOk};
+ghost use Rattle.rk_done.specs.Completions.{completions_from};
 ghost use Rattle.rk_transfer.specs.Handover.{closed};
 ghost use Rattle.rk_types.specs.NumberMap.{IsInOrder};
 ghost use Rattle.rk_world.specs.Handovers as handovers;
 ghost use Rattle.rk_world.specs.Master.{Master, tablet_at};
 ghost use Rattle.rk_world.specs.Worked.{changed, sending};
-ghost use Rattle.rk_master.specs.Parts.{tablet_in, worked_of};
+ghost use Rattle.rk_master.specs.Parts.{IsGrantable, tablet_in, worked_of};
 ghost use Rattle.rk_master.specs.Places.{IsAt};
 ghost use Rattle.rk_master.specs.State.{IsState, master_of};
 
+use crate::staging::append;
 use crate::state::MasterState;
 use crate::tablets::{give_up_others, hand, handover_of, is_above_all, search};
 use crate::waiting::freeze_at;
 use crate::work::Worked;
-use rk_message::{Body, Message, Prepare, Ready, Tenure};
+use rk_done::Completions;
+use rk_entry::{Carried, Entry};
+use rk_message::{Body, Grant, Message, Prepare, Ready, Tenure};
 use rk_table::RecordTable;
 use rk_transfer::{Handover, Role};
-use rk_types::{NoMemory, Node};
+use rk_types::{Ended, NoMemory, Node};
+use std::alloc::Global;
 
 /// A master takes a Close: the tablet answers no more calls, and once nothing of it is staged its Transfer is told, also
 /// again. One binary search, a step for each staged entry, and one for each client where the Transfer is told.
@@ -155,6 +160,70 @@ fn make_ready(state: &mut MasterState, prepare: Prepare, before: Handover) -> Re
     give_up_others(state.tablets.as_mut_slice(), tablet, &prepare.range);
     hand(&mut state.tablets, tablet, handover)?;
     Ok(())
+}
+
+/// A master takes a Grant: the tablet is served by what its source told, and pulled from there, where this master made
+/// ready at its term. `NoMemory` also where the log is full, or the ends have no room in a segment. One binary search, and
+/// where it applies a search for each end and the time to spell the entry.
+pub(crate) fn take_grant(state: &mut MasterState, grant: Grant) -> Result<Worked, NoMemory>
+    requires state { IsState state.old }
+    requires lawful { IsGrantable (master_of state.old) grant }
+    ensures state { OnOk result (IsState state.new) }
+    ensures ok { IfOk result (λ work. worked_of (master_of state.new) work ≡ handovers.grant_taken (master_of state.old) grant) }
+{
+    let Ok(at) = search(state.tablets.as_slice(), grant.tenure.tablet) else {
+        return Ok(state.nothing());
+    };
+    receive(state, at, grant)?;
+    Ok(state.nothing())
+}
+
+// The tablet at a place is received where that move applies.
+fn receive(state: &mut MasterState, at: usize, grant: Grant) -> Result<(), NoMemory>
+    requires state { IsState state.old }
+    requires place { IsAt grant.tenure.tablet state.old.tablets.items at }
+    requires lawful { IsGrantable (master_of state.old) grant }
+    ensures state { OnOk result (IsState state.new) }
+    ensures ok { OnOk result (changed (master_of state.new) ≡ handovers.grant_taken (master_of state.old) grant) }
+{
+    let alloc = *state.tablets.allocator();
+    let tablet = &mut state.tablets[at].1;
+    if !tablet.handover.grant(grant.tenure.term, grant.floor) {
+        return Ok(());
+    }
+    let handover = tablet.handover;
+    tablet.completions = completions_of(alloc, grant.ends.as_slice())?;
+    tablet.pull_from(grant.source);
+    append(
+        &mut state.log,
+        &mut state.items,
+        carried_entry(handover, grant),
+    )?;
+    Ok(())
+}
+
+// The completions after these ends. A search for each of them, and for the first of a client what an insertion takes.
+fn completions_of(alloc: Global, ends: &[Ended]) -> Result<Completions, NoMemory>
+    ensures { IfOk result (λ it. it.completions ≡ completions_from [] ends.now) }
+{
+    let mut completions = Completions::new(alloc);
+    completions.reserve(ends.len())?;
+    for end in ends {
+        completions.note(*end);
+    }
+    Ok(completions)
+}
+
+// The entry that begins what a target has of a tablet.
+fn carried_entry(handover: Handover, grant: Grant) -> Entry
+    ensures { result ≡ handovers.carried_entry handover grant }
+{
+    Entry::Carried(Carried {
+        range: handover.range,
+        term: handover.term,
+        floor: grant.floor,
+        ends: grant.ends,
+    })
 }
 
 // The tablet at a place closes where that move applies, and freezes at once where nothing of it is staged. A step for each
