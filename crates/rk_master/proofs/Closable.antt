@@ -1,5 +1,5 @@
 -- What closes the roles of tablets can be spelled, also after one of them changed.
-use Rattle.std.proofs.Common.{◌≡◌, ℕ, zero, suc, ◌<◌, Bool, true, false, cond, not, ◌&&◌, List, [], ◌∷◌, length, get_or, set, sym, subst, arith}
+use Rattle.std.proofs.Common.{◌≡◌, ℕ, zero, suc, ◌<◌, Bool, true, false, cond, eqb, not, ◌&&◌, List, [], ◌∷◌, length, get_or, set, sym, subst, arith}
 use Rattle.std.specs.Ordering.{nat_cmp}
 use Rattle.std.specs.declared.cmp.Ordering.{Ordering}
 use Rattle.std.specs.declared.cmp.Ordering.TheVariants.{Less, Equal, Greater}
@@ -7,12 +7,15 @@ use Rattle.std.specs.FinMap.Entries.{by_order}
 use Rattle.rk_types.specs.NumberMap.{NumberMap, insert}
 use Rattle.rk_types.specs.declared.call.Call.{Call}
 use Rattle.rk_types.specs.declared.call.Ended.{Ended}
+use Rattle.rk_types.specs.Range.{meets}
+use Rattle.rk_types.specs.declared.range.Range.{Range}
 use Rattle.rk_done.specs.Completions.{noted}
+use Rattle.rk_world.specs.Handovers.{given_up}
 use Rattle.rk_world.specs.Commits.{noting}
 use Rattle.rk_world.specs.Ranges.{has_key}
 use Rattle.rk_world.specs.RoleTests.{is_absent}
 use Rattle.rk_world.specs.Tablet.{Tablet}
-use Rattle.rk_master.specs.Parts.{AreTablets, IsClosable, AreClosable, tablet_of, tablets_of}
+use Rattle.rk_master.specs.Parts.{AreTablets, given_up_but, IsClosable, AreClosable, tablet_of, tablets_of}
 use Rattle.rk_master.specs.declared.tablet_lane.TabletLane.{TabletLane}
 use Rattle.rk_master.specs.Places.{Row}
 use Rattle.rk_master.proofs.Places.{at_itself, order_there}
@@ -47,6 +50,14 @@ noted_closable call end tablet lawful =
   where
     go : (b : Bool) → IsClosable (cond b (record tablet { completions = noted tablet.completions end }) tablet)
     go true = lawful
+    go false = lawful
+
+-- and so does a tablet that is given up
+pub given_up_closable : (kept : ℕ) (range : Range) (number : ℕ) (tablet : Tablet) → IsClosable tablet → IsClosable (given_up_but kept range number tablet)
+given_up_closable kept range number tablet lawful = go (not (eqb number kept) && meets tablet.handover.range range)
+  where
+    go : (b : Bool) → IsClosable (cond b (given_up tablet) tablet)
+    go true = λ role. cc role
     go false = lawful
 
 -- ---- the tablets of a master

@@ -17,7 +17,7 @@ use Rattle.rk_types.proofs.NumberMaps.{in_order_insert}
 use Rattle.rk_transfer.specs.declared.handover.Handover.{Handover}
 use Rattle.rk_world.specs.Tablet.{Tablet, no_tablet, with_handover}
 use Rattle.rk_master.specs.declared.tablet_lane.TabletLane.{TabletLane}
-use Rattle.rk_master.specs.Parts.{tablet_of, tablets_of, tablet_in}
+use Rattle.rk_master.specs.Parts.{changing, tablet_of, tablets_of, tablet_in}
 use Rattle.rk_master.specs.Places.{Row, IsAt, IsBetween}
 
 -- the first of two facts that a test joins
@@ -217,17 +217,13 @@ at_itself rows i d within = record {
       let row : get_or rows i other ≡ get_or rows i d = cc one in ap (λ (x : Row). x.0) row;
 }
 
--- a tablet of a map is changed
-abbrev pub changing : (Tablet → Tablet) → ℕ × Tablet → ℕ × Tablet
-changing change entry = (entry.0, change entry.1)
-
 -- the tablets, of which those from a place on are still to be changed
-abbrev pub changed_from : (Tablet → Tablet) → ℕ → List Row → NumberMap Tablet
+abbrev pub changed_from : (ℕ → Tablet → Tablet) → ℕ → List Row → NumberMap Tablet
 changed_from change i rows = tablets_of (take i rows) ++ map (changing change) (tablets_of (drop i rows))
 
 -- the next one is changed
-pub changed_next : (change : Tablet → Tablet) (rows : List Row) (i : ℕ) (d : Row) (lane : TabletLane) → i < length rows
-    → tablet_of lane ≡ change (tablet_of (get_or rows i d).1)
+pub changed_next : (change : ℕ → Tablet → Tablet) (rows : List Row) (i : ℕ) (d : Row) (lane : TabletLane) → i < length rows
+    → tablet_of lane ≡ change (get_or rows i d).0 (tablet_of (get_or rows i d).1)
     → changed_from change (i + 1) (set rows i ((get_or rows i d).0, lane)) ≡ changed_from change i rows
 changed_next change rows i d lane within changed =
     (λ j. tablets_of (take_more_set rows i new within j) ++ map (changing change) (tablets_of (drop-set-lt (i + 1) rows i new (omega arith) j)))

@@ -1,17 +1,21 @@
 -- What the parts of a master in code stand for.
-use Rattle.std.specs.Prelude.{◌≡◌, ℕ, List, [], ◌++◌, Option, Some, None, is_some, map}
+use Rattle.std.specs.Prelude.{◌≡◌, IfSome, ℕ, ◌==◌, ◌&&◌, not, if◌then◌else◌, List, [], ◌++◌, Option, Some, None, is_some, map}
 use Rattle.std.specs.List.{AllByRecursion}
 use Rattle.rk_types.specs.declared.held.Held.{Held}
+use Rattle.rk_types.specs.Range.{meets}
 use Rattle.rk_types.specs.declared.range.Range.{Range}
 use Rattle.rk_types.specs.NumberMap.{NumberMap, IsInOrder, get_or}
 use Rattle.rk_entry.specs.declared.entry.Entry.{Entry}
 use Rattle.rk_entry.specs.declared.entry.Entry.TheVariants as entries
 use Rattle.rk_entry.specs.Lawful.{IsLawfulEntry}
 use Rattle.rk_table.specs.Items.{with_newer}
+use Rattle.rk_transfer.specs.Handover.{granted}
 use Rattle.rk_transfer.specs.declared.handover.Handover.{Handover}
 use Rattle.rk_transfer.specs.declared.role.Role.TheVariants as roles
+use Rattle.rk_message.specs.declared.handover.Grant.{Grant}
 use Rattle.rk_world.specs.Tablet.{Tablet, no_tablet, pulling_from}
-use Rattle.rk_world.specs.Master.{Master}
+use Rattle.rk_world.specs.Master.{Master, tablet_at}
+use Rattle.rk_world.specs.Handovers.{carried_entry, given_up}
 use Rattle.rk_world.specs.Worked.{Worked}
 use Rattle.rk_world.specs.Waiting.{joined_entry}
 use Rattle.rk_master.specs.declared.work.Worked.{Worked as Work}
@@ -23,7 +27,7 @@ abbrev pub tablet_of : TabletLane → Tablet
 tablet_of lane = record no_tablet {
   handover = lane.handover;
   completions = lane.completions.completions;
-  pulling = record (pulling_from 0) { token = lane.token; hashes = lane.wanted; sealed = lane.sealed };
+  pulling = record (pulling_from lane.source) { token = lane.token; hashes = lane.wanted; sealed = lane.sealed };
 }
 
 -- the tablets by number
@@ -73,3 +77,18 @@ pub record AreTablets (tablets : List (ℕ × TabletLane)) : Type 0 where
 -- the handover of a tablet that is served from the start
 abbrev pub served : Range → Handover
 served range = record { role = roles.Serving; term = 1; range = range; counter = 1 }
+
+-- a tablet of a map is changed, by its number
+abbrev pub changing : (ℕ → Tablet → Tablet) → ℕ × Tablet → ℕ × Tablet
+changing change entry = (entry.0, change entry.0 entry.1)
+
+-- a tablet that is not that of this number is given up, where its range meets this one
+abbrev pub given_up_but : ℕ → Range → ℕ → Tablet → Tablet
+given_up_but kept range number tablet =
+    if not (number == kept) && meets tablet.handover.range range then given_up tablet else tablet
+
+-- where a Grant applies, the entry that begins what the target has of the tablet can be spelled
+abbrev pub IsGrantable : Master → Grant → Type 0
+IsGrantable master grant =
+    IfSome (granted (tablet_at master grant.tenure.tablet).handover grant.tenure.term grant.floor)
+    (λ handover. IsLawfulEntry (carried_entry handover grant))

@@ -22,6 +22,7 @@ mod choice;
 mod commit;
 mod effects;
 mod master_lane;
+mod orders;
 mod requests;
 mod staged_calls;
 mod staged_items;

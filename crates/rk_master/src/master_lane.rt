@@ -4,16 +4,19 @@ ghost use Rattle.rk_world.specs.Master.{new_master};
 ghost use Rattle.rk_world.specs.Premises.{IsLawfulCall};
 ghost use Rattle.rk_log.specs.Log.{IsBackup, overreach};
 ghost use Rattle.rk_world.specs.Commits.{stored_taken};
+ghost use Rattle.rk_world.specs.Handovers.{close_taken, grant_taken, own_taken, prepare_taken, release_taken};
 ghost use Rattle.rk_world.specs.Requests.{call_of, request_taken};
 ghost use Rattle.rk_world.specs.Step.{with_added};
+ghost use Rattle.rk_master.specs.Parts.{IsGrantable};
 
+use crate::orders::{take_close, take_grant, take_own, take_prepare, take_release};
 use crate::requests::take_request;
 use crate::state::MasterState;
 use crate::stored::take_stored;
 use crate::tablets::serve;
 use crate::work::Worked;
 use rk_log::MOST_BACKUPS;
-use rk_message::{Request, Stored};
+use rk_message::{Grant, Prepare, Request, Stored, Tenure};
 use rk_types::{NoMemory, Range};
 use std::alloc::Global;
 use std::marker::Model;
@@ -96,6 +99,83 @@ impl MasterLane {
         let work = take_stored(&mut self.state, backup, stored)?;
         self.spent = false;
         Ok(work)
+    }
+
+    /// Takes the coordinator's order to close a tablet: it answers no more calls, and once nothing of it is staged it is
+    /// frozen, and what its next owner has to know is told, also again. After `NoMemory` the master is spent. A binary
+    /// search, a step for each staged entry, and one for each client where that is told.
+    pub fn take_close(&mut self, tenure: Tenure) -> Result<Worked, NoMemory>
+        ensures ok { IfOk result (λ work. IsSomeAnd self.old (λ master. IsWork (close_taken master tenure) self.new work)) }
+        ensures err { OnErr result (self.new ≡ None) }
+    {
+        if self.spent {
+            return Err(NoMemory);
+        }
+        self.spent = true;
+        let work = take_close(&mut self.state, tenure)?;
+        self.spent = false;
+        Ok(work)
+    }
+
+    /// Takes the coordinator's order to make ready for a tablet, which applies by a term above that of the tablet and of
+    /// each tablet here whose range meets this one: the items of the range are dropped, each other tablet there is given
+    /// up, and the coordinator is told at which place of the log the tablet's entries begin, also again. After `NoMemory`
+    /// the master is spent. Two binary searches, two looks at each tablet, and where the order applies one at each record.
+    pub fn take_prepare(&mut self, prepare: Prepare) -> Result<Worked, NoMemory>
+        ensures ok { IfOk result (λ work. IsSomeAnd self.old (λ master. IsWork (prepare_taken master prepare) self.new work)) }
+        ensures err { OnErr result (self.new ≡ None) }
+    {
+        if self.spent {
+            return Err(NoMemory);
+        }
+        self.spent = true;
+        let work = take_prepare(&mut self.state, prepare)?;
+        self.spent = false;
+        Ok(work)
+    }
+
+    /// Takes the coordinator's order to serve a tablet for which this master made ready at that term: by what the source
+    /// told, which begins the tablet's entries in the log, and pulling from there. Where it applies, the range and the
+    /// numbers of that entry must be lawful. After `NoMemory` the master is spent; it also comes where the log is full, or
+    /// the entry does not fit a segment. A binary search, and where it applies a search for each end and the time to spell
+    /// the entry.
+    pub fn take_grant(&mut self, grant: Grant) -> Result<Worked, NoMemory>
+        requires { IfSome self.old (λ master. IsGrantable master grant) }
+        ensures ok { IfOk result (λ work. IsSomeAnd self.old (λ master. IsWork (grant_taken master grant) self.new work)) }
+        ensures err { OnErr result (self.new ≡ None) }
+    {
+        if self.spent {
+            return Err(NoMemory);
+        }
+        self.spent = true;
+        let work = take_grant(&mut self.state, grant)?;
+        self.spent = false;
+        Ok(work)
+    }
+
+    /// Takes the coordinator's order to own a tablet, which applies once the entry that closes the target's role is
+    /// applied: from then on it is served as one that was never moved. `NoMemory` only where the master is spent. A
+    /// binary search.
+    pub fn take_own(&mut self, tenure: Tenure) -> Result<Worked, NoMemory>
+        ensures ok { IfOk result (λ work. IsSomeAnd self.old (λ master. IsWork (own_taken master tenure) self.new work)) }
+        ensures err { OnErr result (self.new ≡ None) }
+    {
+        if self.spent {
+            return Err(NoMemory);
+        }
+        Ok(take_own(&mut self.state, tenure))
+    }
+
+    /// Takes the coordinator's order to release a frozen tablet: it is absent, and its items are dropped. `NoMemory` only
+    /// where the master is spent. A binary search, and where the order applies a look at each record.
+    pub fn take_release(&mut self, tenure: Tenure) -> Result<Worked, NoMemory>
+        ensures ok { IfOk result (λ work. IsSomeAnd self.old (λ master. IsWork (release_taken master tenure) self.new work)) }
+        ensures err { OnErr result (self.new ≡ None) }
+    {
+        if self.spent {
+            return Err(NoMemory);
+        }
+        Ok(take_release(&mut self.state, tenure))
     }
 
     /// Adds a tablet, which is served from now on. `NoMemory` also where the master is spent; nothing has changed then. A

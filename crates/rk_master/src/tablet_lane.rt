@@ -4,21 +4,23 @@ ghost use Rattle.rk_entry.specs.Numbers.{IsNumber};
 ghost use Rattle.rk_types.specs.Hashing.{hash_of};
 ghost use Rattle.rk_types.specs.declared.held.Held.{Held as Item};
 ghost use Rattle.rk_world.specs.Ranges.{has_key};
-ghost use Rattle.rk_world.specs.Master.{serves_key};
-ghost use Rattle.rk_world.specs.RoleTests.{is_absent as is_absent_lem};
+ghost use Rattle.rk_world.specs.Master.{Master, serves_key};
+ghost use Rattle.rk_world.specs.Handovers.{given_up, transfer as transfer_lem};
+ghost use Rattle.rk_world.specs.RoleTests.{is_absent as is_absent_lem, is_frozen_at as is_frozen_at_lem};
 ghost use Rattle.rk_world.specs.Requests.{counted_up, is_known as is_known_lem, with_wanted};
 ghost use Rattle.rk_transfer.specs.Handover.{frozen, joined};
-ghost use Rattle.rk_world.specs.Tablet.{no_tablet, with_handover};
+ghost use Rattle.rk_world.specs.Tablet.{no_tablet, pulling_from, with_handover};
 ghost use Rattle.rk_world.specs.Waiting.{joined_entry};
 ghost use Rattle.rk_master.specs.Parts.{tablet_of};
 
 use crate::choice::is_receiving;
 use rk_done::Completions;
 use rk_entry::{Entry, Joined};
+use rk_message::{Body, Message, Tenure, Transfer};
 use rk_priority::Wanted;
 use rk_table::FIRST;
 use rk_transfer::{Handover, Role};
-use rk_types::{Key, Listed, NoMemory, Token, bucket_of, hash};
+use rk_types::{Key, Listed, NoMemory, Node, Token, bucket_of, hash};
 use std::alloc::Global;
 
 /// Versions count from 1, and this one and those above it are never given.
@@ -29,6 +31,8 @@ pub const MOST_VERSIONS: u64 = 1 << 60;
 pub struct TabletLane {
     pub handover: Handover,
     pub completions: Completions,
+    /// The master that the tablet is pulled from, and 0 where none is.
+    pub source: u8,
     pub wanted: Wanted,
     pub token: Token,
     /// The numbers of the side segments that were sealed.
@@ -98,6 +102,7 @@ impl TabletLane {
         TabletLane {
             handover,
             completions: Completions::new(alloc),
+            source: 0,
             wanted: Wanted::new(alloc),
             token: FIRST,
             sealed: Listed::new(alloc),
@@ -113,6 +118,48 @@ impl TabletLane {
     {
         let term = self.handover.term;
         let _ = self.handover.freeze(term);
+    }
+
+    /// Whether the tablet is frozen at this term.
+    pub(crate) fn is_frozen_at(&self, term: u64) -> bool
+        ensures { result ≡ is_frozen_at_lem (tablet_of self.now) term }
+    {
+        matches!(self.handover.role, Role::Frozen) && self.handover.term == term
+    }
+
+    /// What the next owner of a frozen tablet has to know, from the master of this number.
+    pub(crate) fn transfer(&self, number: u8, tenure: Tenure) -> Result<Message, NoMemory>
+        ensures { IfOk result (λ message. (master : Master) → master.number ≡ number
+            → message ≡ transfer_lem master tenure (tablet_of self.now)) }
+    {
+        let ends = Listed::from_vec(self.completions.ends()?);
+        Ok(Message {
+            from: Node::Master(number),
+            to: Node::Coordinator,
+            body: Body::Transfer(Transfer {
+                tenure,
+                floor: self.handover.counter,
+                ends,
+            }),
+        })
+    }
+
+    /// Forgets what was pulled; from now on the tablet is pulled from this source.
+    pub(crate) fn pull_from(&mut self, source: u8)
+        ensures { tablet_of self.new ≡ (record (tablet_of self.old) { pulling = pulling_from source }) }
+    {
+        self.source = source;
+        self.wanted.clear();
+        self.token = FIRST;
+        self.sealed = self.sealed.empty_like();
+    }
+
+    /// The tablet is given up: it is absent, what was pulled is forgotten, and its term and range stay.
+    pub(crate) fn give_up(&mut self)
+        ensures { tablet_of self.new ≡ given_up (tablet_of self.old) }
+    {
+        self.pull_from(self.source);
+        self.handover.role = Role::Absent;
     }
 
     /// A target that has all takes the place of the entry that closes its role.

@@ -1,16 +1,30 @@
 // The tablets of a master, by rising number.
-ghost use Rattle.std.specs.Prelude.{◌≡◌, IsSome, IfOk, IfErr, OnOk, OnErr};
+ghost use Rattle.std.specs.Prelude.{◌≡◌, ◌≢◌, None, map, IsSome, IfOk, IfErr, OnOk, OnErr};
 ghost use Rattle.std.specs.Int.{w64};
+ghost use Rattle.std.specs.List.{list_all};
 ghost use Rattle.rk_types.specs.NumberMap.{IsInOrder, get, insert};
 ghost use Rattle.rk_entry.specs.Numbers.{IsNumber};
 ghost use Rattle.rk_world.specs.Tablet.{with_handover};
+ghost use Rattle.rk_world.specs.Handovers.{is_above};
 ghost use Rattle.rk_world.specs.Requests.{counted_up, with_wanted};
-ghost use Rattle.rk_master.specs.Parts.{AreTablets, served, tablet_in, tablets_of};
+ghost use Rattle.rk_master.specs.Parts.{AreTablets, changing, given_up_but, served, tablet_in, tablet_of, tablets_of};
 ghost use Rattle.rk_master.specs.Places.{IsAt, IsBetween};
 
 use crate::tablet_lane::TabletLane;
 use rk_transfer::{Handover, Role};
 use rk_types::{NoMemory, Range};
+
+// The handover of a tablet that a master does not know.
+const NO_HANDOVER: Handover = Handover {
+    role: Role::Absent,
+    term: 0,
+    range: Range {
+        table: 0,
+        first: 0,
+        last: 0,
+    },
+    counter: 1,
+};
 
 /// The place of the tablet of this number, or where it would stand. One binary search.
 pub(crate) fn search(tablets: &[(u32, TabletLane)], number: u32) -> Result<usize, usize>
@@ -64,6 +78,51 @@ pub(crate) fn want(
     Ok(())
 }
 
+/// The handover of the tablet of this number; of one that is not there the role is Absent and the term 0. One binary
+/// search.
+pub(crate) fn handover_of(tablets: &[(u32, TabletLane)], number: u32) -> Handover
+    requires { IsInOrder tablets.now }
+    ensures { result ≡ (tablet_in tablets.now number).handover }
+{
+    match search(tablets, number) {
+        Ok(at) => tablets[at].1.handover,
+        Err(_) => NO_HANDOVER,
+    }
+}
+
+/// Whether a term is above those of all tablets whose range meets this one. A look at each tablet.
+pub(crate) fn is_above_all(tablets: &[(u32, TabletLane)], range: &Range, term: u64) -> bool
+    ensures { result ≡ list_all (is_above range.now term) (tablets_of tablets.now) }
+{
+    for entry in tablets {
+        if entry.1.handover.range.meets(range) && entry.1.handover.term >= term {
+            return false;
+        }
+    }
+    true
+}
+
+/// Each tablet but that of this number whose range meets this one is given up. A look at each tablet.
+pub(crate) fn give_up_others(tablets: &mut [(u32, TabletLane)], number: u32, range: &Range)
+    requires { AreTablets tablets.old }
+    ensures others { tablets_of tablets.new ≡ map (changing (given_up_but number range.now)) (tablets_of tablets.old) }
+    ensures tablets { AreTablets tablets.new }
+{
+    for entry in tablets.iter_mut() {
+        give_up_other(&mut entry.1, entry.0, number, range);
+    }
+}
+
+// A tablet is given up where it is not that of `kept` and its range meets this one.
+fn give_up_other(tablet: &mut TabletLane, number: u32, kept: u32, range: &Range)
+    ensures { tablet_of tablet.new ≡ given_up_but kept range.now number (tablet_of tablet.old) }
+{
+    if number == kept || !tablet.handover.range.meets(range) {
+        return;
+    }
+    tablet.give_up();
+}
+
 /// The tablet of this number is served from now on, at term 1. After `NoMemory` nothing has changed. One binary search,
 /// and what an insertion takes.
 pub(crate) fn serve(
@@ -83,6 +142,23 @@ pub(crate) fn serve(
         range,
         counter: 1,
     };
+    hand(tablets, number, handover)
+}
+
+/// The tablet of this number has this handover from now on. After `NoMemory` nothing has changed. One binary search, and
+/// what an insertion takes.
+pub(crate) fn hand(
+    tablets: &mut Vec<(u32, TabletLane)>,
+    number: u32,
+    handover: Handover,
+) -> Result<(), NoMemory>
+    requires tablets { AreTablets tablets.old.items }
+    requires role { handover.role ≢ Role.Joining None }
+    ensures ok { OnOk result (tablets_of tablets.new.items ≡ insert (tablets_of tablets.old.items) number
+        (with_handover (tablet_in tablets.old.items number) handover)) }
+    ensures tablets { AreTablets tablets.new.items }
+    ensures err { OnErr result (tablets.new.items ≡ tablets.old.items) }
+{
     match search(tablets.as_slice(), number) {
         Ok(at) => {
             tablets[at].1.handover = handover;

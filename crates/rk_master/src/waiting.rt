@@ -1,6 +1,6 @@
 // What waits at a master until backups hold more: a tablet that closes freezes once nothing of it is staged, and a target
 // that has all appends its closing entry once its side segments are stored.
-ghost use Rattle.std.specs.Prelude.{◌≡◌, ◌≤◌, ◌<◌, ◌+◌, Some, None, not, length, drop, slice_get, OnOk};
+ghost use Rattle.std.specs.Prelude.{◌≡◌, ℕ, ◌≤◌, ◌<◌, ◌+◌, Some, None, not, length, drop, slice_get, OnOk};
 ghost use Rattle.std.specs.List.{list_all, list_any};
 ghost use Rattle.rk_log.specs.Log.{is_side_stored};
 ghost use Rattle.rk_transfer.specs.Handover.{frozen};
@@ -8,7 +8,7 @@ ghost use Rattle.rk_world.specs.Ranges.{has_key as has_key_lem};
 ghost use Rattle.rk_world.specs.Master.{touches as touches_lem};
 ghost use Rattle.rk_world.specs.Waiting as waiting;
 ghost use Rattle.rk_master.specs.Parts.{tablet_of};
-ghost use Rattle.rk_master.specs.Places.{Row};
+ghost use Rattle.rk_master.specs.Places.{IsAt, Row};
 ghost use Rattle.rk_master.specs.State.{IsState, master_of};
 
 use crate::staging::append;
@@ -59,8 +59,8 @@ fn go_on_at(state: &mut MasterState, at: usize) -> Result<(), NoMemory>
     }
 }
 
-// The tablet at a place, which closes, freezes where nothing of it is staged. A step for each staged entry.
-fn freeze_at(state: &mut MasterState, at: usize)
+/// The tablet at a place, which closes, freezes where nothing of it is staged. A step for each staged entry.
+pub(crate) fn freeze_at(state: &mut MasterState, at: usize)
     requires state { IsState state.old }
     requires within { at < length state.old.tablets.items }
     requires role { (row : Row) → slice_get state.old.tablets.items at ≡ Some row → row.1.handover.role ≡ Role.Closing }
@@ -69,6 +69,7 @@ fn freeze_at(state: &mut MasterState, at: usize)
         → master_of state.new ≡ waiting.freezing (master_of state.old) row.0 (tablet_of row.1) (frozen row.1.handover row.1.handover.term) }
     ensures behind { drop (at + 1) state.new.tablets.items ≡ drop (at + 1) state.old.tablets.items }
     ensures length { length state.new.tablets.items ≡ length state.old.tablets.items }
+    ensures place { (number : ℕ) → IsAt number state.old.tablets.items at → IsAt number state.new.tablets.items at }
 {
     let range = state.tablets[at].1.handover.range;
     if !is_settled(&state.log, state.applied, &range) {

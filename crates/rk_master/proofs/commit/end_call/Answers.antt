@@ -9,10 +9,9 @@ use Rattle.rk_world.specs.Requests.{answering}
 use Rattle.rk_world.specs.Commits.{noting, with_ended}
 use Rattle.rk_world.specs.Master.{Master}
 use Rattle.rk_master.specs.Places.{Row}
-use Rattle.rk_master.specs.Parts.{behind, tablets_of, worked_of}
+use Rattle.rk_master.specs.Parts.{behind, changing, tablets_of, worked_of}
 use Rattle.rk_master.specs.State.{master_of}
 use Rattle.rk_master.proofs.Applying.{behind_changed, ended_none}
-use Rattle.rk_master.proofs.Places.{changing}
 use Rattle.rk_master.proofs.commit.end_call.Goals as goal
 
 pub returns-in_default-clause-ok : goal.returns-in_default-clause-ok
@@ -29,7 +28,7 @@ returns-clause-ok c = λ ends.
     let call : Call = c.in-Some.call in
     let waits = sym c.in-Some.ensures.value in
     let rows = with_items_is c.args.state.now.tablets c.note_in_each.new.tablets (c.note_in_each.auto.tablets ∙ c.as_mut_slice.ensures.len) in
-    let tablets = ap tablets_of rows ∙ c.in_ok-note_in_each.ensures.noted ∙ ap (λ (rows : List Row). map (changing (noting call c.args.end)) (tablets_of rows)) c.as_mut_slice.ensures.value in
+    let tablets = ap tablets_of rows ∙ c.in_ok-note_in_each.ensures.noted ∙ ap (λ (rows : List Row). map (changing (λ number. noting call c.args.end)) (tablets_of rows)) c.as_mut_slice.ensures.value in
     let message = c.answering.ensures master refl ∙ ap (λ (o : Outcome). answering master call (Done o)) c.outcome_of.ensures in
     let sends = c.in_ok-serve.ensures.sends ∙ c.in_ok-send.ensures.sends ∙ ap (λ (m : Message). c.args.work.now.sends.items ++ m ∷ []) message in
     let served = c.in_ok-serve.ensures.served ∙ (λ i. c.in_ok-send.ensures.served i ++ (record { call = call; outcome = c.outcome_of-2.ensures i }) ∷ []) in

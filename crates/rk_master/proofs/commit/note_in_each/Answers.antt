@@ -17,5 +17,5 @@ loop-entry-preserved c =
           lawful_set rows i row c.note.new.tablet within c.loop-entry.invariant.tablets
           (subst IsClosable (sym c.in_ok-note.ensures)
           (noted_closable c.args.call.now c.args.end (tablet_of (get_or rows i row).1) (closable_at rows i row within c.loop-entry.invariant.tablets.closable)));
-      rest = changed_next (noting c.args.call.now c.args.end) rows i row c.note.new.tablet within c.in_ok-note.ensures ∙ c.loop-entry.invariant.rest;
+      rest = changed_next (λ number. noting c.args.call.now c.args.end) rows i row c.note.new.tablet within c.in_ok-note.ensures ∙ c.loop-entry.invariant.rest;
     }

@@ -1,11 +1,11 @@
 use Rattle.std.proofs.Common.{◌≡◌, map}
 use Rattle.rk_world.specs.Commits.{noting}
-use Rattle.rk_master.specs.Parts.{AreTablets, tablets_of}
-use Rattle.rk_master.proofs.Places.{changing, changed_from}
+use Rattle.rk_master.specs.Parts.{AreTablets, changing, tablets_of}
+use Rattle.rk_master.proofs.Places.{changed_from}
 use Rattle.rk_master.proofs.commit.note_in_each.Given as goal
 
 abbrev pub invariant-loop-entry : goal.invariant-loop-entry
 invariant-loop-entry l = record {
   tablets : AreTablets l.tablets;
-  rest : changed_from (noting l.call l.end) l.entry-index l.tablets ≡ map (changing (noting l.call l.end)) (tablets_of l.fn.tablets);
+  rest : changed_from (λ number. noting l.call l.end) l.entry-index l.tablets ≡ map (changing (λ number. noting l.call l.end)) (tablets_of l.fn.tablets);
 }

@@ -1,0 +1,47 @@
+use Rattle.std.proofs.Common.{◌≡◌, List, Option, sym, ap, ◌∙◌}
+use Rattle.rk_table.specs.Sorted.{items_of as records_of}
+use Rattle.rk_transfer.specs.Handover.{released}
+use Rattle.rk_transfer.specs.declared.handover.Handover.{Handover}
+use Rattle.rk_transfer.specs.declared.role.Role.TheVariants as roles
+use Rattle.rk_world.specs.Master.{Master}
+use Rattle.rk_world.specs.Worked.{changed}
+use Rattle.rk_master.specs.Parts.{tablet_of}
+use Rattle.rk_master.specs.Places.{Row}
+use Rattle.rk_master.specs.State.{master_of}
+use Rattle.rk_master.proofs.Closable.{lawful_read}
+use Rattle.rk_master.proofs.Handovers.{has_moved, not_moved, stays_so, released_role, moved_lane, with_rows, tablet_read, same_set, release_failed, release_made}
+use Rattle.rk_master.proofs.orders.release.Goals as goal
+
+pub returns-then-not-release-clause-ok : goal.returns-then-not-release-clause-ok
+returns-then-not-release-clause-ok c =
+    let master : Master = master_of c.args.state.now in
+    let rows : List Row = c.args.state.now.tablets.items in
+    let read : Row = c.index_mut.result.now in
+    let moved : Option Handover = released read.1.handover c.args.tenure.term in
+    let failed = sym c.release.ensures.answer ∙ c.if-not-release.true in
+    let same = stays_so moved read.1.handover c.release.new.self failed c.release.ensures.after in
+    let tablet = tablet_read rows c.args.tenure.tablet c.args.at read c.requires.state.tablets.order c.requires.place c.index_mut.ensures.value in
+    ap (λ (held : List Row). changed (with_rows master held)) (same_set rows c.args.at read c.release.new.self same c.index_mut.ensures.value)
+    ∙ release_failed master c.args.tenure (tablet_of read.1) tablet (not_moved moved failed)
+
+pub returns-clause-state : goal.returns-clause-state
+returns-clause-state c =
+    let read : Row = c.index_mut.result.now in
+    let handover : Handover = c.release.new.self in
+    let moved = has_moved (released read.1.handover c.args.tenure.term) read.1.handover handover (sym c.release.ensures.answer ∙ c.if-not-release.false) c.release.ensures.after in
+    let role : (moved_lane read.1 handover).handover.role ≡ roles.Absent = released_role read.1.handover handover c.args.tenure.term moved in
+    record {
+      within = c.requires.state.within;
+      kept = c.requires.state.kept;
+      backups = c.requires.state.backups;
+      tablets = lawful_read c.args.state.now.tablets.items c.args.at read (moved_lane read.1 handover) c.requires.place.within c.index_mut.ensures.value c.requires.state.tablets (λ joins. cc (joins, role));
+    }
+
+pub returns-clause-ok : goal.returns-clause-ok
+returns-clause-ok c =
+    let master : Master = master_of c.args.state.now in
+    let rows : List Row = c.args.state.now.tablets.items in
+    let read : Row = c.index_mut.result.now in
+    let handover : Handover = c.release.new.self in
+    let moved = has_moved (released read.1.handover c.args.tenure.term) read.1.handover handover (sym c.release.ensures.answer ∙ c.if-not-release.false) c.release.ensures.after in
+    release_made master (records_of c.drop_range.new.self) rows c.args.at read handover c.args.tenure c.requires.state.tablets.order c.requires.place c.index_mut.ensures.value moved c.drop_range.ensures.dropped

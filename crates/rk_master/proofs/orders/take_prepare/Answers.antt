@@ -1,0 +1,28 @@
+use Rattle.std.proofs.Common.{◌≡◌, ◌<◌, true, List, length, ap, sym, ◌∙◌, subst}
+use Rattle.std.specs.List.{list_all}
+use Rattle.std.proofs.lemmas.Result.{IfOk-weaker}
+use Rattle.rk_log.specs.Log.{Log}
+use Rattle.rk_world.specs.Handovers.{is_above, prepare_taken}
+use Rattle.rk_world.specs.Master.{Master, tablet_at}
+use Rattle.rk_transfer.specs.declared.handover.Handover.{Handover}
+use Rattle.rk_master.specs.Parts.{tablet_in, tablets_of, worked_of}
+use Rattle.rk_master.specs.Places.{Row}
+use Rattle.rk_master.specs.State.{master_of}
+use Rattle.rk_master.proofs.Handovers.{prepare_made}
+use Rattle.rk_master.proofs.orders.take_prepare.Goals as goal
+
+pub returns-clause-ok : goal.returns-clause-ok
+returns-clause-ok c =
+    let master : Master = master_of c.args.state.now in
+    let now : Master = master_of c.make_ready.new.state in
+    let rows : List Row = c.args.state.now.tablets.items in
+    let before : c.handover_of-before.result ≡ (tablet_at master c.args.prepare.tenure.tablet).handover =
+    c.handover_of-before.ensures ∙ ap (λ (held : List Row). (tablet_in held c.args.prepare.tenure.tablet).handover) c.as_slice.ensures.value in
+    let greater : (tablet_at master c.args.prepare.tenure.tablet).handover.term < c.args.prepare.tenure.term =
+    subst (λ (h : Handover). h.term < c.args.prepare.tenure.term) before c.if-tenure-before.false in
+    let above : list_all (is_above c.args.prepare.range c.args.prepare.tenure.term) master.tablets ≡ true =
+    ap (λ (held : List Row). list_all (is_above c.args.prepare.range c.args.prepare.tenure.term) (tablets_of held)) (sym c.as_slice-else-tenure-before.ensures.value)
+    ∙ sym c.is_above_all.ensures ∙ c.if-not-is_above_all.false in
+    let place = c.length.ensures ∙ ap (λ (log : Log). length log.entries) c.in_ok-make_ready.ensures.log in
+    IfOk-weaker c.tell_ready.result _ (λ work. worked_of now work ≡ prepare_taken master c.args.prepare)
+    (λ work is. is master (sym c.in_ok-make_ready.ensures.number) ∙ prepare_made master now c.args.prepare c.length.result c.in_ok-make_ready.ensures.ok place greater above) c.tell_ready.ensures

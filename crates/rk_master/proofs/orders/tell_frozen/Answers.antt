@@ -1,0 +1,25 @@
+use Rattle.std.proofs.Common.{[], ◌∷◌, ◌++◌, refl, sym, ◌∙◌}
+use Rattle.rk_world.specs.Handovers.{transfer}
+use Rattle.rk_world.specs.Master.{Master}
+use Rattle.rk_master.specs.Parts.{tablet_of}
+use Rattle.rk_master.specs.Places.{Row}
+use Rattle.rk_master.specs.State.{master_of}
+use Rattle.rk_master.proofs.Handovers.{tablet_read, is_told, not_told, worked_quietly, worked_sending}
+use Rattle.rk_master.proofs.orders.tell_frozen.Goals as goal
+
+pub returns-then-not-is_frozen_at : goal.returns-then-not-is_frozen_at
+returns-then-not-is_frozen_at c =
+    let master : Master = master_of c.args.state.now in
+    let read : Row = c.index.result.now in
+    let tablet = tablet_read c.args.state.now.tablets.items c.args.tenure.tablet c.args.at read c.requires.order c.requires.place c.index.ensures in
+    worked_quietly master c.nothing-work.result c.nothing-work.ensures.sends c.nothing-work.ensures.served
+    ∙ not_told master c.args.tenure (tablet_of read.1) tablet (sym c.is_frozen_at.ensures ∙ c.if-not-is_frozen_at.true)
+
+pub returns : goal.returns
+returns c =
+    let master : Master = master_of c.args.state.now in
+    let read : Row = c.index.result.now in
+    let tablet = tablet_read c.args.state.now.tablets.items c.args.tenure.tablet c.args.at read c.requires.order c.requires.place c.index.ensures in
+    let sends = c.in_ok-send.ensures.sends ∙ (λ i. c.nothing-work.ensures.sends i ++ c.in_ok-transfer.ensures master refl i ∷ []) in
+    worked_sending master c.send.new.self (transfer master c.args.tenure (tablet_of read.1)) sends (c.in_ok-send.ensures.served ∙ c.nothing-work.ensures.served)
+    ∙ is_told master c.args.tenure (tablet_of read.1) tablet (sym c.is_frozen_at.ensures ∙ c.if-not-is_frozen_at.false)

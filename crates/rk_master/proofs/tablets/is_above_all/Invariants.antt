@@ -1,0 +1,8 @@
+use Rattle.std.proofs.Common.{◌≡◌, drop}
+use Rattle.std.specs.List.{list_all}
+use Rattle.rk_world.specs.Handovers.{is_above}
+use Rattle.rk_master.specs.Parts.{tablets_of}
+use Rattle.rk_master.proofs.tablets.is_above_all.Given as goal
+
+abbrev pub invariant-loop-entry : goal.invariant-loop-entry
+invariant-loop-entry l = list_all (is_above l.range l.term) (tablets_of l.tablets) ≡ list_all (is_above l.range l.term) (tablets_of (drop l.entry-index l.tablets))
