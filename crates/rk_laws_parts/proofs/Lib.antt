@@ -48,6 +48,9 @@ pub mod PullingChanges
 pub mod HashWanted
 pub mod HashesResolved
 pub mod TokenPassed
+pub mod Gathered
+pub mod GatheringChanges
+pub mod SegmentGathered
 pub mod TurnedRows
 pub mod PlaceNoted
 pub mod SmallWorld

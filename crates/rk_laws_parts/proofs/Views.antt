@@ -5,6 +5,7 @@ use Rattle.rk_types.specs.declared.call.Call.{Call}
 use Rattle.rk_types.specs.declared.held.Held.{Held}
 use Rattle.rk_log.specs.Log.{Log}
 use Rattle.rk_transfer.specs.declared.handover.Handover.{Handover}
+use Rattle.rk_world.specs.Gather.{Gather}
 use Rattle.rk_world.specs.Tablet.{Tablet, Pulling, with_handover}
 use Rattle.rk_world.specs.Master.{Master, tablet_at, with_tablet}
 use Rattle.rk_world.specs.Pulls.{with_pulling}
@@ -103,5 +104,17 @@ view_pulled w master number pulling =
       completions = put2_same (view w).completions master number i;
       pullings = put2 (view w).pullings master number pulling;
       gathers = put2_same (view w).gathers master number i;
+      merged = put2_same (view w).merged master number i;
+    })
+
+-- of what one tablet gathers alone
+pub view_gathered : (w : World) (master number : ℕ) (gather : Gather) → view (with_master w master (with_tablet (master_at w master) number (record (tablet_in w master number) { gather = gather }))) ≡ record (view w) { gathers = put2 (view w).gathers master number gather }
+view_gathered w master number gather =
+    view_kept w master number (record (tablet_in w master number) { gather = gather })
+    ∙ (λ i. record (view w) {
+      handovers = put2_same (view w).handovers master number i;
+      completions = put2_same (view w).completions master number i;
+      pullings = put2_same (view w).pullings master number i;
+      gathers = put2 (view w).gathers master number gather;
       merged = put2_same (view w).merged master number i;
     })

@@ -28,7 +28,7 @@ use Rattle.rk_message.specs.declared.rebuilding.Rebuild.{Rebuild}
 use Rattle.rk_world.specs.Ends.{items_of}
 use Rattle.rk_world.specs.Material.{as_entries}
 use Rattle.rk_world.specs.Lineage.{is_member}
-use Rattle.rk_world.specs.Gather.{next_reading, is_awaited}
+use Rattle.rk_world.specs.Gather.{Gather, next_reading, is_awaited}
 use Rattle.rk_world.specs.Tablet.{Pulling}
 use Rattle.rk_world.specs.RoleTests.{is_gathering}
 use Rattle.rk_world.specs.SideLogs.{sealed_sides}
@@ -41,7 +41,7 @@ use Rattle.rk_sound.specs.Cover.{IsWithinRows}
 use Rattle.rk_sound.specs.Posts.{InvitedTarget, post_of}
 use Rattle.rk_sound.specs.Receives.{is_joining, HasPulled, HasArrived, scan_items, IsOutdone, IsFound, entries_from, copied_items}
 use Rattle.rk_sound.specs.Logs.{stored_of}
-use Rattle.rk_sound.specs.Rebuilds.{IsReadPart, READ_BACKUP}
+use Rattle.rk_sound.specs.Rebuilds.{AreGathered, IsGatherOf, IsReadPart, READ_BACKUP}
 use Rattle.rk_sound.specs.Messages.{HasJoined, HasRebuilt, MayFollowClose, IsOwner}
 use Rattle.rk_sound.specs.Changes.{HasSegmentLeft}
 
@@ -211,6 +211,20 @@ pub record MayGather (v : View) (own tablet master segment : ℕ) (bytes : Optio
   pub awaited : is_awaited (next_reading (v.gathers own tablet)) master segment ≡ true
   pub read :
       IsReadPart (known_of (v.logs master) READ_BACKUP) (stored_of v.stored master READ_BACKUP) segment (read_bytes bytes)
+
+-- what a master gathers for a row that it rebuilds goes on: it is still that of the row, and each segment that was read is a first
+-- part that holds what its master knew to be stored; nothing is merged so far
+pub record GathersOn (v : View) (row : Row) (lineage : List Member) (own : ℕ) (new : Gather) : Type 0 where
+  pub gathering : is_gathering (v.handovers own row.tablet).role ≡ true
+  pub gather : IsGatherOf new row.range lineage own
+  pub read : AreGathered (λ q. known_of (v.logs q) READ_BACKUP) (λ q. stored_of v.stored q READ_BACKUP) new.members
+
+-- what is gathered for a tablet may go on at a master, where it does so for each row that the master rebuilds at the row's term
+abbrev pub MayGatherOn : View → ℕ → ℕ → (Gather → Gather) → Type 0
+MayGatherOn v own tablet change =
+    (row : Row) (lineage : List Member) → Contains v.rows row → row.tablet ≡ tablet → row.phase ≡ Rebuilding lineage own
+    → (v.handovers own row.tablet).term ≡ row.term
+    → GathersOn v row lineage own (change (v.gathers own row.tablet))
 
 -- what was gathered may be merged, once all is, where the log has room for the copies and the entry that closes the rebuild
 pub record MayMerge (v : View) (master tablet : ℕ) (copies : List Held) (closing : Entry) : Type 0 where

@@ -15,10 +15,13 @@ use Rattle.rk_tablet_map.specs.declared.row.Row.{Row}
 use Rattle.rk_priority.specs.Hashes.{Hashes, batched, got, wanting}
 use Rattle.rk_message.specs.Wire.{without_message, with_message}
 use Rattle.rk_message.specs.declared.message.Message.{Message}
+use Rattle.rk_message.specs.declared.rebuilding.CopySegment.{CopySegment}
+use Rattle.rk_world.specs.Gather.{Gather, gathering}
 use Rattle.rk_world.specs.Tablet.{Pulling, with_handover}
 use Rattle.rk_world.specs.Master.{with_tablet}
 use Rattle.rk_world.specs.Requests.{hash_wanted, item_of, write_staged}
 use Rattle.rk_world.specs.Pulls.{hashes_resolved, token_passed}
+use Rattle.rk_world.specs.Rebuilds.{segment_gathered}
 use Rattle.rk_world.specs.MasterTurn.{batch_asked}
 use Rattle.rk_world.specs.CoordinatorStep.{place_noted}
 use Rattle.rk_world.specs.Ledger.{with_client, with_request}
@@ -135,6 +138,19 @@ passing next = gone_on (λ p. next) (λ p. p.batches + 1) (λ p. p.hashes)
 
 abbrev pub token_passed_in : World → ℕ → ℕ → Token → World
 token_passed_in w master tablet next = with_master w master (token_passed (master_at w master) tablet next)
+
+-- ---- what a tablet gathers
+
+-- what is gathered for a tablet changes at a master
+abbrev pub gathered : View → ℕ → ℕ → (Gather → Gather) → View
+gathered v master tablet change = record v { gathers = put2 v.gathers master tablet (change (v.gathers master tablet)) }
+
+-- the segment that was awaited is gathered
+abbrev pub reading : CopySegment → Gather → Gather
+reading copy gather = gathering gather copy.master copy.segment copy.bytes
+
+abbrev pub segment_gathered_in : World → ℕ → CopySegment → World
+segment_gathered_in w master copy = with_master w master (segment_gathered (master_at w master) copy)
 
 -- ---- rows
 
