@@ -51,7 +51,10 @@ pub mod TokenPassed
 pub mod Gathered
 pub mod GatheringChanges
 pub mod SegmentGathered
+pub mod Steady
 pub mod TurnedRows
+pub mod RoleTaken
+pub mod Closed
 pub mod PlaceNoted
 pub mod SmallWorld
 pub mod SmallWorldLooks

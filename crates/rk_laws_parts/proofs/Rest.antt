@@ -72,7 +72,7 @@ settled_row v master number fits may q row has here its =
     (subst (λ (range : Range). IsSettledIn range (v.written master)) same may.settled)
 
 -- an entry of a call is of each range that has the call's key
-own_touches : (range : Range) (call : Call) (entry : Entry) → IsEntryOf call entry → has_key range call.table call.key ≡ true → touches range entry ≡ true
+pub own_touches : (range : Range) (call : Call) (entry : Entry) → IsEntryOf call entry → has_key range call.table call.key ≡ true → touches range entry ≡ true
 own_touches range call (entries.Held held) own inside =
     sym (ap (λ (table : ℕ). has_key range table call.key) own.table_is ∙ ap (has_key range held.table) own.key_is) ∙ inside
 own_touches range call (entries.Refused refused) own inside =

@@ -26,7 +26,7 @@ use Rattle.rk_laws_parts.proofs.Apart.{one_precedes}
 use Rattle.rk_laws_parts.proofs.Speakers.{speaks_serving, speaker_of, speaker_is}
 
 -- ranges meet either way
-meets_either : (a b : Range) → meets a b ≡ true → meets b a ≡ true
+pub meets_either : (a b : Range) → meets a b ≡ true → meets b a ≡ true
 meets_either a b both = turned a.table a.first a.last b.table b.first b.last both
   where
     turned : (s f l t g m : ℕ) → (eqb s t && leb f m && leb g l) ≡ true → (eqb t s && leb g l && leb f m) ≡ true

@@ -2,6 +2,7 @@
 use Rattle.std.proofs.Common.{◌≡◌, ℕ, List, refl, ap, ◌∙◌}
 use Rattle.rk_types.specs.NumberMap.{NumberMap}
 use Rattle.rk_types.specs.declared.call.Call.{Call}
+use Rattle.rk_types.specs.declared.call.Ended.{Ended}
 use Rattle.rk_types.specs.declared.held.Held.{Held}
 use Rattle.rk_log.specs.Log.{Log}
 use Rattle.rk_transfer.specs.declared.handover.Handover.{Handover}
@@ -13,7 +14,7 @@ use Rattle.rk_world.specs.Ledger.{marks_of}
 use Rattle.rk_world.specs.Written.{Written, written_by}
 use Rattle.rk_world.specs.World.{World, master_at, tablet_in, with_master}
 use Rattle.rk_sound.specs.View.{View, view}
-use Rattle.rk_sound.specs.Small.{put, put2}
+use Rattle.rk_sound.specs.Small.{put, put2, role_taken}
 use Rattle.rk_laws_parts.proofs.Put.{put_is, put_same, put2_same}
 use Rattle.rk_laws_parts.proofs.Masters.{master_same, master_other, same_of_all, tablet_here, tablet_apart, keeps_with}
 
@@ -117,4 +118,16 @@ view_gathered w master number gather =
       pullings = put2_same (view w).pullings master number i;
       gathers = put2 (view w).gathers master number gather;
       merged = put2_same (view w).merged master number i;
+    })
+
+-- of the handover of one tablet, with what it gathered and merged
+pub view_taken : (w : World) (master number : ℕ) (handover : Handover) (gather : Gather) (ends : List Ended) → view (with_master w master (with_tablet (master_at w master) number (record (tablet_in w master number) { handover = handover; gather = gather; merged_ends = ends }))) ≡ role_taken (view w) master number handover gather ends
+view_taken w master number handover gather ends =
+    view_kept w master number (record (tablet_in w master number) { handover = handover; gather = gather; merged_ends = ends })
+    ∙ (λ i. record (view w) {
+      handovers = put2 (view w).handovers master number handover;
+      completions = put2_same (view w).completions master number i;
+      pullings = put2_same (view w).pullings master number i;
+      gathers = put2 (view w).gathers master number gather;
+      merged = put2 (view w).merged master number ends;
     })

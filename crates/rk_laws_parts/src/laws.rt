@@ -12,8 +12,8 @@ ghost use Rattle.rk_types.specs.declared.lineage.Member.{Member};
 ghost use Rattle.rk_types.specs.Range.{meets};
 ghost use Rattle.rk_sound.specs.Logs.{stored_of};
 ghost use Rattle.rk_sound.specs.Changes.{MayCome, MaySave, MaySend, MayStage};
-ghost use Rattle.rk_sound.specs.Moves.{MayFreeze, MayGather, MayNote, MayPass, MayResolve};
-ghost use Rattle.rk_sound.specs.Small.{batch_asked_in, client_come, hash_wanted_in, hashes_resolved_in, token_passed_in, write_staged_in, message_forgotten, message_sent, request_saved, tablet_frozen_in, place_noted_in, segment_gathered_in};
+ghost use Rattle.rk_sound.specs.Moves.{MayClose, MayFreeze, MayGather, MayNote, MayPass, MayResolve};
+ghost use Rattle.rk_sound.specs.Small.{batch_asked_in, client_come, hash_wanted_in, hashes_resolved_in, token_passed_in, write_staged_in, message_forgotten, message_sent, request_saved, tablet_closed_in, tablet_frozen_in, place_noted_in, segment_gathered_in};
 ghost use Rattle.rk_sound.specs.View.{view};
 ghost use Rattle.rk_sound.specs.Whole.{IsSound};
 ghost use Rattle.rk_world.specs.World.{World, backup_at, tablet_in, lives, log_in, new_world, written_in};
@@ -25,8 +25,8 @@ pub fn new_lanes_are_sound()
 {}
 
 /// A sound lane stays sound when a message is sent or forgotten, when a client comes, when a request is saved that may be
-/// sent again, when a write is staged, when a tablet freezes, and when the place of a target is noted, wherever the condition
-/// of the change holds; forgetting has none.
+/// sent again, when a write is staged, when a tablet closes and when it freezes, and when the place of a target is noted, wherever
+/// the condition of the change holds; forgetting has none.
 pub fn small_changes_keep_lanes_sound()
     ensures sent { (w : World) (message : Message) → IsSound w → MaySend (view w) message → IsSound (message_sent w message) }
     ensures forgotten { (w : World) (number : ℕ) → IsSound w → IsSound (message_forgotten w number) }
@@ -36,6 +36,8 @@ pub fn small_changes_keep_lanes_sound()
     ensures staged { (w : World) (master : ℕ) (call : Call) (value : Option (List ℕ))
         → IsSound w → (may : MayStage (view w) master call value)
         → IsSound (write_staged_in w master may.served.row.tablet call value) }
+    ensures closed { (w : World) (row : Row) (master term : ℕ)
+        → IsSound w → MayClose (view w) row master term → IsSound (tablet_closed_in w master row.tablet term) }
     ensures frozen { (w : World) (master tablet : ℕ)
         → IsSound w → MayFreeze (view w) master tablet → IsSound (tablet_frozen_in w master tablet) }
     ensures noted { (w : World) (row : Row) (source sfrom target place : ℕ)

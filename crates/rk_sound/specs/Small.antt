@@ -3,6 +3,7 @@
 use Rattle.std.specs.Prelude.{◌==◌, ℕ, ◌+◌, if◌then◌else◌, List, [], ◌∷◌, ◌++◌, length, Option, Some}
 use Rattle.rk_types.specs.NumberMap.{insert, remove}
 use Rattle.rk_types.specs.declared.call.Call.{Call}
+use Rattle.rk_types.specs.declared.call.Ended.{Ended}
 use Rattle.rk_types.specs.declared.held.Token.{Token}
 use Rattle.rk_entry.specs.declared.entry.Entry.{Entry}
 use Rattle.rk_entry.specs.declared.entry.Entry.TheVariants as entries
@@ -19,6 +20,7 @@ use Rattle.rk_message.specs.declared.rebuilding.CopySegment.{CopySegment}
 use Rattle.rk_world.specs.Gather.{Gather, gathering}
 use Rattle.rk_world.specs.Tablet.{Pulling, with_handover}
 use Rattle.rk_world.specs.Master.{with_tablet}
+use Rattle.rk_world.specs.Handovers.{tablet_closed}
 use Rattle.rk_world.specs.Requests.{hash_wanted, item_of, write_staged}
 use Rattle.rk_world.specs.Pulls.{hashes_resolved, token_passed}
 use Rattle.rk_world.specs.Rebuilds.{segment_gathered}
@@ -98,6 +100,23 @@ abbrev pub tablet_frozen_in : World → ℕ → ℕ → World
 tablet_frozen_in w master tablet =
     let kept = tablet_in w master tablet in
     with_master w master (with_tablet (master_at w master) tablet (with_handover kept (as_frozen kept.handover)))
+
+-- a master has another handover of a tablet, and this is what it gathered and merged for it
+abbrev pub role_taken : View → ℕ → ℕ → Handover → Gather → List Ended → View
+role_taken v master tablet handover gather ends = record v {
+  handovers = put2 v.handovers master tablet handover;
+  gathers = put2 v.gathers master tablet gather;
+  merged = put2 v.merged master tablet ends;
+}
+
+-- a handover of a tablet that closes at a term
+abbrev pub as_closing : ℕ → Handover → Handover
+as_closing term handover = record handover { term = term; role = roles.Closing }
+
+-- a tablet closes at a master, at a term
+abbrev pub tablet_closed_in : World → ℕ → ℕ → ℕ → World
+tablet_closed_in w master tablet term =
+    with_master w master (tablet_closed (master_at w master) tablet (as_closing term (tablet_in w master tablet).handover))
 
 -- ---- what a tablet pulls
 
