@@ -42,7 +42,6 @@ pub mod Sent
 pub mod Forgotten
 pub mod Come
 pub mod Saved
-pub mod Frozen
 pub mod WriteStaged
 pub mod PullingChanges
 pub mod HashWanted
@@ -55,6 +54,7 @@ pub mod Steady
 pub mod TurnedRows
 pub mod RoleTaken
 pub mod Closed
+pub mod Frozen
 pub mod PlaceNoted
 pub mod SmallWorld
 pub mod SmallWorldLooks

@@ -87,7 +87,7 @@ first_or rows first row number later true found = let same : first ≡ row = cc 
 first_or rows first row number later false found =
     let stands = later found in (suc stands.0, omega (arith, stands.1), stands.2)
 
-found_stands : (rows : List Row) (number : ℕ) (row : Row) → row_of rows number ≡ Some row → Contains rows row
+pub found_stands : (rows : List Row) (number : ℕ) (row : Row) → row_of rows number ≡ Some row → Contains rows row
 found_stands [] number row found = absurd (cc)
 found_stands (first ∷ rows) number row found =
     first_or rows first row number (found_stands rows number row) (eqb first.tablet number) found

@@ -7,7 +7,7 @@ use Rattle.rk_types.specs.declared.held.Held.{Held}
 use Rattle.rk_log.specs.Log.{Log}
 use Rattle.rk_transfer.specs.declared.handover.Handover.{Handover}
 use Rattle.rk_world.specs.Gather.{Gather}
-use Rattle.rk_world.specs.Tablet.{Tablet, Pulling, with_handover}
+use Rattle.rk_world.specs.Tablet.{Tablet, Pulling}
 use Rattle.rk_world.specs.Master.{Master, tablet_at, with_tablet}
 use Rattle.rk_world.specs.Pulls.{with_pulling}
 use Rattle.rk_world.specs.Ledger.{marks_of}
@@ -82,18 +82,6 @@ view_kept w master number tablet =
       pullings = put2 (view w).pullings master number tablet.pulling;
       gathers = put2 (view w).gathers master number tablet.gather;
       merged = put2 (view w).merged master number tablet.merged_ends;
-    })
-
--- of the handover of one tablet alone
-pub view_handed : (w : World) (master number : ℕ) (handover : Handover) → view (with_master w master (with_tablet (master_at w master) number (with_handover (tablet_in w master number) handover))) ≡ record (view w) { handovers = put2 (view w).handovers master number handover }
-view_handed w master number handover =
-    view_kept w master number (with_handover (tablet_in w master number) handover)
-    ∙ (λ i. record (view w) {
-      handovers = put2 (view w).handovers master number handover;
-      completions = put2_same (view w).completions master number i;
-      pullings = put2_same (view w).pullings master number i;
-      gathers = put2_same (view w).gathers master number i;
-      merged = put2_same (view w).merged master number i;
     })
 
 -- of what one tablet pulls alone

@@ -92,10 +92,6 @@ abbrev pub as_frozen : Handover → Handover
 as_frozen handover = record handover { role = roles.Frozen }
 
 -- a tablet freezes at a master
-abbrev pub frozen : View → ℕ → ℕ → View
-frozen v master tablet =
-    record v { handovers = put2 v.handovers master tablet (as_frozen (v.handovers master tablet)) }
-
 abbrev pub tablet_frozen_in : World → ℕ → ℕ → World
 tablet_frozen_in w master tablet =
     let kept = tablet_in w master tablet in
