@@ -1,10 +1,9 @@
 -- The part Counters through small changes.
 use Rattle.std.proofs.Common.{◌≡◌, ℕ, Bool, true, List, ◌+◌, Some, None, ◌++◌, Option, sym, ap, subst, ◌∙◌, ⊎_elim}
-use Rattle.std.specs.Prelude.{All, IfSome}
+use Rattle.std.specs.Prelude.{IfSome}
 use Rattle.std.specs.List.{Contains}
 use Rattle.std.proofs.lemmas.Bool.{cases_eq, cond-false}
-use Rattle.std.proofs.lemmas.List.Elements.{All-weaker, All-contains}
-use Rattle.rk_types.proofs.NumberMaps.{each_weaker}
+use Rattle.std.proofs.lemmas.List.Elements.{All-contains}
 use Rattle.rk_types.specs.NumberMap.{NumberMap, get}
 use Rattle.rk_types.specs.declared.call.Call.{Call}
 use Rattle.rk_types.specs.declared.call.Ended.{Ended}
@@ -21,14 +20,12 @@ use Rattle.rk_message.specs.declared.message.Message.{Message}
 use Rattle.rk_world.specs.Base.{Base}
 use Rattle.rk_world.specs.Coordinator.{Handed}
 use Rattle.rk_world.specs.Written.{Written}
-use Rattle.rk_sound.specs.View.{View, truths, rests}
 use Rattle.rk_sound.specs.Rows.{Rows, IsFormed}
 use Rattle.rk_sound.specs.Posts.{post_of, speaks, StillCounts}
 use Rattle.rk_sound.specs.Roles.{Roles, RoleFits}
 use Rattle.rk_sound.specs.Handing.{handed_by, handed_for_grant}
 use Rattle.rk_sound.specs.Counters.{Counters, IsFloor, IsNext}
 use Rattle.rk_sound.specs.Messages.{Messages, SaysOf}
-use Rattle.rk_sound.specs.Whole.{CountersOf}
 use Rattle.rk_sound.specs.Small.{with_one_more}
 use Rattle.rk_laws_parts.proofs.Changing.{Lane, Stages}
 use Rattle.rk_laws_parts.proofs.Differs.{still_counts}
@@ -37,40 +34,6 @@ use Rattle.rk_laws_parts.proofs.Alike.{AreAlike, speaks_alike, handed_for_grant_
 use Rattle.rk_laws_parts.proofs.Speakers.{speaker_of, speaker_is, none_waits, none_hands}
 use Rattle.rk_laws_parts.proofs.Staged.{Serves, staged_alike, staged_speaker}
 use Rattle.rk_laws_parts.proofs.Nexts.{next_of_all, floor_of_all, next_push}
-
--- tablets become others that answer alike, with the same counters
-pub counters_alike : (v : View) (now : ℕ → ℕ → Handover) → CountersOf v (truths v) (rests v) → AreAlike v.handovers now → ((q r : ℕ) → (now q r).counter ≡ (v.handovers q r).counter) → CountersOf (record v { handovers = now }) (truths v) (rests v)
-counters_alike v now old alike same =
-    let Floors : Row → Option Handed → Type 0 = λ row given.
-    IfSome given (λ h. IsFloor row (truths v row ++ rests v row) v.written h.floor) in
-    record {
-      low = old.low;
-      counted = λ q.
-          All-weaker
-          (λ row. StillCounts (v.live q) (v.handovers q row.tablet).term row.term
-          → speaks (post_of row.phase q) (v.handovers q row.tablet) row.term ≡ true
-          → IsNext row.range (truths v row ++ rests v row) (v.written q) (v.handovers q row.tablet).counter)
-          (λ row. StillCounts (v.live q) (now q row.tablet).term row.term
-          → speaks (post_of row.phase q) (now q row.tablet) row.term ≡ true
-          → IsNext row.range (truths v row ++ rests v row) (v.written q) (now q row.tablet).counter)
-          (λ row next counts says.
-          subst (IsNext row.range (truths v row ++ rests v row) (v.written q)) (sym (same q row.tablet))
-          (next
-          (still_counts (v.live q) (v.handovers q row.tablet).term (now q row.tablet).term row.term (alike q row.tablet).same_term counts)
-          (sym (speaks_alike (post_of row.phase q) row.term (v.handovers q row.tablet) (now q row.tablet) (alike q row.tablet)) ∙ says)))
-          v.rows (old.counted q);
-      handed_on =
-          All-weaker (λ row. Floors row (handed_for_grant row v.handovers v.handed))
-          (λ row. Floors row (handed_for_grant row now v.handed))
-          (λ row. subst (Floors row) (sym (handed_for_grant_alike row v.handovers now v.handed alike))) v.rows old.handed_on;
-      sent =
-          each_weaker (λ number message. All (λ row. Floors row (handed_by row v.handovers message.body)) v.rows)
-          (λ number message. All (λ row. Floors row (handed_by row now message.body)) v.rows) v.wire
-          (λ number message.
-          All-weaker (λ row. Floors row (handed_by row v.handovers message.body)) (λ row. Floors row (handed_by row now message.body))
-          (λ row. subst (Floors row) (sym (handed_by_alike row v.handovers now message.body alike))) v.rows)
-          old.sent;
-    }
 
 module _ (rows : List Row) (truths : Row → List Entry) (before after : Lane) (live : ℕ → Bool) (handed : NumberMap Handed) (journal : List Placed) (master : ℕ) (row : Row) (call : Call) (item : Held) (stages : Stages rows before after master row call item) (roles_fit : Roles rows before.handovers before.written live) (rows_fit : Rows rows before.written journal) (here : Serves (before.handovers master) (live master) master row) where
   alike : AreAlike before.handovers after.handovers

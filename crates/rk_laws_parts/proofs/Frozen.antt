@@ -1,174 +1,110 @@
--- A view stays sound when a tablet freezes of which nothing is left to be applied.
-use Rattle.std.proofs.Common.{◌≡◌, ℕ, true, List, [], ◌∷◌, Some, refl, sym, ap, ◌∙◌, subst}
-use Rattle.std.specs.Prelude.{slice_index_or}
-use Rattle.std.proofs.lemmas.Bool.{false≢true}
-use Rattle.rk_types.specs.NumberMap.{get}
-use Rattle.rk_types.specs.declared.lineage.Member.{Member}
-use Rattle.rk_log.specs.Log.{known_of}
+-- A lane stays sound when a tablet freezes of which nothing is left to be applied.
+use Rattle.std.proofs.Common.{◌≡◌, ℕ, true, Option, Some, None, is_some, refl, sym, ap, ◌∙◌, subst, inl, arith}
+use Rattle.std.specs.List.{Contains}
+use Rattle.std.proofs.lemmas.List.Elements.{All-contains}
+use Rattle.rk_types.specs.declared.range.Range.{Range}
 use Rattle.rk_transfer.specs.declared.handover.Handover.{Handover}
+use Rattle.rk_transfer.specs.declared.role.Role.{Role}
 use Rattle.rk_transfer.specs.declared.role.Role.TheVariants as roles
-use Rattle.rk_tablet_map.specs.Phase.{lineage_of, member as member_at}
-use Rattle.rk_tablet_map.specs.declared.phase.Phase.{Phase}
-use Rattle.rk_tablet_map.specs.declared.phase.Phase.TheVariants.{Owned, Opening, Moving, Rebuilding}
+use Rattle.rk_tablet_map.proofs.Lawful.{number_of}
+use Rattle.rk_tablet_map.specs.Phase.{lineage_of}
+use Rattle.rk_tablet_map.specs.Rows.{row_of}
 use Rattle.rk_tablet_map.specs.declared.row.Row.{Row}
-use Rattle.rk_world.specs.Written.{member_material}
+use Rattle.rk_world.specs.Lineage.{is_member}
+use Rattle.rk_world.specs.RoleTests.{is_absent}
 use Rattle.rk_world.specs.World.{World}
-use Rattle.rk_sound.specs.View.{View, view, truths}
-use Rattle.rk_sound.specs.Posts.{post_of}
-use Rattle.rk_sound.specs.Logs.{stored_of}
-use Rattle.rk_sound.specs.Receives.{HandedFits, MembersFit, is_granted}
-use Rattle.rk_sound.specs.Rebuilds.{READ_BACKUP, RowIsRebuilt, has_merged}
-use Rattle.rk_sound.specs.Whole.{IsSound, SoundView, TablesOf, ReceivesOf, RebuildsOf}
-use Rattle.rk_sound.specs.Moves.{MayFreeze}
-use Rattle.rk_sound.specs.Small.{as_frozen, frozen, tablet_frozen_in}
-use Rattle.rk_laws_parts.proofs.Put.{put2_by}
-use Rattle.rk_laws_parts.proofs.Views.{view_handed}
-use Rattle.rk_laws_parts.proofs.Alike.{AreAlike, IsAlike, alike_itself, alike_frozen}
-use Rattle.rk_laws_parts.proofs.Seen.{LooksAs, looks_same, frozen_looks}
-use Rattle.rk_laws_parts.proofs.Terms.{terms_looks}
-use Rattle.rk_laws_parts.proofs.Cover.{cover_looks}
-use Rattle.rk_laws_parts.proofs.Roles.{roles_looks}
-use Rattle.rk_laws_parts.proofs.Calls.{calls_alike}
-use Rattle.rk_laws_parts.proofs.Counters.{counters_alike}
-use Rattle.rk_laws_parts.proofs.Messages.{messages_looks}
-use Rattle.rk_laws_parts.proofs.Tables.{all_items_same}
-use Rattle.rk_laws_parts.proofs.Receives.{IsBareOf, IsTargetIn, handed_of}
-use Rattle.rk_laws_parts.proofs.Rebuilders.{rebuilder_frozen}
-use Rattle.rk_laws_parts.proofs.Rebuilds.{IsRebuilderIn, mark_same}
-use Rattle.rk_laws_parts.proofs.Rest.{rest_frozen}
+use Rattle.rk_sound.specs.View.{View, view}
+use Rattle.rk_sound.specs.Terms.{HandoverFits}
+use Rattle.rk_sound.specs.Posts.{Post, Owner, OpeningSource, InvitedTarget, ReadyTarget, MovingSource, MovingTarget, OnlyRebuilder, FirstRebuilder, LastRebuilder, OutsideRebuilder, FormerMember, Bystander, post_of, bond_of, Holds, StillCounts}
+use Rattle.rk_sound.specs.Roles.{RoleFits}
+use Rattle.rk_sound.specs.Handing.{is_wanting}
+use Rattle.rk_sound.specs.Whole.{IsSound, SoundView}
+use Rattle.rk_sound.specs.Moves.{IsSettledIn, MayFreeze, MayTakeRole}
+use Rattle.rk_sound.specs.Small.{as_frozen, tablet_frozen_in}
+use Rattle.rk_laws_parts.proofs.Alike.{alike_frozen, speaks_alike}
+use Rattle.rk_laws_parts.proofs.Freezing.{closing_member}
+use Rattle.rk_laws_parts.proofs.RoleTaken.{view_role_taken}
+use Rattle.rk_laws_parts.proofs.Serving.{found_stands}
+use Rattle.rk_laws_parts.proofs.Views.{view_taken}
 
-module _ (v : View) (master number : ℕ) (sound : SoundView v) (may : MayFreeze v master number) where
-  -- the view with the frozen tablet
-  abbrev now : View
-  now = frozen v master number
+-- a post that takes a role that closes takes a frozen one at the same terms
+fits_frozen : (post : Post) (term own applied : ℕ) → Holds (bond_of post roles.Closing) term own applied → Holds (bond_of post roles.Frozen) term own applied
+fits_frozen (Owner place) term own applied holds = holds
+fits_frozen OpeningSource term own applied holds = holds
+fits_frozen InvitedTarget term own applied holds = absurd holds
+fits_frozen (ReadyTarget place) term own applied holds = holds
+fits_frozen MovingSource term own applied holds = absurd holds
+fits_frozen (MovingTarget place) term own applied holds = holds
+fits_frozen (OnlyRebuilder place) term own applied holds = holds
+fits_frozen (FirstRebuilder place) term own applied holds = absurd holds
+fits_frozen (LastRebuilder place) term own applied holds = holds
+fits_frozen OutsideRebuilder term own applied holds = absurd holds
+fits_frozen FormerMember term own applied holds = holds
+fits_frozen Bystander term own applied holds = absurd holds
 
-  -- what holds of what was kept, and of the tablet that froze, holds of what is kept
-  by : (P : Handover → Type 0) (q r : ℕ) → (q ≡ master → r ≡ number → P (as_frozen (v.handovers q r))) → P (v.handovers q r) → P (now.handovers q r)
-  by P q r new was = put2_by v.handovers master number as_frozen P q r new (λ apart. was)
+module _ (v : View) (row : Row) (master : ℕ) (sound : SoundView v) (has_row : Contains v.rows row) (may : MayFreeze v master row.tablet) where
+  abbrev old : Handover
+  old = v.handovers master row.tablet
 
-  closes : (q r : ℕ) → q ≡ master → r ≡ number → (v.handovers q r).role ≡ roles.Closing
-  closes q r at its = (λ i. (v.handovers (at i) (its i)).role) ∙ may.closing
+  abbrev applied : ℕ
+  applied = (v.written master).applied
 
-  looks : (q r : ℕ) → LooksAs (v.handovers q r) (now.handovers q r)
-  looks q r =
-      by (LooksAs (v.handovers q r)) q r (λ at its. frozen_looks (v.handovers q r) (closes q r at its))
-      (looks_same (v.handovers q r))
+  closes : Holds (bond_of (post_of row.phase master) roles.Closing) row.term old.term applied
+  closes =
+      subst (λ (role : Role). Holds (bond_of (post_of row.phase master) role) row.term old.term applied) may.closing
+      (All-contains
+      (λ (r : Row). StillCounts (v.live master) (v.handovers master r.tablet).term r.term
+      → RoleFits r master (v.handovers master r.tablet) applied) v.rows row (sound.roles.fitting master) has_row (inl may.lives))
 
-  alike : AreAlike v.handovers now.handovers
-  alike q r =
-      by (IsAlike (v.handovers q r)) q r (λ at its. alike_frozen (v.handovers q r) (closes q r at its))
-      (alike_itself (v.handovers q r))
+  ranged : old.range ≡ row.range
+  ranged =
+      All-contains
+      (λ (r : Row). StillCounts (v.live master) (v.handovers master r.tablet).term r.term
+      → is_member (lineage_of r.phase) master ≡ true → (v.handovers master r.tablet).range ≡ r.range)
+      v.rows row (sound.roles.ranged master) has_row (inl may.lives) (closing_member row.phase master row.term old.term applied closes)
 
-  -- what is the same of a tablet that closes and of the frozen one is the same of each
-  same : {X : Type 0} (f : Handover → X) → ((h : Handover) → h.role ≡ roles.Closing → f (as_frozen h) ≡ f h) → (q r : ℕ) → f (now.handovers q r) ≡ f (v.handovers q r)
-  same f keeps q r =
-      by (λ h. f h ≡ f (v.handovers q r)) q r (λ at its. keeps (v.handovers q r) (closes q r at its)) refl
+  within : HandoverFits row row.tablet old
+  within = All-contains (λ (r : Row). HandoverFits r row.tablet old) v.rows row (sound.terms.kept master row.tablet) has_row
 
-  terms_same : (q r : ℕ) → (now.handovers q r).term ≡ (v.handovers q r).term
-  terms_same = same (λ h. h.term) (λ h closing. refl)
+  not_frozen : old.role ≡ roles.Frozen → ⊥
+  not_frozen frozen = let same : roles.Closing ≡ roles.Frozen = sym may.closing ∙ frozen in absurd (cc same)
 
-  records : TablesOf now
-  records = record {
-    ordered = sound.records.ordered;
-    items = λ q lives k d within has.
-        let row : Row = slice_index_or v.rows k d in
-        sound.records.items q lives k d within
-        (sym
-        (all_items_same (post_of row.phase q) (now.handovers q row.tablet) (v.handovers q row.tablet) row.term (terms_same q row.tablet))
-        ∙ has);
+  pub takes_role : MayTakeRole v row master (as_frozen old)
+  takes_role = record {
+    lives = may.lives;
+    has_row = has_row;
+    range_is = refl;
+    counter_is = refl;
+    grows = omega arith;
+    within = within.within refl;
+    term_is = inl refl;
+    steady = refl;
+    present = λ there. ap is_absent may.closing;
+    waited = ap is_wanting may.closing;
+    given_up = λ frozen. absurd (not_frozen frozen);
+    fits = fits_frozen (post_of row.phase master) row.term old.term applied closes;
+    speaks = λ says.
+        sym (speaks_alike (post_of row.phase master) row.term old (as_frozen old) (alike_frozen old may.closing)) ∙ says;
+    settled = λ idles. subst (λ (range : Range). IsSettledIn range (v.written master)) ranged may.settled;
   }
 
-  -- a target that was granted its tablet is not the one that froze
-  members : (row : Row) (lineage : List Member) → MembersFit row v.written v.handovers v.pullings v.records v.handed lineage → MembersFit row v.written now.handovers v.pullings v.records v.handed lineage
-  members row [] fit = tt
-  members row (only ∷ []) fit = tt
-  members row (source ∷ target ∷ []) fit =
-      by
-      (λ h. is_granted h.role ≡ true
-      → IsTargetIn v.written row source target h (v.pullings target.master row.tablet) (get v.handed row.tablet) (v.records target.master))
-      target.master row.tablet (λ at its granted. absurd (false≢true granted)) fit
-  members row (source ∷ target ∷ third ∷ more) fit = tt
+-- the tablet is that of a row
+frozen_of_row : (w : World) (row : Row) (master : ℕ) → IsSound w → Contains (view w).rows row → MayFreeze (view w) master row.tablet → IsSound (tablet_frozen_in w master row.tablet)
+frozen_of_row w row master sound has may =
+    let v : View = view w in
+    let new : Handover = as_frozen (v.handovers master row.tablet) in
+    subst SoundView (sym (view_taken w master row.tablet new (v.gathers master row.tablet) (v.merged master row.tablet)))
+    (view_role_taken v row master new (v.gathers master row.tablet) (v.merged master row.tablet) sound (takes_role v row master sound has may))
 
-  -- what a source told is what it keeps
-  told : (row : Row) (lineage : List Member) → HandedFits row v.handovers v.completions v.handed lineage → HandedFits row now.handovers v.completions v.handed lineage
-  told row [] fit = tt
-  told row (only ∷ []) fit = tt
-  told row (source ∷ target ∷ []) fit = λ term.
-      fit (sym (terms_same target.master row.tablet) ∙ term ∙ terms_same source.master row.tablet)
-      ∙ sym (ap Some
-      (same (λ h. handed_of h (v.completions source.master row.tablet)) (λ h closing. refl) source.master row.tablet))
-  told row (source ∷ target ∷ third ∷ more) fit = tt
-
-  receives : ReceivesOf now
-  receives = record {
-    targets = λ k d within.
-        let row : Row = slice_index_or v.rows k d in
-        members row (lineage_of row.phase) (sound.receives.targets k d within);
-    handed_on = λ k d within.
-        let row : Row = slice_index_or v.rows k d in
-        told row (lineage_of row.phase) (sound.receives.handed_on k d within);
-    bare = λ q r. by (λ h. IsBareOf h (v.written q) (v.records q)) q r (λ at its. tt) (sound.receives.bare q r);
-  }
-
-  -- a row that is rebuilt
-  abbrev IsRebuilt : (ℕ → ℕ → Handover) → Row → Phase → Type 0
-  IsRebuilt handovers row phase =
-      RowIsRebuilt row phase (truths v row) v.logs v.written v.stored handovers v.completions v.gathers v.merged v.records v.live
-
-  rebuilt : (row : Row) (phase : Phase) → IsRebuilt v.handovers row phase → IsRebuilt now.handovers row phase
-  rebuilt row (Owned owner from) fit = tt
-  rebuilt row (Opening source sfrom target dfrom) fit = tt
-  rebuilt row (Moving source sfrom target dfrom) fit = tt
-  rebuilt row (Rebuilding lineage to) fit = (
-    by
-        (λ h. h.term ≡ row.term
-        → IsRebuilderIn v.logs v.written v.stored row lineage to (truths v row) h (v.completions to row.tablet) (v.gathers to row.tablet)
-        (v.merged to row.tablet) (v.records to))
-        to row.tablet
-        (λ at its term.
-        rebuilder_frozen row lineage to (truths v row) (λ from. member_material v.written row.range (member_at to from))
-        (λ q. known_of (v.logs q) READ_BACKUP) (λ q. stored_of v.stored q READ_BACKUP) (v.written to) (v.handovers to row.tablet)
-        (v.completions to row.tablet) (v.gathers to row.tablet) (v.merged to row.tablet) (v.records to) (closes to row.tablet at its)
-        (fit.0 term))
-        fit.0,
-    fit.1,
-  )
-
-  rebuilds : RebuildsOf now (truths v)
-  rebuilds = record {
-    rebuilt = λ k d within.
-        let row : Row = slice_index_or v.rows k d in
-        rebuilt row row.phase (sound.rebuilds.rebuilt k d within);
-    marks = λ q k d within m e inside its.
-        let row : Row = slice_index_or v.rows k d in
-        mark_same row q (v.handovers q row.tablet) (now.handovers q row.tablet) (v.live q) (slice_index_or (v.written q).marks m e)
-        (terms_same q row.tablet) (same (λ h. has_merged h.role) (λ h closing. sym (ap has_merged closing)) q row.tablet)
-        (sound.rebuilds.marks q k d within m e inside its);
-    pieces = sound.rebuilds.pieces;
-  }
-
-  pub view_frozen : SoundView (frozen v master number)
-  view_frozen = record {
-    nodes = sound.nodes;
-    rows = sound.rows;
-    terms = terms_looks v.rows v.handovers now.handovers v.wire sound.terms looks;
-    cover = cover_looks v.rows v.written v.handovers now.handovers v.records v.wire sound.cover looks;
-    roles = roles_looks v.rows v.handovers now.handovers v.written v.written v.live sound.roles looks (λ q. refl);
-    logs = sound.logs;
-    truth = sound.truth;
-    order = sound.order;
-    calls = calls_alike _ _ _ _ v.handovers now.handovers _ _ _ _ _ sound.calls alike;
-    counters = counters_alike v now.handovers sound.counters alike (same (λ h. h.counter) (λ h closing. refl));
-    rest = rest_frozen v master number sound.rest sound.roles may;
-    records = records;
-    receives = receives;
-    rebuilds = rebuilds;
-    messages =
-        messages_looks v v.logs v.written now.handovers (record { each = looks; applied = λ q. refl; truths = λ range member. refl }) (λ q. refl) sound.messages;
-    asked = sound.asked;
-  }
-
+-- each tablet that closes is
 pub sound_frozen : (w : World) (master number : ℕ) → IsSound w → MayFreeze (view w) master number → IsSound (tablet_frozen_in w master number)
 sound_frozen w master number sound may =
-    subst SoundView (sym (view_handed w master number (as_frozen ((view w).handovers master number))))
-    (view_frozen (view w) master number sound may)
+    at (row_of (view w).rows number) refl (sound.roles.known master number may.lives (ap is_absent may.closing))
+  where
+    at : (found : Option Row) → row_of (view w).rows number ≡ found → is_some found ≡ true → IsSound (tablet_frozen_in w master number)
+    at None found some = absurd (cc)
+    at (Some row) found some =
+        let number_is : row.tablet ≡ number = number_of (view w).rows number row found in
+        subst (λ (n : ℕ). IsSound (tablet_frozen_in w master n)) number_is
+        (frozen_of_row w row master sound (found_stands (view w).rows number row found)
+        (subst (λ (n : ℕ). MayFreeze (view w) master n) (sym number_is) may))

@@ -32,7 +32,7 @@ use Rattle.rk_types.specs.declared.call.Ended.{Ended}
 use Rattle.rk_world.specs.Gather.{Gather}
 use Rattle.rk_sound.specs.Receives.{IsFound}
 use Rattle.rk_sound.specs.Rebuilds.{IsMergedOf, merged_place, IsPieceOf, IsRebuilder, IsRebuildTable, named_items, applied_from}
-use Rattle.rk_sound.specs.Small.{as_frozen, risen, with_one_more}
+use Rattle.rk_sound.specs.Small.{risen, with_one_more}
 use Rattle.rk_laws_parts.proofs.Shares.{named_same, unmarked_from_last}
 use Rattle.rk_laws_parts.proofs.Places.{behind_none}
 
@@ -156,19 +156,4 @@ rebuilder_serving row lineage master truth own own' known stored w handover comp
       items = records_staged row.range truth from w item table fits was.items;
       sides = sides_staged row.range truth from w item table was.placed was.sides;
       outside = λ apart. absurd (false≢true (sym apart ∙ member));
-    }
-
--- a master that is to rebuild a row, with a tablet that froze
-pub rebuilder_frozen : (row : Row) (lineage : List Member) (master : ℕ) (truth : List Entry) (own : ℕ → List Entry) (known : ℕ → Known) (stored : ℕ → ℕ → List ℕ) (w : Written) (handover : Handover) (completions : Completions) (gather : Gather) (ends : List Ended) (table : List Held) → handover.role ≡ roles.Closing → IsRebuilder row lineage master truth (own (own_place handover.role)) known stored w handover completions gather ends table → IsRebuilder row lineage master truth (own 0) known stored w (as_frozen handover) completions gather ends table
-rebuilder_frozen row lineage master truth own known stored w handover completions gather ends table closing was =
-    let first : own_place handover.role ≡ 0 = ap own_place closing in
-    record {
-      range_is = was.range_is;
-      gather = was.gather;
-      read = was.read;
-      placed = subst (λ (n : ℕ). n ≤ length w.entries) first was.placed;
-      merged = tt;
-      items = subst (λ (n : ℕ). IsRebuildTable row.range truth (applied_from row.range n w) table) first was.items;
-      sides = subst (λ (n : ℕ). AreShared truth table (named_items row.range n w)) first was.sides;
-      outside = λ apart. subst (λ (n : ℕ). own n ≡ []) first (was.outside apart);
     }

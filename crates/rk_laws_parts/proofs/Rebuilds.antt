@@ -1,4 +1,4 @@
--- Laws of the part Rebuilds: what a frozen tablet and a staged write keep of it.
+-- Laws of the part Rebuilds: what a staged write keeps of it.
 use Rattle.std.proofs.Common.{◌≡◌, ℕ, ◌≤◌, Bool, true, false, List, [], ◌∷◌, ◌++◌, length, Some, refl, sym, ap, ◌∙◌, subst, ⊎_elim}
 use Rattle.std.specs.Prelude.{slice_index_or, drop, take, Option, Bool}
 use Rattle.std.specs.List.{All, Contains}

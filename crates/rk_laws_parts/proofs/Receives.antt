@@ -1,4 +1,4 @@
--- Laws of the part Receives: what a frozen tablet and a staged write keep of it.
+-- Laws of the part Receives: what a staged write keeps of it.
 use Rattle.std.proofs.Common.{◌≡◌, ℕ, ◌≤◌, ◌<◌, Bool, true, false, inl, List, [], ◌∷◌, ◌++◌, length, Some, refl, sym, ap, ◌∙◌, subst, ⊎_elim, arith}
 use Rattle.std.specs.Prelude.{slice_index_or, IfSome, Option, Bool}
 use Rattle.std.specs.List.{All, Contains, flat_map}

@@ -1,5 +1,5 @@
 -- What rows and messages see of a handover: its term, its range and its role, and of a frozen one its counter.
-use Rattle.std.proofs.Common.{refl, sym, ap, subst}
+use Rattle.std.proofs.Common.{refl, ap}
 use Rattle.std.specs.Prelude.{◌≡◌, ℕ, true}
 use Rattle.std.proofs.lemmas.Bool.{both_ways}
 use Rattle.rk_types.specs.declared.lineage.Member.{Member}
@@ -11,10 +11,9 @@ use Rattle.rk_transfer.specs.declared.role.Role.TheVariants as roles
 use Rattle.rk_world.specs.RoleTests.{is_absent}
 use Rattle.rk_world.specs.Written.{Written, member_truth}
 use Rattle.rk_sound.specs.Posts.{Post, bond_of, Holds}
-use Rattle.rk_sound.specs.Posts.Post.{Owner, OpeningSource, InvitedTarget, ReadyTarget, MovingSource, MovingTarget, OnlyRebuilder, FirstRebuilder, LastRebuilder, OutsideRebuilder, FormerMember, Bystander}
 use Rattle.rk_sound.specs.Handing.{is_wanting}
 use Rattle.rk_sound.specs.Messages.{HasJoined, HasRebuilt}
-use Rattle.rk_sound.specs.Small.{as_frozen, risen}
+use Rattle.rk_sound.specs.Small.{risen}
 
 -- a role stands for rows and messages as another one did
 pub record GoesOn (old new : Role) : Type 0 where
@@ -59,42 +58,6 @@ looks_same handover = record {
   term = refl;
   range = refl;
   role = goes_on_same handover.role;
-  counter = λ _. refl;
-}
-
--- a post that takes a role that closes takes a frozen one at the same terms
-fits_frozen : (post : Post) (term own applied : ℕ) → Holds (bond_of post roles.Closing) term own applied → Holds (bond_of post roles.Frozen) term own applied
-fits_frozen (Owner place) term own applied holds = holds
-fits_frozen OpeningSource term own applied holds = holds
-fits_frozen InvitedTarget term own applied holds = absurd holds
-fits_frozen (ReadyTarget place) term own applied holds = holds
-fits_frozen MovingSource term own applied holds = absurd holds
-fits_frozen (MovingTarget place) term own applied holds = holds
-fits_frozen (OnlyRebuilder place) term own applied holds = holds
-fits_frozen (FirstRebuilder place) term own applied holds = absurd holds
-fits_frozen (LastRebuilder place) term own applied holds = holds
-fits_frozen OutsideRebuilder term own applied holds = absurd holds
-fits_frozen FormerMember term own applied holds = holds
-fits_frozen Bystander term own applied holds = absurd holds
-
--- a role that closes goes on as a frozen one
-pub closing_goes_on : GoesOn roles.Closing roles.Frozen
-closing_goes_on = record {
-  absent = refl;
-  wanting = refl;
-  waits = λ place is. absurd (cc);
-  frozen = λ is. absurd (cc);
-  joined = λ applied has. has;
-  rebuilt = λ applied place has. has;
-  fits = fits_frozen;
-}
-
--- a tablet that closes looks the same once it is frozen
-pub frozen_looks : (handover : Handover) → handover.role ≡ roles.Closing → LooksAs handover (as_frozen handover)
-frozen_looks handover closing = record {
-  term = refl;
-  range = refl;
-  role = subst (λ (role : Role). GoesOn role roles.Frozen) (sym closing) closing_goes_on;
   counter = λ _. refl;
 }
 

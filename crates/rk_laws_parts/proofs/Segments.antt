@@ -57,6 +57,19 @@ bytes_main log number some less =
     ∙ sym (get_or_past (cut log.entries) (number - 1) [] past))
     (cases_lt (number - 1) (length (cut log.entries)))
 
+-- a main segment has bytes where a later one has some
+pub bytes_before : (log : Log) (earlier later : ℕ) → 1 ≤ earlier → earlier < later → later < FIRST_SIDE_SEGMENT → 0 < length (bytes_of log later) → 0 < length (bytes_of log earlier)
+bytes_before log earlier later some before less filled =
+    ⊎_elim
+    (λ (within : later - 1 < length (cut log.entries)).
+    subst (λ (bytes : List ℕ). 0 < length bytes) (sym (bytes_main log earlier some (omega arith)))
+    (cut_filled [] log.entries (λ k h. absurd (omega arith)) (earlier - 1) (omega arith)))
+    (λ (past : length (cut log.entries) ≤ later - 1).
+    let none : bytes_of log later ≡ [] =
+    bytes_main log later (omega arith) less ∙ get_or_past (cut log.entries) (later - 1) [] past in
+    absurd (omega (arith, filled, ap length none)))
+    (cases_lt (later - 1) (length (cut log.entries)))
+
 -- no segment has the number 0
 pub bytes_zero : (log : Log) (number : ℕ) → number < 1 → bytes_of log number ≡ []
 bytes_zero log number less =

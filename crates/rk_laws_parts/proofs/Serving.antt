@@ -26,7 +26,7 @@ use Rattle.rk_laws_parts.proofs.Apart.{one_precedes}
 use Rattle.rk_laws_parts.proofs.Speakers.{speaks_serving, speaker_of, speaker_is}
 
 -- ranges meet either way
-meets_either : (a b : Range) → meets a b ≡ true → meets b a ≡ true
+pub meets_either : (a b : Range) → meets a b ≡ true → meets b a ≡ true
 meets_either a b both = turned a.table a.first a.last b.table b.first b.last both
   where
     turned : (s f l t g m : ℕ) → (eqb s t && leb f m && leb g l) ≡ true → (eqb t s && leb g l && leb f m) ≡ true
@@ -87,7 +87,7 @@ first_or rows first row number later true found = let same : first ≡ row = cc 
 first_or rows first row number later false found =
     let stands = later found in (suc stands.0, omega (arith, stands.1), stands.2)
 
-found_stands : (rows : List Row) (number : ℕ) (row : Row) → row_of rows number ≡ Some row → Contains rows row
+pub found_stands : (rows : List Row) (number : ℕ) (row : Row) → row_of rows number ≡ Some row → Contains rows row
 found_stands [] number row found = absurd (cc)
 found_stands (first ∷ rows) number row found =
     first_or rows first row number (found_stands rows number row) (eqb first.tablet number) found

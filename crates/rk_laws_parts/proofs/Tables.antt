@@ -1,4 +1,4 @@
--- Laws of the part Tables: what a frozen tablet and a staged write keep of it.
+-- Laws of the part Tables: what a staged write keeps of it.
 use Rattle.std.proofs.Common.{◌≡◌, ℕ, refl, ap}
 use Rattle.std.specs.Prelude.{nat_lt}
 use Rattle.rk_transfer.specs.declared.handover.Handover.{Handover}

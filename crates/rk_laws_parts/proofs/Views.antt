@@ -2,17 +2,19 @@
 use Rattle.std.proofs.Common.{◌≡◌, ℕ, List, refl, ap, ◌∙◌}
 use Rattle.rk_types.specs.NumberMap.{NumberMap}
 use Rattle.rk_types.specs.declared.call.Call.{Call}
+use Rattle.rk_types.specs.declared.call.Ended.{Ended}
 use Rattle.rk_types.specs.declared.held.Held.{Held}
 use Rattle.rk_log.specs.Log.{Log}
 use Rattle.rk_transfer.specs.declared.handover.Handover.{Handover}
-use Rattle.rk_world.specs.Tablet.{Tablet, Pulling, with_handover}
+use Rattle.rk_world.specs.Gather.{Gather}
+use Rattle.rk_world.specs.Tablet.{Tablet, Pulling}
 use Rattle.rk_world.specs.Master.{Master, tablet_at, with_tablet}
 use Rattle.rk_world.specs.Pulls.{with_pulling}
 use Rattle.rk_world.specs.Ledger.{marks_of}
 use Rattle.rk_world.specs.Written.{Written, written_by}
 use Rattle.rk_world.specs.World.{World, master_at, tablet_in, with_master}
 use Rattle.rk_sound.specs.View.{View, view}
-use Rattle.rk_sound.specs.Small.{put, put2}
+use Rattle.rk_sound.specs.Small.{put, put2, role_taken}
 use Rattle.rk_laws_parts.proofs.Put.{put_is, put_same, put2_same}
 use Rattle.rk_laws_parts.proofs.Masters.{master_same, master_other, same_of_all, tablet_here, tablet_apart, keeps_with}
 
@@ -82,18 +84,6 @@ view_kept w master number tablet =
       merged = put2 (view w).merged master number tablet.merged_ends;
     })
 
--- of the handover of one tablet alone
-pub view_handed : (w : World) (master number : ℕ) (handover : Handover) → view (with_master w master (with_tablet (master_at w master) number (with_handover (tablet_in w master number) handover))) ≡ record (view w) { handovers = put2 (view w).handovers master number handover }
-view_handed w master number handover =
-    view_kept w master number (with_handover (tablet_in w master number) handover)
-    ∙ (λ i. record (view w) {
-      handovers = put2 (view w).handovers master number handover;
-      completions = put2_same (view w).completions master number i;
-      pullings = put2_same (view w).pullings master number i;
-      gathers = put2_same (view w).gathers master number i;
-      merged = put2_same (view w).merged master number i;
-    })
-
 -- of what one tablet pulls alone
 pub view_pulled : (w : World) (master number : ℕ) (pulling : Pulling) → view (with_master w master (with_tablet (master_at w master) number (with_pulling (tablet_in w master number) pulling))) ≡ record (view w) { pullings = put2 (view w).pullings master number pulling }
 view_pulled w master number pulling =
@@ -104,4 +94,28 @@ view_pulled w master number pulling =
       pullings = put2 (view w).pullings master number pulling;
       gathers = put2_same (view w).gathers master number i;
       merged = put2_same (view w).merged master number i;
+    })
+
+-- of what one tablet gathers alone
+pub view_gathered : (w : World) (master number : ℕ) (gather : Gather) → view (with_master w master (with_tablet (master_at w master) number (record (tablet_in w master number) { gather = gather }))) ≡ record (view w) { gathers = put2 (view w).gathers master number gather }
+view_gathered w master number gather =
+    view_kept w master number (record (tablet_in w master number) { gather = gather })
+    ∙ (λ i. record (view w) {
+      handovers = put2_same (view w).handovers master number i;
+      completions = put2_same (view w).completions master number i;
+      pullings = put2_same (view w).pullings master number i;
+      gathers = put2 (view w).gathers master number gather;
+      merged = put2_same (view w).merged master number i;
+    })
+
+-- of the handover of one tablet, with what it gathered and merged
+pub view_taken : (w : World) (master number : ℕ) (handover : Handover) (gather : Gather) (ends : List Ended) → view (with_master w master (with_tablet (master_at w master) number (record (tablet_in w master number) { handover = handover; gather = gather; merged_ends = ends }))) ≡ role_taken (view w) master number handover gather ends
+view_taken w master number handover gather ends =
+    view_kept w master number (record (tablet_in w master number) { handover = handover; gather = gather; merged_ends = ends })
+    ∙ (λ i. record (view w) {
+      handovers = put2 (view w).handovers master number handover;
+      completions = put2_same (view w).completions master number i;
+      pullings = put2_same (view w).pullings master number i;
+      gathers = put2 (view w).gathers master number gather;
+      merged = put2 (view w).merged master number ends;
     })

@@ -3,6 +3,7 @@ ghost use Rattle.std.specs.Prelude.{◌≡◌, ◌<◌, ◌≤◌, ℕ, true, Li
 ghost use Rattle.rk_log.specs.Cut.{ends};
 ghost use Rattle.rk_log.specs.Log.{IsBackup};
 ghost use Rattle.rk_message.specs.declared.message.Message.{Message};
+ghost use Rattle.rk_message.specs.declared.rebuilding.CopySegment.{CopySegment};
 ghost use Rattle.rk_tablet_map.specs.declared.row.Row.{Row};
 ghost use Rattle.rk_transfer.specs.Handover.{is_serving};
 ghost use Rattle.rk_types.specs.declared.call.Call.{Call};
@@ -11,8 +12,8 @@ ghost use Rattle.rk_types.specs.declared.lineage.Member.{Member};
 ghost use Rattle.rk_types.specs.Range.{meets};
 ghost use Rattle.rk_sound.specs.Logs.{stored_of};
 ghost use Rattle.rk_sound.specs.Changes.{MayCome, MaySave, MaySend, MayStage};
-ghost use Rattle.rk_sound.specs.Moves.{MayFreeze, MayNote, MayPass, MayResolve};
-ghost use Rattle.rk_sound.specs.Small.{batch_asked_in, client_come, hash_wanted_in, hashes_resolved_in, token_passed_in, write_staged_in, message_forgotten, message_sent, request_saved, tablet_frozen_in, place_noted_in};
+ghost use Rattle.rk_sound.specs.Moves.{MayClose, MayFreeze, MayGather, MayNote, MayPass, MayResolve};
+ghost use Rattle.rk_sound.specs.Small.{batch_asked_in, client_come, hash_wanted_in, hashes_resolved_in, token_passed_in, write_staged_in, message_forgotten, message_sent, request_saved, tablet_closed_in, tablet_frozen_in, place_noted_in, segment_gathered_in};
 ghost use Rattle.rk_sound.specs.View.{view};
 ghost use Rattle.rk_sound.specs.Whole.{IsSound};
 ghost use Rattle.rk_world.specs.World.{World, backup_at, tablet_in, lives, log_in, new_world, written_in};
@@ -24,8 +25,8 @@ pub fn new_lanes_are_sound()
 {}
 
 /// A sound lane stays sound when a message is sent or forgotten, when a client comes, when a request is saved that may be
-/// sent again, when a write is staged, when a tablet freezes, and when the place of a target is noted, wherever the condition
-/// of the change holds; forgetting has none.
+/// sent again, when a write is staged, when a tablet closes and when it freezes, and when the place of a target is noted, wherever
+/// the condition of the change holds; forgetting has none.
 pub fn small_changes_keep_lanes_sound()
     ensures sent { (w : World) (message : Message) → IsSound w → MaySend (view w) message → IsSound (message_sent w message) }
     ensures forgotten { (w : World) (number : ℕ) → IsSound w → IsSound (message_forgotten w number) }
@@ -35,6 +36,8 @@ pub fn small_changes_keep_lanes_sound()
     ensures staged { (w : World) (master : ℕ) (call : Call) (value : Option (List ℕ))
         → IsSound w → (may : MayStage (view w) master call value)
         → IsSound (write_staged_in w master may.served.row.tablet call value) }
+    ensures closed { (w : World) (row : Row) (master term : ℕ)
+        → IsSound w → MayClose (view w) row master term → IsSound (tablet_closed_in w master row.tablet term) }
     ensures frozen { (w : World) (master tablet : ℕ)
         → IsSound w → MayFreeze (view w) master tablet → IsSound (tablet_frozen_in w master tablet) }
     ensures noted { (w : World) (row : Row) (source sfrom target place : ℕ)
@@ -53,6 +56,14 @@ pub fn pulling_keeps_lanes_sound()
     ensures passed { (w : World) (row : Row) (source target : Member) (next : Token)
         → IsSound w → MayPass (view w) row source target next
         → IsSound (token_passed_in w target.master row.tablet next) }
+{}
+
+/// A sound lane stays sound when a rebuild gathers the segment that it awaits, where what was read of it is a first part of what
+/// backup 1 stores that holds all that its master knew to be stored there.
+pub fn gathering_keeps_lanes_sound()
+    ensures gathered { (w : World) (own : ℕ) (copy : CopySegment)
+        → IsSound w → MayGather (view w) own copy.tenure.tablet copy.master copy.segment copy.bytes
+        → IsSound (segment_gathered_in w own copy) }
 {}
 
 /// In a sound lane at most one living master answers calls for a range of a row, and for one tablet.

@@ -1,5 +1,5 @@
 -- Moves: the conditions of the small changes of roles, rebuilds and rows, over views. One that takes a row says that it stands there.
-use Rattle.std.specs.Prelude.{◌≡◌, ◌≢◌, ◌≤◌, ◌<◌, ℕ, ◌+◌, true, false, List, [], ◌∷◌, ◌++◌, Option, Some, None, Contains, All, length, drop, ◌⊎◌, ◌^◌}
+use Rattle.std.specs.Prelude.{◌≡◌, ◌≢◌, ◌≤◌, ◌<◌, ℕ, ◌+◌, Bool, true, false, List, [], ◌∷◌, ◌++◌, Option, Some, None, Contains, All, length, drop, ◌⊎◌, ◌^◌}
 use Rattle.std.specs.List.{flat_map, list_any}
 use Rattle.rk_types.specs.NumberMap.{get}
 use Rattle.rk_types.specs.Range.{meets}
@@ -16,6 +16,8 @@ use Rattle.rk_log.specs.Log.{is_side_stored, known_of}
 use Rattle.rk_table.specs.Items.{at_hash}
 use Rattle.rk_table.specs.Scans.{passed, end}
 use Rattle.rk_done.specs.Completions.{ends_of}
+use Rattle.rk_transfer.specs.Handover.{role_closed}
+use Rattle.rk_transfer.specs.declared.handover.Handover.{Handover}
 use Rattle.rk_transfer.specs.declared.role.Role.{Role}
 use Rattle.rk_transfer.specs.declared.role.Role.TheVariants as roles
 use Rattle.rk_tablet_map.specs.Phase.{lineage_of}
@@ -28,9 +30,9 @@ use Rattle.rk_message.specs.declared.rebuilding.Rebuild.{Rebuild}
 use Rattle.rk_world.specs.Ends.{items_of}
 use Rattle.rk_world.specs.Material.{as_entries}
 use Rattle.rk_world.specs.Lineage.{is_member}
-use Rattle.rk_world.specs.Gather.{next_reading, is_awaited}
+use Rattle.rk_world.specs.Gather.{Gather, next_reading, is_awaited}
 use Rattle.rk_world.specs.Tablet.{Pulling}
-use Rattle.rk_world.specs.RoleTests.{is_gathering}
+use Rattle.rk_world.specs.RoleTests.{is_absent, is_gathering, is_idle}
 use Rattle.rk_world.specs.SideLogs.{sealed_sides}
 use Rattle.rk_world.specs.Master.{touches}
 use Rattle.rk_world.specs.Coordinator.{Handed}
@@ -38,10 +40,12 @@ use Rattle.rk_world.specs.Written.{Written, applied_entries, member_truth}
 use Rattle.rk_world.specs.Premises.{IsMaster}
 use Rattle.rk_sound.specs.View.{View}
 use Rattle.rk_sound.specs.Cover.{IsWithinRows}
-use Rattle.rk_sound.specs.Posts.{InvitedTarget, post_of}
+use Rattle.rk_sound.specs.Posts.{InvitedTarget, post_of, speaks}
+use Rattle.rk_sound.specs.Roles.{RoleFits}
+use Rattle.rk_sound.specs.Handing.{is_wanting}
 use Rattle.rk_sound.specs.Receives.{is_joining, HasPulled, HasArrived, scan_items, IsOutdone, IsFound, entries_from, copied_items}
 use Rattle.rk_sound.specs.Logs.{stored_of}
-use Rattle.rk_sound.specs.Rebuilds.{IsReadPart, READ_BACKUP}
+use Rattle.rk_sound.specs.Rebuilds.{AreGathered, IsGatherOf, IsReadPart, READ_BACKUP}
 use Rattle.rk_sound.specs.Messages.{HasJoined, HasRebuilt, MayFollowClose, IsOwner}
 use Rattle.rk_sound.specs.Changes.{HasSegmentLeft}
 
@@ -71,12 +75,13 @@ pub record MayPrepare (v : View) (row : Row) (master : ℕ) (prepare : Prepare) 
   pub outside :
       All (λ other. meets other.range prepare.range ≡ true → is_member (lineage_of other.phase) master ≡ true → ⊥) v.rows
 
--- a living source may close at a greater term, where the row asks it to, or where it is now to rebuild the tablet, which was its
--- alone, at a term that is greater still
+-- a living source may close at a greater term, in a role from which that is a move, where the row asks it to, or where it is now to
+-- rebuild the tablet, which was its alone, at a term that is greater still
 pub record MayClose (v : View) (row : Row) (master term : ℕ) : Type 0 where
   pub lives : v.live master ≡ true
   pub has_row : Contains v.rows row
   pub greater : (v.handovers master row.tablet).term < term
+  pub closes : role_closed (v.handovers master row.tablet).role ≡ Some roles.Closing
   pub may_follow : MayFollowClose row master term
 
 -- a tablet that closes may freeze, where nothing of it is left to be applied
@@ -190,6 +195,45 @@ pub record MayRelease (v : View) (row : Row) (master : ℕ) : Type 0 where
   pub frozen : (v.handovers master row.tablet).role ≡ roles.Frozen
   pub outside : is_member (lineage_of row.phase) master ≡ false
 
+-- ---- the role of a tablet changes
+
+-- whether a master in this role neither waits for the tablet, nor takes it over, nor rebuilds it
+abbrev pub is_steady : Role → Bool
+is_steady roles.Absent = true
+is_steady roles.Serving = true
+is_steady roles.Closing = true
+is_steady roles.Frozen = true
+is_steady _ = false
+
+-- the term of a tablet may rise at a master: its row has one member alone, its range is the row's, and the master owned the tablet at
+-- the new term, or owns it
+pub record MayRise (row : Row) (master : ℕ) (new : Handover) : Type 0 where
+  pub only : Member
+  pub lineage_is : lineage_of row.phase ≡ only ∷ []
+  pub range_is : new.range ≡ row.range
+  pub owner : IsOwner (post_of row.phase master) new.term row.term
+
+-- the role of a row's tablet may change at a living master into a steady one: the range and the counter stay, and so does the term or
+-- it may rise to one that is at most the row's. The new role fits the master's post and speaks no more than the old one; where it may
+-- have nothing staged, nothing is. The old role awaits no grant, and is that of no frozen member
+pub record MayTakeRole (v : View) (row : Row) (master : ℕ) (new : Handover) : Type 0 where
+  pub lives : v.live master ≡ true
+  pub has_row : Contains v.rows row
+  pub range_is : new.range ≡ (v.handovers master row.tablet).range
+  pub counter_is : new.counter ≡ (v.handovers master row.tablet).counter
+  pub grows : (v.handovers master row.tablet).term ≤ new.term
+  pub within : new.term ≤ row.term
+  pub term_is : (new.term ≡ (v.handovers master row.tablet).term) ⊎ MayRise row master new
+  pub steady : is_steady new.role ≡ true
+  pub present : is_absent new.role ≡ false → is_absent (v.handovers master row.tablet).role ≡ false
+  pub waited : is_wanting (v.handovers master row.tablet).role ≡ false
+  pub given_up : (v.handovers master row.tablet).role ≡ roles.Frozen → is_member (lineage_of row.phase) master ≡ false
+  pub fits : RoleFits row master new (v.written master).applied
+  pub speaks :
+      speaks (post_of row.phase master) new row.term ≡ true
+      → speaks (post_of row.phase master) (v.handovers master row.tablet) row.term ≡ true
+  pub settled : is_idle new.role ≡ true → IsSettledIn row.range (v.written master)
+
 -- ---- a tablet is rebuilt
 
 -- a living master may begin to rebuild a tablet that its row asks it to, at a term above all that it keeps there
@@ -211,6 +255,20 @@ pub record MayGather (v : View) (own tablet master segment : ℕ) (bytes : Optio
   pub awaited : is_awaited (next_reading (v.gathers own tablet)) master segment ≡ true
   pub read :
       IsReadPart (known_of (v.logs master) READ_BACKUP) (stored_of v.stored master READ_BACKUP) segment (read_bytes bytes)
+
+-- what a master gathers for a row that it rebuilds goes on: it is still that of the row, and each segment that was read is a first
+-- part that holds what its master knew to be stored; nothing is merged so far
+pub record GathersOn (v : View) (row : Row) (lineage : List Member) (own : ℕ) (new : Gather) : Type 0 where
+  pub gathering : is_gathering (v.handovers own row.tablet).role ≡ true
+  pub gather : IsGatherOf new row.range lineage own
+  pub read : AreGathered (λ q. known_of (v.logs q) READ_BACKUP) (λ q. stored_of v.stored q READ_BACKUP) new.members
+
+-- what is gathered for a tablet may go on at a master, where it does so for each row that the master rebuilds at the row's term
+abbrev pub MayGatherOn : View → ℕ → ℕ → (Gather → Gather) → Type 0
+MayGatherOn v own tablet change =
+    (row : Row) (lineage : List Member) → Contains v.rows row → row.tablet ≡ tablet → row.phase ≡ Rebuilding lineage own
+    → (v.handovers own row.tablet).term ≡ row.term
+    → GathersOn v row lineage own (change (v.gathers own row.tablet))
 
 -- what was gathered may be merged, once all is, where the log has room for the copies and the entry that closes the rebuild
 pub record MayMerge (v : View) (master tablet : ℕ) (copies : List Held) (closing : Entry) : Type 0 where

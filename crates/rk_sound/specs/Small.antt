@@ -3,6 +3,7 @@
 use Rattle.std.specs.Prelude.{◌==◌, ℕ, ◌+◌, if◌then◌else◌, List, [], ◌∷◌, ◌++◌, length, Option, Some}
 use Rattle.rk_types.specs.NumberMap.{insert, remove}
 use Rattle.rk_types.specs.declared.call.Call.{Call}
+use Rattle.rk_types.specs.declared.call.Ended.{Ended}
 use Rattle.rk_types.specs.declared.held.Token.{Token}
 use Rattle.rk_entry.specs.declared.entry.Entry.{Entry}
 use Rattle.rk_entry.specs.declared.entry.Entry.TheVariants as entries
@@ -15,10 +16,14 @@ use Rattle.rk_tablet_map.specs.declared.row.Row.{Row}
 use Rattle.rk_priority.specs.Hashes.{Hashes, batched, got, wanting}
 use Rattle.rk_message.specs.Wire.{without_message, with_message}
 use Rattle.rk_message.specs.declared.message.Message.{Message}
+use Rattle.rk_message.specs.declared.rebuilding.CopySegment.{CopySegment}
+use Rattle.rk_world.specs.Gather.{Gather, gathering}
 use Rattle.rk_world.specs.Tablet.{Pulling, with_handover}
 use Rattle.rk_world.specs.Master.{with_tablet}
+use Rattle.rk_world.specs.Handovers.{tablet_closed}
 use Rattle.rk_world.specs.Requests.{hash_wanted, item_of, write_staged}
 use Rattle.rk_world.specs.Pulls.{hashes_resolved, token_passed}
+use Rattle.rk_world.specs.Rebuilds.{segment_gathered}
 use Rattle.rk_world.specs.MasterTurn.{batch_asked}
 use Rattle.rk_world.specs.CoordinatorStep.{place_noted}
 use Rattle.rk_world.specs.Ledger.{with_client, with_request}
@@ -87,14 +92,27 @@ abbrev pub as_frozen : Handover → Handover
 as_frozen handover = record handover { role = roles.Frozen }
 
 -- a tablet freezes at a master
-abbrev pub frozen : View → ℕ → ℕ → View
-frozen v master tablet =
-    record v { handovers = put2 v.handovers master tablet (as_frozen (v.handovers master tablet)) }
-
 abbrev pub tablet_frozen_in : World → ℕ → ℕ → World
 tablet_frozen_in w master tablet =
     let kept = tablet_in w master tablet in
     with_master w master (with_tablet (master_at w master) tablet (with_handover kept (as_frozen kept.handover)))
+
+-- a master has another handover of a tablet, and this is what it gathered and merged for it
+abbrev pub role_taken : View → ℕ → ℕ → Handover → Gather → List Ended → View
+role_taken v master tablet handover gather ends = record v {
+  handovers = put2 v.handovers master tablet handover;
+  gathers = put2 v.gathers master tablet gather;
+  merged = put2 v.merged master tablet ends;
+}
+
+-- a handover of a tablet that closes at a term
+abbrev pub as_closing : ℕ → Handover → Handover
+as_closing term handover = record handover { term = term; role = roles.Closing }
+
+-- a tablet closes at a master, at a term
+abbrev pub tablet_closed_in : World → ℕ → ℕ → ℕ → World
+tablet_closed_in w master tablet term =
+    with_master w master (tablet_closed (master_at w master) tablet (as_closing term (tablet_in w master tablet).handover))
 
 -- ---- what a tablet pulls
 
@@ -135,6 +153,19 @@ passing next = gone_on (λ p. next) (λ p. p.batches + 1) (λ p. p.hashes)
 
 abbrev pub token_passed_in : World → ℕ → ℕ → Token → World
 token_passed_in w master tablet next = with_master w master (token_passed (master_at w master) tablet next)
+
+-- ---- what a tablet gathers
+
+-- what is gathered for a tablet changes at a master
+abbrev pub gathered : View → ℕ → ℕ → (Gather → Gather) → View
+gathered v master tablet change = record v { gathers = put2 v.gathers master tablet (change (v.gathers master tablet)) }
+
+-- the segment that was awaited is gathered
+abbrev pub reading : CopySegment → Gather → Gather
+reading copy gather = gathering gather copy.master copy.segment copy.bytes
+
+abbrev pub segment_gathered_in : World → ℕ → CopySegment → World
+segment_gathered_in w master copy = with_master w master (segment_gathered (master_at w master) copy)
 
 -- ---- rows
 

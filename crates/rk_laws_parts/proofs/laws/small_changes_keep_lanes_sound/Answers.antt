@@ -3,6 +3,7 @@ use Rattle.rk_laws_parts.proofs.Forgotten.{sound_forgotten}
 use Rattle.rk_laws_parts.proofs.Come.{sound_come}
 use Rattle.rk_laws_parts.proofs.Saved.{sound_saved}
 use Rattle.rk_laws_parts.proofs.WriteStaged.{sound_staged}
+use Rattle.rk_laws_parts.proofs.Closed.{sound_closed}
 use Rattle.rk_laws_parts.proofs.Frozen.{sound_frozen}
 use Rattle.rk_laws_parts.proofs.PlaceNoted.{sound_noted}
 use Rattle.rk_laws_parts.proofs.laws.small_changes_keep_lanes_sound.Goals as goal
@@ -21,6 +22,9 @@ returns-clause-saved c = λ w client message sound may. sound_saved w client mes
 
 pub returns-clause-staged : goal.returns-clause-staged
 returns-clause-staged c = sound_staged
+
+pub returns-clause-closed : goal.returns-clause-closed
+returns-clause-closed c = sound_closed
 
 pub returns-clause-frozen : goal.returns-clause-frozen
 returns-clause-frozen c = λ w master tablet sound may. sound_frozen w master tablet sound may
