@@ -36,7 +36,7 @@ use Rattle.rk_world.specs.Merge.{merge}
 use Rattle.rk_world.specs.Rebuilds as rebuilds
 use Rattle.rk_world.specs.RoleTests.{is_absent, is_gathering, is_receiving}
 use Rattle.rk_world.specs.Tablet.{Tablet}
-use Rattle.rk_world.specs.Worked.{changed}
+use Rattle.rk_world.specs.Worked.{Worked, changed}
 use Rattle.rk_laws_formed.proofs.Lists.{all_flat}
 use Rattle.rk_laws_formed.proofs.Changes.{formed_with_all, formed_with_appended, formed_with_tablet, formed_without_items}
 use Rattle.rk_laws_formed.proofs.Completed.{completions_each, completions_order}
@@ -124,12 +124,19 @@ module _ (limits : Limits) (number : ℕ) (master : Master) (id : ℕ) (merged :
         each = each;
       }
 
+  -- what it makes of what it merged, where that turns its role into this one
+  abbrev work : Option Role → Worked
+  work after = rebuilds.merging master id it merged (in_role (record it.handover { counter = merged.floor }) after)
+
   -- a master that merged what it gathered
-  merges : (role : Role) → it.handover.role ≡ role → AreLimits limits → IsFormedMerge limits merged → IsFormedMaster limits number master → HasRoomFor limits (rebuilds.merging master id it merged (in_role (record it.handover { counter = merged.floor }) (role_carried (length copied.log.entries) role))).master → IsFormedWork limits number (rebuilds.merging master id it merged (in_role (record it.handover { counter = merged.floor }) (role_carried (length copied.log.entries) role)))
+  merges : (role : Role) → it.handover.role ≡ role → AreLimits limits → IsFormedMerge limits merged → IsFormedMaster limits number master
+      → HasRoomFor limits (work (role_carried (length copied.log.entries) role)).master
+      → IsFormedWork limits number (work (role_carried (length copied.log.entries) role))
   merges role is are formed master_formed room =
       go (role_carried (length copied.log.entries) role) refl room
     where
-      go : (after : Option Role) → role_carried (length copied.log.entries) role ≡ after → HasRoomFor limits (rebuilds.merging master id it merged (in_role (record it.handover { counter = merged.floor }) after)).master → IsFormedWork limits number (rebuilds.merging master id it merged (in_role (record it.handover { counter = merged.floor }) after))
+      go : (after : Option Role) → role_carried (length copied.log.entries) role ≡ after
+          → HasRoomFor limits (work after).master → IsFormedWork limits number (work after)
       go None carried_is fits = formed_changed limits number master master_formed
       go (Some r) carried_is fits =
           let after = after_carry (length copied.log.entries) role r carried_is in
@@ -411,7 +418,13 @@ formed_copy limits number master copy are told formed room =
           merged_once = there.merged_once;
         })
 
-    go : (test : Bool) → (is_gathering (tablet_at master copy.tenure.tablet).handover.role && ((tablet_at master copy.tenure.tablet).handover.term == copy.tenure.term) && is_awaited (next_reading (tablet_at master copy.tenure.tablet).gather) copy.master copy.segment) ≡ test → HasRoomFor limits (cond test (rebuilds.rebuild_goes_on (rebuilds.segment_gathered master copy) copy.tenure.tablet) (changed master)).master → IsFormedWork limits number (cond test (rebuilds.rebuild_goes_on (rebuilds.segment_gathered master copy) copy.tenure.tablet) (changed master))
+    awaited : Bool
+    awaited = is_gathering it.handover.role && (it.handover.term == copy.tenure.term) && is_awaited (next_reading it.gather) copy.master copy.segment
+
+    work : Bool → Worked
+    work test = cond test (rebuilds.rebuild_goes_on (rebuilds.segment_gathered master copy) copy.tenure.tablet) (changed master)
+
+    go : (test : Bool) → awaited ≡ test → HasRoomFor limits (work test).master → IsFormedWork limits number (work test)
     go true is fits =
         formed_goes_on limits number (rebuilds.segment_gathered master copy) copy.tenure.tablet are
         (one_stood limits copy.tenure.term told.tenure.term)
