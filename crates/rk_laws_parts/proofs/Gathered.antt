@@ -168,8 +168,14 @@ module _ (range : Range) (master segment : ℕ) (bytes : Option (List ℕ)) wher
       cond-false (gathered.member.master == master) (with_segment gathered segment bytes) gathered (ne_eqb gathered.member.master master away.0) i
       ∷ none_read others away.1 i
 
-  -- what holds of each member holds of it now, where it does of the one whose next segment was read
-  pub members_read : (Fits : Gathered → Type 0) → ((gathered : Gathered) → gathered.member.master ≡ master → next_segment range gathered ≡ Some segment → Fits gathered → Fits (with_segment gathered segment bytes)) → (members : List Gathered) → AllApart (map (λ gathered. gathered.member) members) → is_awaited (next_of range members) master segment ≡ true → All Fits members → All Fits (with_read members master segment bytes)
+  -- what holds of a member of the master holds of it once its next segment was read
+  abbrev StaysFit : (Gathered → Type 0) → Type 0
+  StaysFit Fits =
+      (gathered : Gathered) → gathered.member.master ≡ master → next_segment range gathered ≡ Some segment → Fits gathered
+      → Fits (with_segment gathered segment bytes)
+
+  -- so what holds of each member holds of it now
+  pub members_read : (Fits : Gathered → Type 0) → StaysFit Fits → (members : List Gathered) → AllApart (map (λ gathered. gathered.member) members) → is_awaited (next_of range members) master segment ≡ true → All Fits members → All Fits (with_read members master segment bytes)
   members_read Fits gives [] apart awaited old = old
   members_read Fits gives (gathered ∷ others) apart awaited old =
       let head : Fits gathered = All-head Fits gathered others old in

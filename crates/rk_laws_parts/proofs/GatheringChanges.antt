@@ -63,7 +63,12 @@ module _ (v : View) (master number : ℕ) (change : Gather → Gather) (sound : 
     outside = was.outside;
   }
 
-  rebuilt : (row : Row) → Contains v.rows row → (phase : Phase) → row.phase ≡ phase → RowIsRebuilt row phase (truths v row) v.logs v.written v.stored v.handovers v.completions v.gathers v.merged v.records v.live → RowIsRebuilt row phase (truths v row) v.logs v.written v.stored v.handovers v.completions now.gathers v.merged v.records v.live
+  -- a row is rebuilt, with what each master gathered
+  abbrev IsRebuilt : (ℕ → ℕ → Gather) → Row → Phase → Type 0
+  IsRebuilt gathers row phase =
+      RowIsRebuilt row phase (truths v row) v.logs v.written v.stored v.handovers v.completions gathers v.merged v.records v.live
+
+  rebuilt : (row : Row) → Contains v.rows row → (phase : Phase) → row.phase ≡ phase → IsRebuilt v.gathers row phase → IsRebuilt now.gathers row phase
   rebuilt row has (Owned owner from) is fit = tt
   rebuilt row has (Opening source sfrom target dfrom) is fit = tt
   rebuilt row has (Moving source sfrom target dfrom) is fit = tt

@@ -39,6 +39,8 @@ pub mod Receives
 pub mod Rebuilds
 pub mod Rest
 pub mod Sent
+pub mod SameRecords
+pub mod Accepted
 pub mod Forgotten
 pub mod Come
 pub mod Saved

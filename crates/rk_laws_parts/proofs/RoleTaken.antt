@@ -419,9 +419,20 @@ module _ (v : View) (row : Row) (master : ℕ) (new : Handover) (gather : Gather
       ∙ ap (λ (r : Row). r.term) same in
       omega (arith, behind lineage rebuilt, own)
 
+  -- a master rebuilds a row at its term, in a view with the same truths
+  abbrev IsRebuilderOf : View → Row → List Member → ℕ → Type 0
+  IsRebuilderOf w x lineage to =
+      (w.handovers to x.tablet).term ≡ x.term
+      → IsRebuilderIn w.logs w.written w.stored x lineage to (truths v x) (w.handovers to x.tablet) (w.completions to x.tablet)
+      (w.gathers to x.tablet) (w.merged to x.tablet) (w.records to)
+
+  -- a row is rebuilt in it
+  abbrev IsRebuiltIn : View → Row → Phase → Type 0
+  IsRebuiltIn w x phase =
+      RowIsRebuilt x phase (truths v x) w.logs w.written w.stored w.handovers w.completions w.gathers w.merged w.records w.live
+
   -- a master that rebuilds a row is another one, or does so for another row
-  rebuilder : (x : Row) → Contains v.rows x → (lineage : List Member) (to : ℕ) → x.phase ≡ Rebuilding lineage to → ((v.handovers to x.tablet).term ≡ x.term → IsRebuilderIn v.logs v.written v.stored x lineage to (truths v x) (v.handovers to x.tablet) (v.completions to x.tablet) (v.gathers to x.tablet) (v.merged to x.tablet) (v.records to))
-      → (now.handovers to x.tablet).term ≡ x.term → IsRebuilderIn v.logs v.written v.stored x lineage to (truths v x) (now.handovers to x.tablet) (v.completions to x.tablet) (now.gathers to x.tablet) (now.merged to x.tablet) (v.records to)
+  rebuilder : (x : Row) → Contains v.rows x → (lineage : List Member) (to : ℕ) → x.phase ≡ Rebuilding lineage to → IsRebuilderOf v x lineage to → IsRebuilderOf now x lineage to
   rebuilder x has lineage to is was =
       let Fits : Handover → Gather → List Ended → Type 0 = λ h g e. h.term ≡ x.term
       → IsRebuilderIn v.logs v.written v.stored x lineage to (truths v x) h (v.completions to x.tablet) g e (v.records to) in
@@ -434,7 +445,7 @@ module _ (v : View) (row : Row) (master : ℕ) (new : Handover) (gather : Gather
       (subst (λ (e : List Ended). Fits (v.handovers to x.tablet) (v.gathers to x.tablet) e) (sym (put2_other v.merged master row.tablet ends to x.tablet apart)) was)))
       (here_or_apart to x.tablet)
 
-  row_rebuilt : (x : Row) → Contains v.rows x → (phase : Phase) → x.phase ≡ phase → RowIsRebuilt x phase (truths v x) v.logs v.written v.stored v.handovers v.completions v.gathers v.merged v.records v.live → RowIsRebuilt x phase (truths v x) v.logs v.written v.stored now.handovers v.completions now.gathers now.merged v.records v.live
+  row_rebuilt : (x : Row) → Contains v.rows x → (phase : Phase) → x.phase ≡ phase → IsRebuiltIn v x phase → IsRebuiltIn now x phase
   row_rebuilt x has (Owned owner from) is fit = tt
   row_rebuilt x has (Opening source sfrom target dfrom) is fit = tt
   row_rebuilt x has (Moving source sfrom target dfrom) is fit = tt
@@ -535,7 +546,8 @@ module _ (v : View) (row : Row) (master : ℕ) (new : Handover) (gather : Gather
   joined_on (Opening source sfrom target dfrom) is applied says = says
   joined_on (Rebuilding lineage to) is applied says = says
 
-  rebuilt_on : (x : Row) → Contains v.rows x → (phase : Phase) → x.phase ≡ phase → (q applied : ℕ) (rebuilt : Rebuilt) → RebuiltIn phase (v.handovers q x.tablet) (v.merged q x.tablet) applied x.term q rebuilt → RebuiltIn phase (now.handovers q x.tablet) (now.merged q x.tablet) applied x.term q rebuilt
+  rebuilt_on : (x : Row) → Contains v.rows x → (phase : Phase) → x.phase ≡ phase → (q applied : ℕ) (rebuilt : Rebuilt)
+      → RebuiltIn phase (v.handovers q x.tablet) (v.merged q x.tablet) applied x.term q rebuilt → RebuiltIn phase (now.handovers q x.tablet) (now.merged q x.tablet) applied x.term q rebuilt
   rebuilt_on x has (Rebuilding lineage to) is q applied rebuilt says =
       let Says : Handover → List Ended → Type 0 = λ h e. RebuiltIn (Rebuilding lineage to) h e applied x.term q rebuilt in
       ⊎_elim

@@ -60,7 +60,8 @@ none_behind v sound master =
     (cases_lt 0 (length log.known))
 
 -- what is gathered for a row goes on
-goes_on : (v : View) (row : Row) (lineage : List Member) (own : ℕ) (copy : CopySegment) → SoundView v → Contains v.rows row → row.phase ≡ Rebuilding lineage own → (v.handovers own row.tablet).term ≡ row.term → MayGather v own row.tablet copy.master copy.segment copy.bytes → GathersOn v row lineage own (reading copy (v.gathers own row.tablet))
+goes_on : (v : View) (row : Row) (lineage : List Member) (own : ℕ) (copy : CopySegment) → SoundView v → Contains v.rows row → row.phase ≡ Rebuilding lineage own → (v.handovers own row.tablet).term ≡ row.term
+    → MayGather v own row.tablet copy.master copy.segment copy.bytes → GathersOn v row lineage own (reading copy (v.gathers own row.tablet))
 goes_on v row lineage own copy sound has phase term may =
     let gather : Gather = v.gathers own row.tablet in
     let known : ℕ → Known = λ q. known_of (v.logs q) READ_BACKUP in

@@ -11,9 +11,9 @@ ghost use Rattle.rk_types.specs.declared.held.Token.{Token};
 ghost use Rattle.rk_types.specs.declared.lineage.Member.{Member};
 ghost use Rattle.rk_types.specs.Range.{meets};
 ghost use Rattle.rk_sound.specs.Logs.{stored_of};
-ghost use Rattle.rk_sound.specs.Changes.{MayCome, MaySave, MaySend, MayStage};
+ghost use Rattle.rk_sound.specs.Changes.{MayAccept, MayCome, MaySave, MaySend, MayStage};
 ghost use Rattle.rk_sound.specs.Moves.{MayClose, MayFreeze, MayGather, MayNote, MayPass, MayResolve};
-ghost use Rattle.rk_sound.specs.Small.{batch_asked_in, client_come, hash_wanted_in, hashes_resolved_in, token_passed_in, write_staged_in, message_forgotten, message_sent, request_saved, tablet_closed_in, tablet_frozen_in, place_noted_in, segment_gathered_in};
+ghost use Rattle.rk_sound.specs.Small.{batch_asked_in, client_come, hash_wanted_in, hashes_resolved_in, token_passed_in, write_staged_in, message_forgotten, message_sent, record_accepted_in, request_saved, tablet_closed_in, tablet_frozen_in, place_noted_in, segment_gathered_in};
 ghost use Rattle.rk_sound.specs.View.{view};
 ghost use Rattle.rk_sound.specs.Whole.{IsSound};
 ghost use Rattle.rk_world.specs.World.{World, backup_at, tablet_in, lives, log_in, new_world, written_in};
@@ -25,14 +25,15 @@ pub fn new_lanes_are_sound()
 {}
 
 /// A sound lane stays sound when a message is sent or forgotten, when a client comes, when a request is saved that may be
-/// sent again, when a write is staged, when a tablet closes and when it freezes, and when the place of a target is noted, wherever
-/// the condition of the change holds; forgetting has none.
+/// sent again, when the record of a client's last call is accepted, when a write is staged, when a tablet closes and when it
+/// freezes, and when the place of a target is noted, wherever the condition of the change holds; forgetting has none.
 pub fn small_changes_keep_lanes_sound()
     ensures sent { (w : World) (message : Message) → IsSound w → MaySend (view w) message → IsSound (message_sent w message) }
     ensures forgotten { (w : World) (number : ℕ) → IsSound w → IsSound (message_forgotten w number) }
     ensures come { (w : World) (client : ℕ) → IsSound w → MayCome (view w) client → IsSound (client_come w client) }
     ensures saved { (w : World) (client : ℕ) (message : Message)
         → IsSound w → MaySave (view w) client message → IsSound (request_saved w client message) }
+    ensures accepted { (w : World) (place : ℕ) → IsSound w → MayAccept (view w) place → IsSound (record_accepted_in w place) }
     ensures staged { (w : World) (master : ℕ) (call : Call) (value : Option (List ℕ))
         → IsSound w → (may : MayStage (view w) master call value)
         → IsSound (write_staged_in w master may.served.row.tablet call value) }

@@ -5,8 +5,8 @@
 #![tactic(auto)]
 
 pub use laws::{
-    new_lanes_are_sound, one_master_answers, pulling_keeps_lanes_sound,
-    small_changes_keep_lanes_sound, what_is_applied_is_stored,
+    gathering_keeps_lanes_sound, new_lanes_are_sound, one_master_answers,
+    pulling_keeps_lanes_sound, small_changes_keep_lanes_sound, what_is_applied_is_stored,
 };
 
 mod laws;

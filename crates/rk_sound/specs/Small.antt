@@ -1,6 +1,6 @@
 -- Small changes of the world that the first laws are about, and what they make of a view. A change of a view has the name of the
 -- change of the world, and its condition stands in `Changes` or `Moves`.
-use Rattle.std.specs.Prelude.{◌==◌, ℕ, ◌+◌, if◌then◌else◌, List, [], ◌∷◌, ◌++◌, length, Option, Some}
+use Rattle.std.specs.Prelude.{◌==◌, ℕ, ◌+◌, if◌then◌else◌, List, [], ◌∷◌, ◌++◌, length, slice_get, Option, Some}
 use Rattle.rk_types.specs.NumberMap.{insert, remove}
 use Rattle.rk_types.specs.declared.call.Call.{Call}
 use Rattle.rk_types.specs.declared.call.Ended.{Ended}
@@ -26,7 +26,8 @@ use Rattle.rk_world.specs.Pulls.{hashes_resolved, token_passed}
 use Rattle.rk_world.specs.Rebuilds.{segment_gathered}
 use Rattle.rk_world.specs.MasterTurn.{batch_asked}
 use Rattle.rk_world.specs.CoordinatorStep.{place_noted}
-use Rattle.rk_world.specs.Ledger.{with_client, with_request}
+use Rattle.rk_world.specs.Journal.{accepted_at}
+use Rattle.rk_world.specs.Ledger.{with_accepted, with_client, with_request}
 use Rattle.rk_world.specs.Written.{Written}
 use Rattle.rk_world.specs.World.{World, master_at, tablet_in, with_master, with_coordinator, with_ledger, with_wire}
 use Rattle.rk_sound.specs.View.{View}
@@ -63,6 +64,13 @@ saved v client message = record v { requests = insert v.requests client message 
 
 abbrev pub request_saved : World → ℕ → Message → World
 request_saved w client message = with_ledger w (with_request w.ledger client message)
+
+-- the record at a place is accepted
+abbrev pub accepted : View → ℕ → View
+accepted v place = record v { journal = accepted_at v.journal place (slice_get v.journal place) }
+
+abbrev pub record_accepted_in : World → ℕ → World
+record_accepted_in w place = with_ledger w (with_accepted w.ledger place)
 
 -- what a master has written, with one more entry
 abbrev pub with_one_more : Written → Entry → Written

@@ -2,6 +2,7 @@ use Rattle.rk_laws_parts.proofs.Sent.{sound_sent}
 use Rattle.rk_laws_parts.proofs.Forgotten.{sound_forgotten}
 use Rattle.rk_laws_parts.proofs.Come.{sound_come}
 use Rattle.rk_laws_parts.proofs.Saved.{sound_saved}
+use Rattle.rk_laws_parts.proofs.Accepted.{sound_accepted}
 use Rattle.rk_laws_parts.proofs.WriteStaged.{sound_staged}
 use Rattle.rk_laws_parts.proofs.Closed.{sound_closed}
 use Rattle.rk_laws_parts.proofs.Frozen.{sound_frozen}
@@ -19,6 +20,9 @@ returns-clause-come c = λ w client sound may. sound_come w client sound may
 
 pub returns-clause-saved : goal.returns-clause-saved
 returns-clause-saved c = λ w client message sound may. sound_saved w client message sound may
+
+pub returns-clause-accepted : goal.returns-clause-accepted
+returns-clause-accepted c = sound_accepted
 
 pub returns-clause-staged : goal.returns-clause-staged
 returns-clause-staged c = sound_staged
