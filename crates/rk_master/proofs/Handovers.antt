@@ -25,7 +25,7 @@ use Rattle.rk_message.specs.declared.handover.Grant.{Grant}
 use Rattle.rk_message.specs.declared.handover.Prepare.{Prepare}
 use Rattle.rk_message.specs.declared.handover.Tenure.{Tenure}
 use Rattle.rk_message.specs.declared.message.Message.{Message}
-use Rattle.rk_world.specs.Handovers.{carried_entry, granting, grant_taken, closing, close_taken, given_up, is_above, is_greater, prepare_taken, preparing, ready, ready_again, tablet_prepared, with_others_given_up, owning, own_taken, releasing, release_taken, transfer, transferring, with_move}
+use Rattle.rk_world.specs.Handovers.{carried_entry, close_taken, closing, given_up, grant_taken, granting, is_above, is_greater, own_taken, owning, prepare_taken, preparing, ready, ready_again, release_taken, releasing, tablet_prepared, transfer, transferring, with_move, with_others_given_up}
 use Rattle.rk_world.specs.Master.{Master, tablet_at, without_items}
 use Rattle.rk_world.specs.RoleTests.{is_frozen_at}
 use Rattle.rk_world.specs.Tablet.{Tablet, no_tablet, pulling_from, with_handover, without_merged}
@@ -34,8 +34,8 @@ use Rattle.rk_world.specs.Worked.{Worked, changed, sending}
 use Rattle.rk_master.specs.declared.tablet_lane.TabletLane.{TabletLane}
 use Rattle.rk_master.specs.declared.work.Worked.{Worked as Work}
 use Rattle.rk_master.specs.Parts.{IsGrantable, changing, given_up_but, tablet_in, tablet_of, tablets_of, worked_of}
-use Rattle.rk_master.specs.Places.{Row, IsAt}
-use Rattle.rk_master.proofs.Places.{changed_there, get_tablet, tablet_there}
+use Rattle.rk_master.specs.Places.{Row, IsAt, IsBetween}
+use Rattle.rk_master.proofs.Places.{changed_there, get_tablet, none_there, tablet_there}
 
 -- ---- a move
 
@@ -385,6 +385,10 @@ pub worked_sending : (master : Master) (work : Work) (message : Message) → wor
 worked_sending master work message sends served = λ i. record { master = master; sends = sends i; served = served i; marked = [] }
 
 -- ---- a tablet that the master does not know
+
+-- one whose number was not found among the rows, as they were lent
+pub none_lent : (rows lent : List Row) (number i : ℕ) → lent ≡ rows → IsBetween number lent i → tablet_in rows number ≡ no_tablet
+none_lent rows lent number i is between = none_there rows number i (subst (λ (xs : List Row). IsBetween number xs i) is between)
 
 -- no move but a prepare applies to it
 none_either : (b : Bool) (moved : Option Handover) → cond b moved moved ≡ moved

@@ -1,12 +1,13 @@
-//! A master in one lane: what it makes of clients' requests and of what backups tell.
+//! A master in one lane: what it makes of clients' requests, of what backups tell, and of the coordinator's orders that
+//! hand a tablet over.
 //!
 //! It stands on `rk_world`, whose definitions say what a master does. What it promises: [`MasterLane::handle`] makes of a
-//! request just what the definitions do, and [`MasterLane::take_stored`] of what a backup tells: the master after it, what
-//! it sends, and which calls it served. Neither walks over the log, the staged calls or the clients: tablets are looked at,
-//! and all else is found by searches. After want of memory within a change a master is spent, and answers no more.
+//! request just what the definitions do, [`MasterLane::take_stored`] of what a backup tells, and [`MasterLane::take_close`]
+//! and its like of an order: the master after it, what it sends, and which calls it served. Neither requests nor commits
+//! walk over the log, the staged calls or the clients: tablets are looked at, and all else is found by searches. After want
+//! of memory within a change a master is spent, and answers no more.
 //!
-//! It serves tablets, and goes on with those that close or join; nothing turns a tablet to those roles yet, nor pulls or
-//! rebuilds one.
+//! Nothing pulls or rebuilds a tablet yet, so that none comes to join.
 #![tactic(auto)]
 
 pub use choice::Seen;

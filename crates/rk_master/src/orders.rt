@@ -1,5 +1,5 @@
 // What a master makes of the coordinator's orders that hand a tablet over. Each finds its tablet by a binary search; one
-// that the master does not know is Absent at term 0, and no move but a prepare applies to that.
+// that the master does not know is Absent at term 0, and no order but a Prepare applies to that.
 ghost use Rattle.std.specs.Prelude.{◌≡◌, ◌<◌, [], IfOk, OnOk};
 ghost use Rattle.rk_done.specs.Completions.{completions_from};
 ghost use Rattle.rk_transfer.specs.Handover.{closed};
@@ -38,8 +38,8 @@ pub(crate) fn take_close(state: &mut MasterState, tenure: Tenure) -> Result<Work
     tell_frozen(state, at, tenure)
 }
 
-/// A master takes an Own: the tablet is its own, and what was pulled is forgotten, where every entry of it is applied. One
-/// binary search.
+/// A master takes an Own: the tablet is served as its own, and what was pulled is forgotten, where the entry that closes its
+/// role is applied. One binary search.
 pub(crate) fn take_own(state: &mut MasterState, tenure: Tenure) -> Worked
     requires { IsState state.old }
     ensures state { IsState state.new }
@@ -97,8 +97,8 @@ fn release(state: &mut MasterState, at: usize, tenure: Tenure)
 }
 
 /// A master takes a Prepare: it drops the items of the range, gives up each other tablet there, and says where its entries
-/// of the tablet begin; where it made ready at this term it says so again. `NoMemory` only for want of memory. A binary
-/// search or two, a look at each tablet, and where it applies one at each record.
+/// of the tablet begin; where it made ready at this term it says so again. One binary search and a look at each tablet;
+/// where it applies, one more of each, and a look at each record.
 pub(crate) fn take_prepare(state: &mut MasterState, prepare: Prepare) -> Result<Worked, NoMemory>
     requires { IsState state.old }
     ensures state { OnOk result (IsState state.new) }

@@ -31,7 +31,7 @@ pub const MOST_VERSIONS: u64 = 1 << 60;
 pub struct TabletLane {
     pub handover: Handover,
     pub completions: Completions,
-    /// The master that the tablet is pulled from, and 0 where none is.
+    /// The master that the tablet was granted to be pulled from last; 0 where none was, or the tablet is owned since.
     pub source: u8,
     pub wanted: Wanted,
     pub token: Token,

@@ -1,15 +1,14 @@
-use Rattle.std.proofs.Common.{List, ◌∙◌, subst}
+use Rattle.std.proofs.Common.{List, ◌∙◌}
 use Rattle.rk_world.specs.Master.{Master}
-use Rattle.rk_master.specs.Places.{Row, IsBetween}
+use Rattle.rk_master.specs.Places.{Row}
 use Rattle.rk_master.specs.State.{master_of}
-use Rattle.rk_master.proofs.Handovers.{worked_quietly, release_absent}
-use Rattle.rk_master.proofs.Places.{none_there}
+use Rattle.rk_master.proofs.Handovers.{worked_quietly, none_lent, release_absent}
 use Rattle.rk_master.proofs.orders.take_release.Goals as goal
 
 pub returns-in_default-clause-ok : goal.returns-in_default-clause-ok
 returns-in_default-clause-ok c =
     let master : Master = master_of c.args.state.now in
     let rows : List Row = c.args.state.now.tablets.items in
-    let between : IsBetween c.args.tenure.tablet rows c.in_default.field-0 = subst (λ (lent : List Row). IsBetween c.args.tenure.tablet lent c.in_default.field-0) c.as_slice.ensures.value c.in_default.ensures.absent in
     worked_quietly master c.nothing.result c.nothing.ensures.sends c.nothing.ensures.served
-    ∙ release_absent master c.args.tenure (none_there rows c.args.tenure.tablet c.in_default.field-0 between)
+    ∙ release_absent master c.args.tenure
+    (none_lent rows c.as_slice.result.now c.args.tenure.tablet c.in_default.field-0 c.as_slice.ensures.value c.in_default.ensures.absent)
