@@ -159,7 +159,6 @@ Segments = ℕ → ℕ → List ℕ
 abbrev pub SpellFormed : Limits → Segments → Type 0
 SpellFormed limits log = (m s : ℕ) → IsMaster limits.masters m → Spells (IsFormedEntry limits) (log m s)
 
-
 module _ (limits : Limits) (backup : ℕ) (are : AreLimits limits) (there : IsThere limits (nodes.Backup backup)) where
   -- an Append is answered with the length
   append_formed : (master : ℕ) (append : Append) (called : Called) → IsMaster limits.masters master → IsLawfulBody (bodies.Append append) → MayCome called → All (IsFormedMessage limits) (append_step backup master append called).sends
