@@ -7,8 +7,8 @@ use crate::choice::{Seen, mutation};
 use crate::master_lane::MasterLane;
 use crate::staged_calls::StagedCalls;
 use crate::work::Worked;
-use rk_message::{Body, Message, Prepare, Ready, Reply, Request, Stored, Tenure, Transfer};
-use rk_types::{Answer, Call, End, Ended, Key, Listed, Node, Op, Outcome, Range, Value};
+use rk_message::{Body, Message, Reply, Request, Stored};
+use rk_types::{Answer, Call, Key, Node, Op, Outcome, Range, Value};
 use rk_world::Choice;
 use std::alloc::Global;
 use std::process::Abort;
@@ -107,7 +107,12 @@ fn reply(client: u32, seq: u64, outcome: Outcome) -> Message {
 #[test]
 fn clients_are_told_once_the_backup_holds_their_entries(rt: HostRuntime) -> Result<(), Fail> {
     let mut master = MasterLane::new(rt.alloc(), 1, 1)?;
-    master.add(7, whole(1))?;
+    let range = Range {
+        table: 1,
+        first: 0,
+        last: u64::MAX,
+    };
+    master.add(7, range)?;
     let put = asked(rt.alloc(), 1, Op::Put(Value::new(rt.alloc(), b"x")?))?;
     let other = asked(rt.alloc(), 1, Op::CondPut(9, Value::new(rt.alloc(), b"y")?))?;
     assert_eq!(rt; master.handle(1, &put)?.sends.len(), 0);
@@ -127,94 +132,5 @@ fn clients_are_told_once_the_backup_holds_their_entries(rt: HostRuntime) -> Resu
     assert_eq!(rt; read.sends.len(), 1);
     let value = Value::new(rt.alloc(), b"x")?;
     assert_eq!(rt; read.sends[0], reply(2, 2, Outcome::Found(1, value)));
-    Ok(())
-}
-
-// A tablet at a term.
-fn tenure(tablet: u32, term: u64) -> Tenure {
-    Tenure { tablet, term }
-}
-
-// All hashes of a table.
-fn whole(table: u64) -> Range {
-    Range {
-        table,
-        first: 0,
-        last: u64::MAX,
-    }
-}
-
-// What master 1 tells the coordinator.
-fn told_of(body: Body) -> Message {
-    Message {
-        from: Node::Master(1),
-        to: Node::Coordinator,
-        body,
-    }
-}
-
-// The Transfer of master 1.
-fn transfer(tenure: Tenure, floor: u64, ends: Listed<Ended>) -> Message {
-    told_of(Body::Transfer(Transfer {
-        tenure,
-        floor,
-        ends,
-    }))
-}
-
-// Sends of a Close: of tablet 8, of which nothing is staged, and of tablet 7, before and after its put of 40 bytes is stored.
-#[test]
-fn a_closed_tablet_is_transferred_once_nothing_of_it_is_staged(
-    rt: HostRuntime,
-) -> Result<(), Fail> {
-    let mut master = MasterLane::new(rt.alloc(), 1, 1)?;
-    master.add(7, whole(1))?;
-    master.add(8, whole(2))?;
-    let put = asked(rt.alloc(), 1, Op::Put(Value::new(rt.alloc(), b"x")?))?;
-    assert_eq!(rt; master.handle(1, &put)?.sends.len(), 0);
-    assert_eq!(rt; master.take_close(tenure(8, 1))?.sends.len(), 0);
-    let empty = master.take_close(tenure(8, 2))?;
-    let mut ends = Listed::new(rt.alloc());
-    assert_eq!(rt; empty.sends.len(), 1);
-    assert_eq!(rt;
-        empty.sends[0],
-        transfer(tenure(8, 2), 1, ends.duplicate()?)
-    );
-    assert_eq!(rt; master.take_close(tenure(7, 2))?.sends.len(), 0);
-    assert_eq!(rt; told(&rt, &mut master, 40)?.sends.len(), 1);
-    let frozen = master.take_close(tenure(7, 2))?;
-    ends.push(Ended {
-        client: 1,
-        seq: 1,
-        end: End::Written(1),
-    })?;
-    assert_eq!(rt; frozen.sends.len(), 1);
-    assert_eq!(rt; frozen.sends[0], transfer(tenure(7, 2), 2, ends));
-    Ok(())
-}
-
-// Tablet 7 is closed and released, and asked for again; an Own comes too early, and the Prepare twice.
-#[test]
-fn a_released_tablet_is_made_ready_for_again(rt: HostRuntime) -> Result<(), Fail> {
-    let mut master = MasterLane::new(rt.alloc(), 1, 1)?;
-    master.add(7, whole(1))?;
-    assert_eq!(rt; master.take_close(tenure(7, 2))?.sends.len(), 1);
-    assert_eq!(rt; master.take_release(tenure(7, 2))?.sends.len(), 0);
-    assert_eq!(rt; master.take_close(tenure(7, 2))?.sends.len(), 0);
-    let prepare = Prepare {
-        tenure: tenure(7, 3),
-        range: whole(1),
-    };
-    let ready = Ready {
-        tenure: tenure(7, 3),
-        place: 0,
-    };
-    let made = master.take_prepare(prepare)?;
-    assert_eq!(rt; made.sends.len(), 1);
-    assert_eq!(rt; made.sends[0], told_of(Body::Ready(ready)));
-    assert_eq!(rt; master.take_own(tenure(7, 3))?.sends.len(), 0);
-    let again = master.take_prepare(prepare)?;
-    assert_eq!(rt; again.sends.len(), 1);
-    assert_eq!(rt; again.sends[0], told_of(Body::Ready(ready)));
     Ok(())
 }
