@@ -209,12 +209,12 @@ module _ (v : View) (row : Row) (master : ℕ) (new : Handover) (gather : Gather
   }
 
   -- those who have to keep the row's term do
-  keep_term : (phase : Phase) (terms terms' : ℕ → ℕ) (term : ℕ) → ((q : ℕ) → terms q ≡ term → terms' q ≡ term) → KeepTerm phase terms term → KeepTerm phase terms' term
-  keep_term (Owned owner from) terms terms' term same at = tt
-  keep_term (Opening source sfrom target None) terms terms' term same at = tt
-  keep_term (Opening source sfrom target (Some dfrom)) terms terms' term same at = same target at
-  keep_term (Moving source sfrom target dfrom) terms terms' term same at = (same source at.0, same target at.1)
-  keep_term (Rebuilding lineage to) terms terms' term same at = tt
+  keep_term : (phase : Phase) (before after : ℕ → ℕ) (term : ℕ) → ((q : ℕ) → before q ≡ term → after q ≡ term) → KeepTerm phase before term → KeepTerm phase after term
+  keep_term (Owned owner from) before after term same at = tt
+  keep_term (Opening source sfrom target None) before after term same at = tt
+  keep_term (Opening source sfrom target (Some dfrom)) before after term same at = same target at
+  keep_term (Moving source sfrom target dfrom) before after term same at = (same source at.0, same target at.1)
+  keep_term (Rebuilding lineage to) before after term same at = tt
 
   roles_fit : RolesOf now
   roles_fit = record {
