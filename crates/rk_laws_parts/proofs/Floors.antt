@@ -1,13 +1,15 @@
 -- The number from which the next version is taken is above each version, and does not fall with more entries.
-use Rattle.std.proofs.Common.{◌≡◌, ℕ, ◌≤◌, ◌<◌, ◌+◌, List, [], ◌∷◌, ◌++◌, subst, ⊎_elim, arith}
+use Rattle.std.proofs.Common.{◌≡◌, ℕ, ◌≤◌, ◌<◌, ◌+◌, List, [], ◌∷◌, ◌++◌, sym, ap, subst, ◌∙◌, ⊎_elim, arith, append_assoc}
 use Rattle.std.specs.Prelude.{fold, max}
 use Rattle.std.specs.List.{Contains}
+use Rattle.std.proofs.lemmas.List.Sums.{fold-append}
 use Rattle.rk_types.specs.declared.held.Held.{Held}
 use Rattle.rk_entry.specs.declared.entry.Entry.{Entry}
 use Rattle.rk_entry.specs.declared.entry.Entry.TheVariants as entries
 use Rattle.rk_overlay.proofs.Members.{none_stands, stands_cases}
 use Rattle.rk_world.specs.Ends.{items_of}
 use Rattle.rk_world.specs.Merge.{floor_by, floor_of}
+use Rattle.rk_sound.specs.Counters.{IsNext}
 
 -- a floor does not fall with an entry
 floor_step : (floor : ℕ) (entry : Entry) → floor ≤ floor_by floor entry
@@ -46,3 +48,14 @@ floor_above list item at = above_from 1 list item at
 pub floor_append : (floor : ℕ) (list more : List Entry) → fold floor_by floor list ≤ fold floor_by floor (list ++ more)
 floor_append floor [] more = floor_rises floor more
 floor_append floor (entry ∷ list) more = floor_append (floor_by floor entry) list more
+
+-- one more item at the end raises it above the item's version
+floor_push : (list : List Entry) (item : Held) → floor_of (list ++ entries.Held item ∷ []) ≡ max (floor_of list) (item.version + 1)
+floor_push list item = fold-append floor_by 1 list (entries.Held item ∷ [])
+
+-- so one more item that took the next number as its version has the one after it behind it
+pub next_push : (truth rest : List Entry) (number : ℕ) (item : Held) → item.version ≡ number → IsNext (truth ++ rest) number → IsNext (truth ++ (rest ++ entries.Held item ∷ [])) (number + 1)
+next_push truth rest number item version next =
+    let same : floor_of (truth ++ (rest ++ entries.Held item ∷ [])) ≡ max (floor_of (truth ++ rest)) (item.version + 1) =
+    ap floor_of (sym (append_assoc truth rest (entries.Held item ∷ []))) ∙ floor_push (truth ++ rest) item in
+    omega (arith, same, version, next)

@@ -21,7 +21,6 @@ pub mod Segments
 pub mod Logs
 pub mod Above
 pub mod Calls
-pub mod Nexts
 pub mod Counters
 pub mod Messages
 pub mod Serving

@@ -50,7 +50,7 @@ use Rattle.rk_sound.specs.Truth.{IsTruth}
 use Rattle.rk_sound.specs.Order.{AreAbove}
 use Rattle.rk_sound.specs.Handing.{handed_by, handed_for_grant}
 use Rattle.rk_sound.specs.Calls.{IsKnown, IsStagedEnd, ReachAll, TellAll}
-use Rattle.rk_sound.specs.Counters.{AreAboveMap, IsFloor, IsNext}
+use Rattle.rk_sound.specs.Counters.{AreAboveMap, IsNext}
 use Rattle.rk_sound.specs.Rest.{FirstIsDone, IsRest, OnlyIsUnnamed, Waits}
 use Rattle.rk_sound.specs.Tables.{HasItems, has_all_items}
 use Rattle.rk_sound.specs.Receives.{HandedFits, MembersFit}
@@ -275,15 +275,15 @@ module _ (v : View) (row : Row) (source sfrom target place : ℕ) (sound : Sound
         each
         (λ r. StillCounts (v.live q) (v.handovers q r.tablet).term r.term
         → speaks (post_of r.phase q) (v.handovers q r.tablet) r.term ≡ true
-        → IsNext r.range (truths v r ++ rests v r) (v.written q) (v.handovers q r.tablet).counter)
+        → IsNext (truths v r ++ rests v r) (v.handovers q r.tablet).counter)
         (λ next counts says. next counts (sym (says_as q) ∙ says)) (sound.counters.counted q);
     handed_on =
         each
-        (λ r. IfSome (handed_for_grant r v.handovers v.handed) (λ h. IsFloor r (truths v r ++ rests v r) v.written h.floor))
+        (λ r. IfSome (handed_for_grant r v.handovers v.handed) (λ h. IsNext (truths v r ++ rests v r) h.floor))
         (λ floor. floor) sound.counters.handed_on;
     sent = λ n m there.
-        each (λ r. IfSome (handed_by r v.handovers m.body) (λ h. IsFloor r (truths v r ++ rests v r) v.written h.floor))
-        (subst (λ (given : Option Handed). IfSome given (λ h. IsFloor old (truths v old ++ rests v old) v.written h.floor))
+        each (λ r. IfSome (handed_by r v.handovers m.body) (λ h. IsNext (truths v r ++ rests v r) h.floor))
+        (subst (λ (given : Option Handed). IfSome given (λ h. IsNext (truths v old ++ rests v old) h.floor))
         (sym (hands_as m.body)))
         (sound.counters.sent n m there);
   }

@@ -41,7 +41,7 @@ use Rattle.rk_sound.specs.Posts.{post_of, bond_of, Holds, speaks, StillCounts}
 use Rattle.rk_sound.specs.Roles.{KeepTerm, RoleFits}
 use Rattle.rk_sound.specs.Handing.{handed_by, handed_for_grant, is_waiting, is_waiting_at, is_wanting, second_has}
 use Rattle.rk_sound.specs.Calls.{IsKnown, IsStagedEnd, ReachAll}
-use Rattle.rk_sound.specs.Counters.{IsFloor, IsNext}
+use Rattle.rk_sound.specs.Counters.{IsNext}
 use Rattle.rk_sound.specs.Tables.{HasItems, has_all_items}
 use Rattle.rk_sound.specs.Receives.{HandedFits, MembersFit, is_granted}
 use Rattle.rk_sound.specs.Rebuilds.{MarkFits, RowIsRebuilt}
@@ -302,7 +302,7 @@ module _ (v : View) (row : Row) (master : ℕ) (new : Handover) (gather : Gather
   }
 
   abbrev Floors : Row → Option Handed → Type 0
-  Floors x given = IfSome given (λ h. IsFloor x (truths v x ++ rests v x) v.written h.floor)
+  Floors x given = IfSome given (λ h. IsNext (truths v x ++ rests v x) h.floor)
 
   counters : CountersOf now (truths v) (rests v)
   counters = record {
@@ -310,10 +310,10 @@ module _ (v : View) (row : Row) (master : ℕ) (new : Handover) (gather : Gather
     counted = λ q k d within.
         by_row
         (λ x q h. StillCounts (v.live q) h.term x.term → speaks (post_of x.phase q) h x.term ≡ true
-        → IsNext x.range (truths v x ++ rests v x) (v.written q) h.counter)
+        → IsNext (truths v x ++ rests v x) h.counter)
         (slice_index_or v.rows k d) (Contains-get_or v.rows k d within) q
         (λ was counts says.
-        subst (IsNext row.range (truths v row ++ rests v row) (v.written master)) (sym may.counter_is)
+        subst (IsNext (truths v row ++ rests v row)) (sym may.counter_is)
         (was (inl may.lives) (may.speaks says)))
         (sound.counters.counted q k d within);
     handed_on = λ k d within.

@@ -11,7 +11,7 @@ use Rattle.rk_sound.specs.Cover.{IsWithinRows}
 use Rattle.rk_sound.specs.Logs.{LogSays}
 use Rattle.rk_sound.specs.Handing.{handed_by}
 use Rattle.rk_sound.specs.Calls.{ReachAll}
-use Rattle.rk_sound.specs.Counters.{IsFloor}
+use Rattle.rk_sound.specs.Counters.{IsNext}
 use Rattle.rk_sound.specs.Messages.{SaysOf, Says}
 use Rattle.rk_sound.specs.Asked.{RequestSays}
 use Rattle.rk_sound.specs.Whole.{IsSound, SoundView, TermsOf, CoverOf, LogsOf, CallsOf, CountersOf, MessagesOf, AskedOf}
@@ -74,9 +74,8 @@ module _ (v : View) (number : ℕ) (message : Message) (sound : SoundView v) (ma
     handed_on = sound.counters.handed_on;
     sent =
         each_insert
-        (λ n m. All (λ row. IfSome (handed_by row v.handovers m.body)
-        (λ h. IsFloor row (truths v row ++ rests v row) v.written h.floor)) v.rows) v.wire number message sound.counters.sent
-        may.floors;
+        (λ n m. All (λ row. IfSome (handed_by row v.handovers m.body) (λ h. IsNext (truths v row ++ rests v row) h.floor)) v.rows) v.wire
+        number message sound.counters.sent may.floors;
   }
 
   messages : MessagesOf now

@@ -6,7 +6,6 @@ use Rattle.rk_model.proofs.Keys.{name-swap}
 use Rattle.rk_model.specs.History.{record_of as entry_record, IsLegal, live_after, map_after, empty_map}
 use Rattle.rk_model.specs.Machine.{live as live_entry, never, last_version}
 use Rattle.rk_entry.specs.declared.entry.Entry.{Entry}
-use Rattle.rk_table.specs.Items.{is_in}
 use Rattle.rk_overlay.specs.Live.{record_of as item_record, live as live_items}
 use Rattle.rk_overlay.specs.Plain.{IsPlain}
 use Rattle.rk_world.specs.Ranges.{AgreeIn}
@@ -16,13 +15,11 @@ use Rattle.rk_world.specs.Base.{no_base, base_map}
 use Rattle.rk_world.specs.Merge.{floor_of}
 use Rattle.rk_world.specs.Master.{tablet_at}
 use Rattle.rk_world.specs.Ledger.{asked_by}
-use Rattle.rk_world.specs.Written.{written_by}
-use Rattle.rk_world.specs.World.{written_in}
 use Rattle.rk_sound.specs.Truth.{Truth, IsTruth, IsAfterSeen}
 use Rattle.rk_sound.specs.Order.{Order, AreAbove}
-use Rattle.rk_sound.specs.Counters.{IsNext, AreAboveMap, IsFloor}
+use Rattle.rk_sound.specs.Counters.{IsNext, AreAboveMap}
 use Rattle.rk_sound.specs.Whole.{CountersOf}
-use Rattle.rk_laws_parts.proofs.SmallWorld.{small_world, small_ledger, small_entry, small_item, small_key, small_placed, small_range, small_row, small_map, small_journal, small_truths, small_rests, small_value, small_view}
+use Rattle.rk_laws_parts.proofs.SmallWorld.{small_ledger, small_entry, small_item, small_key, small_placed, small_range, small_row, small_map, small_journal, small_truths, small_rests, small_value, small_view}
 use Rattle.rk_laws_parts.proofs.SmallWorldLooks.{each_speaking, nothing_kept, nothing_sent, all_one, only_one}
 
 -- the truth of the row is the put alone
@@ -90,18 +87,15 @@ low_one =
     subst (λ (truth : List Entry). AreAboveMap small_range (map_after empty_map small_journal) truth) (sym truth_is) small_low
 
 -- the tablet's counter is above all that was written
-next_one : IsNext small_range (small_truths small_row ++ small_rests small_row) (written_in small_world 1) 2
-next_one = record {
-  low = subst (λ (truth : List Entry). floor_of (truth ++ []) ≤ 2) (sym truth_is) (omega arith);
-  above = all_one (λ item. is_in small_range item ≡ true → item.version < 2) small_item (λ there. omega arith);
-}
+next_one : IsNext (small_truths small_row ++ small_rests small_row) 2
+next_one = subst (λ (truth : List Entry). floor_of (truth ++ []) ≤ 2) (sym truth_is) (omega arith)
 
 -- the next version is above all that were given
 pub small_counters : CountersOf small_view small_truths small_rests
 small_counters = record {
   low = all_one (λ row. AreAboveMap row.range (map_after (base_map no_base) small_journal) (small_truths row)) small_row low_one;
   counted = λ q. each_speaking
-      (λ row m. IsNext row.range (small_truths row ++ small_rests row) (written_by m []) (tablet_at m row.tablet).handover.counter) next_one q;
-  handed_on = nothing_kept (λ row h. IsFloor row (small_truths row ++ small_rests row) (written_in small_world) h.floor);
-  sent = nothing_sent (λ row h. IsFloor row (small_truths row ++ small_rests row) (written_in small_world) h.floor);
+      (λ row m. IsNext (small_truths row ++ small_rests row) (tablet_at m row.tablet).handover.counter) next_one q;
+  handed_on = nothing_kept (λ row h. IsNext (small_truths row ++ small_rests row) h.floor);
+  sent = nothing_sent (λ row h. IsNext (small_truths row ++ small_rests row) h.floor);
 }

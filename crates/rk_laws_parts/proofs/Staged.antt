@@ -38,14 +38,12 @@ use Rattle.rk_laws_parts.proofs.Seen.{AllLook, LooksAs, looks_same, counted_look
 -- the counter of a tablet is above all that counts for its row, where its master serves it
 pub counter_low : (v : View) (master table : ℕ) (key : List ℕ) → CountersOf v (truths v) (rests v) → (served : IsServed v.rows (v.handovers master) (v.live master) master table key) → floor_of (truths v served.row ++ rests v served.row) ≤ (v.handovers master served.row.tablet).counter
 counter_low v master table key counters served =
-    let next : IsNext served.row.range (truths v served.row ++ rests v served.row) (v.written master) (v.handovers master served.row.tablet).counter =
     All-contains
     (λ row. StillCounts (v.live master) (v.handovers master row.tablet).term row.term
     → speaks (post_of row.phase master) (v.handovers master row.tablet) row.term ≡ true
-    → IsNext row.range (truths v row ++ rests v row) (v.written master) (v.handovers master row.tablet).counter) v.rows served.row
+    → IsNext (truths v row ++ rests v row) (v.handovers master row.tablet).counter) v.rows served.row
     (counters.counted master) served.has_row (inl served.lives)
-    (speaks_serving (post_of served.row.phase master) (v.handovers master served.row.tablet) served.row.term served.serves) in
-    next.low
+    (speaks_serving (post_of served.row.phase master) (v.handovers master served.row.tablet) served.row.term served.serves)
 
 -- the lineage of a row in such a phase has at most two members, and they are two
 pub formed_apart : (phase : Phase) → IsFormed phase → AreApart (lineage_of phase)

@@ -23,7 +23,7 @@ use Rattle.rk_sound.specs.Posts.{post_of}
 use Rattle.rk_sound.specs.Cover.{IsEntryWithin, IsOfWholeRows}
 use Rattle.rk_sound.specs.Order.{AreAbove}
 use Rattle.rk_sound.specs.Tables.{IsTableOf}
-use Rattle.rk_sound.specs.Whole.{IsSound, SoundParts, SoundView, NodesOf, RowsOf, TermsOf, CoverOf, RolesOf, LogsOf, OrderOf, CallsOf, CountersOf, TablesOf, MessagesOf}
+use Rattle.rk_sound.specs.Whole.{IsSound, SoundParts, SoundView, NodesOf, RowsOf, TermsOf, CoverOf, RolesOf, LogsOf, OrderOf, CallsOf, TablesOf, MessagesOf}
 use Rattle.rk_sound.specs.Changes.{MayStage}
 use Rattle.rk_sound.specs.Small.{staged, with_one_more, write_staged_in}
 use Rattle.rk_laws_parts.proofs.Changing.{Lane, Stages}
@@ -34,16 +34,16 @@ use Rattle.rk_laws_parts.proofs.Masters.{tablet_here, tablet_apart}
 use Rattle.rk_laws_parts.proofs.Views.{view_master}
 use Rattle.rk_laws_parts.proofs.Seen.{AllLook}
 use Rattle.rk_laws_parts.proofs.Staging.{lane_of, stages, truths_same}
-use Rattle.rk_laws_parts.proofs.Staged.{Serves, counter_low, row_cases, serves_row, staged_alike, staged_grown, staged_known, staged_looks, written_grown}
+use Rattle.rk_laws_parts.proofs.Staged.{counter_low, row_cases, staged_alike, staged_grown, staged_known, staged_looks, written_grown}
 use Rattle.rk_laws_parts.proofs.Above.{above_push, above_floor}
-use Rattle.rk_laws_parts.proofs.Nexts.{items_push}
+use Rattle.rk_laws_parts.proofs.Histories.{items_push}
 use Rattle.rk_laws_parts.proofs.Rows.{rows_grown}
 use Rattle.rk_laws_parts.proofs.Terms.{terms_looks}
 use Rattle.rk_laws_parts.proofs.Cover.{cover_looks, cover_written, covered_by}
 use Rattle.rk_laws_parts.proofs.Roles.{roles_looks}
 use Rattle.rk_laws_parts.proofs.Logs.{logs_grown}
 use Rattle.rk_laws_parts.proofs.Calls.{calls_alike, calls_more}
-use Rattle.rk_laws_parts.proofs.Counters.{counters_with}
+use Rattle.rk_laws_parts.proofs.Counters.{counters_staged}
 use Rattle.rk_laws_parts.proofs.Messages.{messages_looks}
 use Rattle.rk_laws_parts.proofs.Tables.{all_items_same}
 use Rattle.rk_laws_parts.proofs.Receives.{receives_staged}
@@ -122,10 +122,7 @@ module _ (v : View) (master : ℕ) (call : Call) (value : Option (List ℕ)) (so
       logs_grown v.logs now.logs v.written now.written v.stored v.wire master (entries.Held item) sound.logs change.logs_differ
       change.written_differ refl may.room
 
-  -- its master is the one that speaks for the row, so the version is above all that counts for it
-  serves : Serves (v.handovers master) (v.live master) master row
-  serves = serves_row v.rows before after master row call item change (v.live master) may.served
-
+  -- its master speaks for the row, so the version is above all that counts for it
   low : floor_of (truths v row ++ rests v row) ≤ item.version
   low =
       counter_low v master call.table call.key
@@ -174,11 +171,6 @@ module _ (v : View) (master : ℕ) (call : Call) (value : Option (List ℕ)) (so
       tells)
       (staged_alike v.rows before after master row call item change)
 
-  counters : CountersOf now (truths v) (rests now)
-  counters =
-      counters_with v.rows (truths v) before after v.live v.handed v.journal master row call item change sound.roles sound.rows serves
-      v.base v.stored v.completions v.merged v.wire sound.counters sound.messages
-
   records : TablesOf now
   records = record {
     ordered = sound.records.ordered;
@@ -209,7 +201,7 @@ module _ (v : View) (master : ℕ) (call : Call) (value : Option (List ℕ)) (so
     truth = sound.truth;
     order = order;
     calls = calls;
-    counters = counters;
+    counters = counters_staged v master call value sound may;
     rest = rest_staged v master call value sound may;
     records = records;
     receives = receives_staged v master call value sound may;

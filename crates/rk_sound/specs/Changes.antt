@@ -31,7 +31,7 @@ use Rattle.rk_sound.specs.Cover.{IsWithinRows}
 use Rattle.rk_sound.specs.Logs.{LogSays, IsFirstPart, IsKnownBefore, stored_of}
 use Rattle.rk_sound.specs.Handing.{handed_by}
 use Rattle.rk_sound.specs.Calls.{ReachAll}
-use Rattle.rk_sound.specs.Counters.{IsFloor}
+use Rattle.rk_sound.specs.Counters.{IsNext}
 use Rattle.rk_sound.specs.Rest.{IsLastAsked, call_ends, records_of}
 use Rattle.rk_sound.specs.Messages.{SaysOf, Says}
 use Rattle.rk_sound.specs.Asked.{RequestSays, IsAccepted, IsRequest, WasAsked, HasSeen}
@@ -43,8 +43,7 @@ pub record MaySend (v : View) (message : Message) : Type 0 where
   pub terms : All (λ row. SentFits row message.body) v.rows
   pub logs_say : LogSays v.logs v.stored message.from message.to message.body
   pub floors :
-      All (λ row. IfSome (handed_by row v.handovers message.body)
-      (λ h. IsFloor row (truths v row ++ rests v row) v.written h.floor)) v.rows
+      All (λ row. IfSome (handed_by row v.handovers message.body) (λ h. IsNext (truths v row ++ rests v row) h.floor)) v.rows
   pub ends :
       All (λ row. IfSome (handed_by row v.handovers message.body) (λ h. ReachAll row.range v.journal h.ends)) v.rows
   pub within_rows :

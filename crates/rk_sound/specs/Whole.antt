@@ -57,7 +57,7 @@ abbrev pub CallsOf : View → (Row → List Entry) → (Row → List Entry) → 
 CallsOf v truths rests = Calls v.base v.rows truths rests v.handovers v.completions v.live v.handed v.journal v.wire
 
 abbrev pub CountersOf : View → (Row → List Entry) → (Row → List Entry) → Type 0
-CountersOf v truths rests = Counters v.base v.rows truths rests v.written v.handovers v.live v.handed v.journal v.wire
+CountersOf v truths rests = Counters v.base v.rows truths rests v.handovers v.live v.handed v.journal v.wire
 
 abbrev pub RestOf : View → (Row → List Entry) → (Row → List Entry) → Type 0
 RestOf v truths rests = Rest v.base v.rows truths rests v.written v.handovers v.calls v.live v.journal v.asked
