@@ -36,7 +36,7 @@ use Rattle.rk_world.specs.World.{World}
 use Rattle.rk_sound.specs.View.{View, view, truths, rests}
 use Rattle.rk_sound.specs.Handing.{handed_by, handed_for_grant}
 use Rattle.rk_sound.specs.Truth.{IsAfterSeen}
-use Rattle.rk_sound.specs.Calls.{IsKnown, IsReached, IsRecorded, IsStagedEnd, ReachAll, TellAll, is_record_in}
+use Rattle.rk_sound.specs.Calls.{AreHandedOver, IsKnown, IsReached, IsRecorded, IsStagedEnd, ReachAll, TellAll, is_record_in}
 use Rattle.rk_sound.specs.Counters.{AreAboveMap}
 use Rattle.rk_sound.specs.Rest.{IsLastAsked, IsRest, IsStaged, call_ends, records_of}
 use Rattle.rk_sound.specs.Messages.{AnswerFits, ReplyFits, Says}
@@ -125,6 +125,12 @@ module _ (v : View) (place : ℕ) (sound : SoundView v) (may : MayAccept v place
       (reach (ap (λ (c : Call). has_key range c.table c.key) (sym is.call) ∙ inside) (ap (λ (c : Call). is_mutation c.op) (sym is.call) ∙ mutation)))
       v.journal after same
 
+  handed_over : (range : Range) (list : List Ended) → AreHandedOver v.base range v.journal list → AreHandedOver v.base range after list
+  handed_over range list old = record {
+    reached = reach_all range list old.reached;
+    known = All-weaker (IsKnown v.base v.journal) (IsKnown v.base after) known list old.known;
+  }
+
   tell_all : (range : Range) (list : List Entry) → TellAll range v.journal list → TellAll range after list
   tell_all range list =
       all_records_same
@@ -156,10 +162,10 @@ module _ (v : View) (place : ℕ) (sound : SoundView v) (may : MayAccept v place
         reach_all row.range (ends_of (v.completions q row.tablet)) (sound.calls.answering q k d within counts says);
     handed_on = λ k d within.
         let row : Row = slice_index_or v.rows k d in
-        IfSome_then (handed_for_grant row v.handovers v.handed) (sound.calls.handed_on k d within) (λ h. reach_all row.range h.ends);
+        IfSome_then (handed_for_grant row v.handovers v.handed) (sound.calls.handed_on k d within) (λ h. handed_over row.range h.ends);
     sent = λ n m found k d within.
         let row : Row = slice_index_or v.rows k d in
-        IfSome_then (handed_by row v.handovers m.body) (sound.calls.sent n m found k d within) (λ h. reach_all row.range h.ends);
+        IfSome_then (handed_by row v.handovers m.body) (sound.calls.sent n m found k d within) (λ h. handed_over row.range h.ends);
     known = λ q r lives.
         All-weaker (λ end. IsKnown v.base v.journal end ⊎ IsStagedEnd v.rows (rests v) q r (v.handovers q r).term end)
         (λ end. IsKnown v.base after end ⊎ IsStagedEnd v.rows (rests v) q r (v.handovers q r).term end)

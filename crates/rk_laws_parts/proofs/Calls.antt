@@ -17,7 +17,7 @@ use Rattle.rk_world.specs.Base.{Base}
 use Rattle.rk_world.specs.Coordinator.{Handed}
 use Rattle.rk_sound.specs.Posts.{post_of, speaks, StillCounts}
 use Rattle.rk_sound.specs.Handing.{handed_by, handed_for_grant}
-use Rattle.rk_sound.specs.Calls.{Calls, IsKnown, IsStagedEnd, ReachAll}
+use Rattle.rk_sound.specs.Calls.{AreHandedOver, Calls, IsKnown, IsStagedEnd, ReachAll}
 use Rattle.rk_laws_parts.proofs.Differs.{still_counts}
 use Rattle.rk_laws_parts.proofs.Alike.{AreAlike, speaks_alike, handed_for_grant_alike, handed_by_alike}
 
@@ -42,20 +42,20 @@ calls_alike base rows truths rests handovers now completions live handed journal
       rows (old.answering master);
   handed_on =
       All-weaker
-      (λ row. IfSome (handed_for_grant row handovers handed) (λ h. ReachAll row.range journal h.ends))
-      (λ row. IfSome (handed_for_grant row now handed) (λ h. ReachAll row.range journal h.ends))
-      (λ row reach. subst (λ (o : Option Handed). IfSome o (λ h. ReachAll row.range journal h.ends)) (sym (handed_for_grant_alike row handovers now handed alike)) reach)
+      (λ row. IfSome (handed_for_grant row handovers handed) (λ h. AreHandedOver base row.range journal h.ends))
+      (λ row. IfSome (handed_for_grant row now handed) (λ h. AreHandedOver base row.range journal h.ends))
+      (λ row reach. subst (λ (o : Option Handed). IfSome o (λ h. AreHandedOver base row.range journal h.ends)) (sym (handed_for_grant_alike row handovers now handed alike)) reach)
       rows old.handed_on;
   sent =
       each_weaker
-      (λ number message. All (λ row. IfSome (handed_by row handovers message.body) (λ h. ReachAll row.range journal h.ends)) rows)
-      (λ number message. All (λ row. IfSome (handed_by row now message.body) (λ h. ReachAll row.range journal h.ends)) rows)
+      (λ number message. All (λ row. IfSome (handed_by row handovers message.body) (λ h. AreHandedOver base row.range journal h.ends)) rows)
+      (λ number message. All (λ row. IfSome (handed_by row now message.body) (λ h. AreHandedOver base row.range journal h.ends)) rows)
       wire
       (λ number message.
       All-weaker
-      (λ row. IfSome (handed_by row handovers message.body) (λ h. ReachAll row.range journal h.ends))
-      (λ row. IfSome (handed_by row now message.body) (λ h. ReachAll row.range journal h.ends))
-      (λ row reach. subst (λ (o : Option Handed). IfSome o (λ h. ReachAll row.range journal h.ends)) (sym (handed_by_alike row handovers now message.body alike)) reach)
+      (λ row. IfSome (handed_by row handovers message.body) (λ h. AreHandedOver base row.range journal h.ends))
+      (λ row. IfSome (handed_by row now message.body) (λ h. AreHandedOver base row.range journal h.ends))
+      (λ row reach. subst (λ (o : Option Handed). IfSome o (λ h. AreHandedOver base row.range journal h.ends)) (sym (handed_by_alike row handovers now message.body alike)) reach)
       rows)
       old.sent;
   known = λ master tablet lives.

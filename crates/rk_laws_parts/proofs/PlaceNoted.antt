@@ -49,7 +49,7 @@ use Rattle.rk_sound.specs.Roles.{RoleFits, KeepTerm}
 use Rattle.rk_sound.specs.Truth.{IsTruth}
 use Rattle.rk_sound.specs.Order.{AreAbove}
 use Rattle.rk_sound.specs.Handing.{handed_by, handed_for_grant}
-use Rattle.rk_sound.specs.Calls.{IsKnown, IsStagedEnd, ReachAll, TellAll}
+use Rattle.rk_sound.specs.Calls.{AreHandedOver, IsKnown, IsStagedEnd, ReachAll, TellAll}
 use Rattle.rk_sound.specs.Counters.{AreAboveMap, IsNext}
 use Rattle.rk_sound.specs.Rest.{FirstIsDone, IsRest, OnlyIsUnnamed, Waits}
 use Rattle.rk_sound.specs.Tables.{HasItems, has_all_items}
@@ -252,11 +252,11 @@ module _ (v : View) (row : Row) (source sfrom target place : ℕ) (sound : Sound
         → ReachAll r.range v.journal (ends_of (v.completions q r.tablet)))
         (λ reach counts says. reach counts (sym (says_as q) ∙ says)) (sound.calls.answering q);
     handed_on =
-        each (λ r. IfSome (handed_for_grant r v.handovers v.handed) (λ h. ReachAll r.range v.journal h.ends)) (λ reach. reach)
+        each (λ r. IfSome (handed_for_grant r v.handovers v.handed) (λ h. AreHandedOver v.base r.range v.journal h.ends)) (λ reach. reach)
         sound.calls.handed_on;
     sent = λ n m there.
-        each (λ r. IfSome (handed_by r v.handovers m.body) (λ h. ReachAll r.range v.journal h.ends))
-        (subst (λ (given : Option Handed). IfSome given (λ h. ReachAll row.range v.journal h.ends)) (sym (hands_as m.body)))
+        each (λ r. IfSome (handed_by r v.handovers m.body) (λ h. AreHandedOver v.base r.range v.journal h.ends))
+        (subst (λ (given : Option Handed). IfSome given (λ h. AreHandedOver v.base row.range v.journal h.ends)) (sym (hands_as m.body)))
         (sound.calls.sent n m there);
     known = λ q r lives.
         All-weaker

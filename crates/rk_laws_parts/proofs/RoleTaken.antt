@@ -40,7 +40,7 @@ use Rattle.rk_sound.specs.Cover.{IsWithinRows}
 use Rattle.rk_sound.specs.Posts.{post_of, bond_of, Holds, speaks, StillCounts}
 use Rattle.rk_sound.specs.Roles.{KeepTerm, RoleFits}
 use Rattle.rk_sound.specs.Handing.{handed_by, handed_for_grant, is_waiting, is_waiting_at, is_wanting, second_has}
-use Rattle.rk_sound.specs.Calls.{IsKnown, IsStagedEnd, ReachAll}
+use Rattle.rk_sound.specs.Calls.{AreHandedOver, IsKnown, IsStagedEnd, ReachAll}
 use Rattle.rk_sound.specs.Counters.{IsNext}
 use Rattle.rk_sound.specs.Tables.{HasItems, has_all_items}
 use Rattle.rk_sound.specs.Receives.{HandedFits, MembersFit, is_granted}
@@ -289,11 +289,11 @@ module _ (v : View) (row : Row) (master : ℕ) (new : Handover) (gather : Gather
         (sound.calls.answering q k d within);
     handed_on = λ k d within.
         let x : Row = slice_index_or v.rows k d in
-        subst (λ (given : Option Handed). IfSome given (λ h. ReachAll x.range v.journal h.ends)) (sym (for_grant_same x))
+        subst (λ (given : Option Handed). IfSome given (λ h. AreHandedOver v.base x.range v.journal h.ends)) (sym (for_grant_same x))
         (sound.calls.handed_on k d within);
     sent = λ n m found k d within.
         let x : Row = slice_index_or v.rows k d in
-        subst (λ (given : Option Handed). IfSome given (λ h. ReachAll x.range v.journal h.ends)) (sym (by_message_same x m.body))
+        subst (λ (given : Option Handed). IfSome given (λ h. AreHandedOver v.base x.range v.journal h.ends)) (sym (by_message_same x m.body))
         (sound.calls.sent n m found k d within);
     known = λ q r lives.
         All-weaker (λ end. IsKnown v.base v.journal end ⊎ IsStagedEnd v.rows (rests v) q r (v.handovers q r).term end)

@@ -10,7 +10,7 @@ use Rattle.rk_sound.specs.Terms.{SentFits, tenure_in, range_in}
 use Rattle.rk_sound.specs.Cover.{IsWithinRows}
 use Rattle.rk_sound.specs.Logs.{LogSays}
 use Rattle.rk_sound.specs.Handing.{handed_by}
-use Rattle.rk_sound.specs.Calls.{ReachAll}
+use Rattle.rk_sound.specs.Calls.{AreHandedOver}
 use Rattle.rk_sound.specs.Counters.{IsNext}
 use Rattle.rk_sound.specs.Messages.{SaysOf, Says}
 use Rattle.rk_sound.specs.Asked.{RequestSays}
@@ -62,7 +62,7 @@ module _ (v : View) (number : ℕ) (message : Message) (sound : SoundView v) (ma
     handed_on = sound.calls.handed_on;
     sent =
         each_insert
-        (λ n m. All (λ row. IfSome (handed_by row v.handovers m.body) (λ h. ReachAll row.range v.journal h.ends)) v.rows) v.wire
+        (λ n m. All (λ row. IfSome (handed_by row v.handovers m.body) (λ h. AreHandedOver v.base row.range v.journal h.ends)) v.rows) v.wire
         number message sound.calls.sent may.ends;
     known = sound.calls.known;
   }

@@ -25,7 +25,7 @@ use Rattle.rk_world.specs.Ledger.{asked_by}
 use Rattle.rk_world.specs.Written.{written_by, member_truth}
 use Rattle.rk_world.specs.World.{tablet_in, written_in, calls_in, lives}
 use Rattle.rk_sound.specs.Posts.{Post, post_of, StillCounts}
-use Rattle.rk_sound.specs.Calls.{IsKnown, IsReached, IsStagedEnd, ReachAll, TellAll, is_record_in}
+use Rattle.rk_sound.specs.Calls.{AreHandedOver, IsKnown, IsReached, IsStagedEnd, ReachAll, TellAll, is_record_in}
 use Rattle.rk_sound.specs.Rest.{IsRest, FirstIsDone, OnlyIsUnnamed, IsLast, Waits, HasCall, EachHasCall, is_call_entry}
 use Rattle.rk_sound.specs.Tables.{HasItems, IsTableOf, has_all_items}
 use Rattle.rk_sound.specs.Whole.{CallsOf, RestOf, TablesOf}
@@ -73,8 +73,8 @@ small_calls = record {
       (subst (λ (truth : List Entry). All (IsKnown no_base small_journal) (told truth)) (sym truth_is)
       (all_one (IsKnown no_base small_journal) small_end known_one));
   answering = λ q. each_speaking (λ row m. ReachAll row.range small_journal (ends_of (tablet_at m row.tablet).completions)) reached_one q;
-  handed_on = nothing_kept (λ row h. ReachAll row.range small_journal h.ends);
-  sent = nothing_sent (λ row h. ReachAll row.range small_journal h.ends);
+  handed_on = nothing_kept (λ row h. AreHandedOver no_base row.range small_journal h.ends);
+  sent = nothing_sent (λ row h. AreHandedOver no_base row.range small_journal h.ends);
   known = λ q r live. each_tablet
       (λ n t tablet. All (λ end. IsKnown no_base small_journal end ⊎ IsStagedEnd small_map small_rests n t tablet.handover.term end) (ends_of tablet.completions))
       (all_one (λ end. IsKnown no_base small_journal end ⊎ IsStagedEnd small_map small_rests 1 1 1 end) small_end (inl known_one))

@@ -66,6 +66,11 @@ pub record IsRecorded (journal : List Placed) (end : Ended) : Type 0 where
 abbrev pub IsKnown : Base → List Placed → Ended → Type 0
 IsKnown base journal end = IsRecorded journal end ⊎ Contains (ends_told base) end
 
+-- ends that are handed over: they reach the record of each mutation in a range, and each is known
+pub record AreHandedOver (base : Base) (range : Range) (journal : List Placed) (list : List Ended) : Type 0 where
+  pub reached : ReachAll range journal list
+  pub known : All (IsKnown base journal) list
+
 -- an end that stands behind the truth of a row that this master rebuilds, at the row's term
 pub record IsStagedEnd (rows : List Row) (rests : Row → List Entry) (master tablet term : ℕ) (end : Ended) : Type 0 where
   pub row : Row
@@ -90,11 +95,11 @@ pub record Calls (base : Base) (rows : List Row) (truths rests : Row → List En
       → All (λ row. StillCounts (live master) (handovers master row.tablet).term row.term
       → speaks (post_of row.phase master) (handovers master row.tablet) row.term ≡ true
       → ReachAll row.range journal (ends_of (completions master row.tablet))) rows
-  -- and those that are handed over with a floor
-  pub handed_on : All (λ row. IfSome (handed_for_grant row handovers handed) (λ h. ReachAll row.range journal h.ends)) rows
+  -- and those that are handed over with a floor, each of which is known
+  pub handed_on : All (λ row. IfSome (handed_for_grant row handovers handed) (λ h. AreHandedOver base row.range journal h.ends)) rows
   pub sent :
       EachIn (λ number message.
-      All (λ row. IfSome (handed_by row handovers message.body) (λ h. ReachAll row.range journal h.ends)) rows) wire
+      All (λ row. IfSome (handed_by row handovers message.body) (λ h. AreHandedOver base row.range journal h.ends)) rows) wire
   -- each end that a living master keeps is a record's, or one of the start, or one that its rebuild is to make a record of
   pub known :
       (master tablet : ℕ) → live master ≡ true

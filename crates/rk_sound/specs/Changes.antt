@@ -30,7 +30,7 @@ use Rattle.rk_sound.specs.Terms.{SentFits, tenure_in, range_in}
 use Rattle.rk_sound.specs.Cover.{IsWithinRows}
 use Rattle.rk_sound.specs.Logs.{LogSays, IsFirstPart, IsKnownBefore, stored_of}
 use Rattle.rk_sound.specs.Handing.{handed_by}
-use Rattle.rk_sound.specs.Calls.{ReachAll}
+use Rattle.rk_sound.specs.Calls.{AreHandedOver}
 use Rattle.rk_sound.specs.Counters.{IsNext}
 use Rattle.rk_sound.specs.Rest.{IsLastAsked, call_ends, records_of}
 use Rattle.rk_sound.specs.Messages.{SaysOf, Says}
@@ -45,7 +45,7 @@ pub record MaySend (v : View) (message : Message) : Type 0 where
   pub floors :
       All (λ row. IfSome (handed_by row v.handovers message.body) (λ h. IsNext (truths v row ++ rests v row) h.floor)) v.rows
   pub ends :
-      All (λ row. IfSome (handed_by row v.handovers message.body) (λ h. ReachAll row.range v.journal h.ends)) v.rows
+      All (λ row. IfSome (handed_by row v.handovers message.body) (λ h. AreHandedOver v.base row.range v.journal h.ends)) v.rows
   pub within_rows :
       IfSome (tenure_in message.body) (λ tenure. is_some (row_of v.rows tenure.tablet) ≡ true)
       × IfSome (range_in message.body) (IsWithinRows v.rows)

@@ -43,6 +43,7 @@ use Rattle.rk_sound.specs.Cover.{IsWithinRows}
 use Rattle.rk_sound.specs.Posts.{InvitedTarget, post_of, speaks}
 use Rattle.rk_sound.specs.Roles.{RoleFits}
 use Rattle.rk_sound.specs.Handing.{is_wanting}
+use Rattle.rk_sound.specs.Calls.{IsKnown}
 use Rattle.rk_sound.specs.Receives.{is_joining, HasPulled, HasArrived, scan_items, IsOutdone, IsFound, entries_from, copied_items}
 use Rattle.rk_sound.specs.Logs.{stored_of}
 use Rattle.rk_sound.specs.Rebuilds.{AreGathered, IsGatherOf, IsReadPart, READ_BACKUP}
@@ -315,7 +316,8 @@ pub record MayNote (v : View) (row : Row) (source sfrom target place : ℕ) : Ty
   pub phase_is : row.phase ≡ Opening source sfrom target None
   pub waiting : IsWaitingFor v row target place
 
--- a row may move, where its source is frozen and told its counter and its ends, and its target waits at the place that it told
+-- a row may move, where its source is frozen and told its counter and its ends, each of which is known, and its target waits at the
+-- place that it told
 pub record MayMove (v : View) (row : Row) (source sfrom target dfrom : ℕ) (handed : Handed) : Type 0 where
   pub has_row : Contains v.rows row
   pub phase_is : row.phase ≡ Opening source sfrom target (Some dfrom)
@@ -323,6 +325,7 @@ pub record MayMove (v : View) (row : Row) (source sfrom target dfrom : ℕ) (han
   pub term_is : (v.handovers source row.tablet).term ≡ row.term
   pub floor_is : handed.floor ≡ (v.handovers source row.tablet).counter
   pub ends_are : handed.ends ≡ ends_of (v.completions source row.tablet)
+  pub known : All (IsKnown v.base v.journal) handed.ends
   pub waiting : IsWaitingFor v row target dfrom
 
 -- a row that moved may be owned by its target, once that has joined
