@@ -34,7 +34,7 @@ use Rattle.rk_world.specs.Ledger.{LastCall}
 use Rattle.rk_world.specs.Requests.{call_of}
 use Rattle.rk_world.specs.World.{World}
 use Rattle.rk_sound.specs.View.{View, view, truths, rests}
-use Rattle.rk_sound.specs.Handing.{handed_by, handed_for_grant}
+use Rattle.rk_sound.specs.Handing.{handed_by, handed_for_grant, target_truth}
 use Rattle.rk_sound.specs.Truth.{IsAfterSeen}
 use Rattle.rk_sound.specs.Calls.{AreHandedOver, IsKnown, IsReached, IsRecorded, IsStagedEnd, ReachAll, TellAll, is_record_in}
 use Rattle.rk_sound.specs.Counters.{AreAboveMap}
@@ -157,6 +157,9 @@ module _ (v : View) (place : ℕ) (sound : SoundView v) (may : MayAccept v place
     recorded = λ k d within.
         let row : Row = slice_index_or v.rows k d in
         All-weaker (IsKnown v.base v.journal) (IsKnown v.base after) known (told (truths v row)) (sound.calls.recorded k d within);
+    moving = λ k d within.
+        let row : Row = slice_index_or v.rows k d in
+        IfSome_then (target_truth v.written v.handed row row.phase) (sound.calls.moving k d within) (tell_all row.range);
     answering = λ q k d within counts says.
         let row : Row = slice_index_or v.rows k d in
         reach_all row.range (ends_of (v.completions q row.tablet)) (sound.calls.answering q k d within counts says);
@@ -179,6 +182,10 @@ module _ (v : View) (place : ℕ) (sound : SoundView v) (may : MayAccept v place
     low = λ k d within.
         let row : Row = slice_index_or v.rows k d in
         subst (λ (m : Map). AreAboveMap row.range m (truths v row)) (sym leaves) (sound.counters.low k d within);
+    moving = λ k d within.
+        let row : Row = slice_index_or v.rows k d in
+        IfSome_then (target_truth v.written v.handed row row.phase) (sound.counters.moving k d within)
+        (λ list. subst (λ (m : Map). AreAboveMap row.range m list) (sym leaves));
     counted = sound.counters.counted;
     handed_on = sound.counters.handed_on;
     sent = sound.counters.sent;

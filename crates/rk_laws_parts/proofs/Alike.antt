@@ -1,19 +1,25 @@
 -- Handovers that answer alike where the parts ask who answers calls, and who waits for a grant.
-use Rattle.std.proofs.Common.{◌≡◌, ℕ, Bool, cond, ltb, ◌||◌, ◌&&◌, eqb, Option, Some, None, refl, sym, ap}
+use Rattle.std.proofs.Common.{◌≡◌, ℕ, Bool, cond, ltb, ◌||◌, ◌&&◌, eqb, List, ◌∷◌, Option, Some, None, refl, sym, ap}
+use Rattle.std.specs.Option.{option_map}
 use Rattle.rk_types.specs.NumberMap.{NumberMap, get}
 use Rattle.rk_types.specs.declared.lineage.Member.{Member}
+use Rattle.rk_types.specs.declared.range.Range.{Range}
+use Rattle.rk_entry.specs.declared.entry.Entry.{Entry}
 use Rattle.rk_transfer.specs.Handover.{is_serving}
 use Rattle.rk_transfer.specs.declared.handover.Handover.{Handover}
 use Rattle.rk_transfer.specs.declared.role.Role.TheVariants as roles
 use Rattle.rk_tablet_map.specs.Phase.{lineage_of}
+use Rattle.rk_tablet_map.specs.declared.phase.Phase.{Phase}
+use Rattle.rk_tablet_map.specs.declared.phase.Phase.TheVariants.{Owned, Opening, Moving, Rebuilding}
 use Rattle.rk_tablet_map.specs.declared.row.Row.{Row}
 use Rattle.rk_message.specs.declared.message.Body.{Body}
 use Rattle.rk_message.specs.declared.message.Body.TheVariants as bodies
 use Rattle.rk_world.specs.Lineage.{second_of}
 use Rattle.rk_world.specs.RoleTests.{is_rebuilding}
 use Rattle.rk_world.specs.Coordinator.{Handed}
+use Rattle.rk_world.specs.Written.{Written, member_truth}
 use Rattle.rk_sound.specs.Posts.{Post, Owner, OpeningSource, InvitedTarget, ReadyTarget, MovingSource, MovingTarget, OnlyRebuilder, FirstRebuilder, LastRebuilder, OutsideRebuilder, FormerMember, Bystander, speaks}
-use Rattle.rk_sound.specs.Handing.{is_wanting, second_has, is_waiting, is_waiting_at, handed_for_grant, handed_by}
+use Rattle.rk_sound.specs.Handing.{is_wanting, second_has, is_waiting, is_waiting_at, handed_for_grant, handed_by, beginning_in, target_truth}
 use Rattle.rk_sound.specs.Small.{as_frozen, risen}
 use Rattle.rk_laws_parts.proofs.Changing.{KeepsNow}
 use Rattle.rk_laws_parts.proofs.Differs.{keeps_each}
@@ -86,3 +92,12 @@ handed_by_alike row handovers now (bodies.Grant grant) alike =
     ap (λ (b : Bool). cond (eqb grant.tenure.tablet row.tablet && b) (Some (record { floor = grant.floor; ends = grant.ends })) None)
     (waits_at_alike row handovers now grant.tenure.term (second_of (lineage_of row.phase)) alike)
 handed_by_alike row handovers now _ alike = refl
+
+-- what the target of a row that moves has applied, behind what its source told, is the same where as much is applied
+pub target_truth_same : (written now : ℕ → Written) (handed : NumberMap Handed) (row : Row) (phase : Phase) → ((range : Range) (member : Member) → member_truth now range member ≡ member_truth written range member) → target_truth now handed row phase ≡ target_truth written handed row phase
+target_truth_same written now handed row (Owned owner from) same = refl
+target_truth_same written now handed row (Opening source sfrom target dfrom) same = refl
+target_truth_same written now handed row (Moving source sfrom target dfrom) same =
+    ap (λ (truth : List Entry). option_map (λ h. beginning_in row h ∷ truth) (get handed row.tablet))
+    (same row.range (record { master = target; from = dfrom }))
+target_truth_same written now handed row (Rebuilding lineage to) same = refl

@@ -3,24 +3,26 @@ use Rattle.std.proofs.Common.{◌≡◌, ℕ, true, List, [], ◌∷◌, ◌+◌
 use Rattle.std.specs.Prelude.{IfSome}
 use Rattle.std.specs.List.{Contains}
 use Rattle.std.proofs.lemmas.Bool.{cases_eq, cond-false}
-use Rattle.std.proofs.lemmas.List.Elements.{All-contains}
+use Rattle.std.proofs.lemmas.List.Elements.{All-contains, All-weaker}
 use Rattle.rk_types.specs.NumberMap.{get}
 use Rattle.rk_types.specs.declared.call.Call.{Call}
 use Rattle.rk_types.specs.declared.held.Held.{Held}
+use Rattle.rk_model.specs.History.{map_after}
 use Rattle.rk_entry.specs.declared.entry.Entry.{Entry}
 use Rattle.rk_entry.specs.declared.entry.Entry.TheVariants as entries
 use Rattle.rk_transfer.specs.Handover.{is_serving}
 use Rattle.rk_transfer.specs.declared.handover.Handover.{Handover}
 use Rattle.rk_tablet_map.specs.declared.row.Row.{Row}
 use Rattle.rk_message.specs.declared.message.Message.{Message}
+use Rattle.rk_world.specs.Base.{base_map}
 use Rattle.rk_world.specs.Coordinator.{Handed}
 use Rattle.rk_world.specs.Requests.{item_of}
 use Rattle.rk_sound.specs.View.{View, truths, rests}
 use Rattle.rk_sound.specs.Rows.{IsFormed}
 use Rattle.rk_sound.specs.Posts.{post_of, speaks, StillCounts}
 use Rattle.rk_sound.specs.Roles.{RoleFits}
-use Rattle.rk_sound.specs.Handing.{handed_by, handed_for_grant}
-use Rattle.rk_sound.specs.Counters.{IsNext}
+use Rattle.rk_sound.specs.Handing.{handed_by, handed_for_grant, target_truth}
+use Rattle.rk_sound.specs.Counters.{AreAboveMap, IsNext}
 use Rattle.rk_sound.specs.Messages.{SaysOf}
 use Rattle.rk_sound.specs.Whole.{CountersOf, SoundView}
 use Rattle.rk_sound.specs.Changes.{MayStage}
@@ -28,7 +30,7 @@ use Rattle.rk_sound.specs.Small.{staged}
 use Rattle.rk_laws_parts.proofs.Changing.{Lane, Stages}
 use Rattle.rk_laws_parts.proofs.Differs.{still_counts}
 use Rattle.rk_laws_parts.proofs.Lists.{all_in}
-use Rattle.rk_laws_parts.proofs.Alike.{AreAlike, speaks_alike, handed_for_grant_alike, handed_by_alike}
+use Rattle.rk_laws_parts.proofs.Alike.{AreAlike, speaks_alike, handed_for_grant_alike, handed_by_alike, target_truth_same}
 use Rattle.rk_laws_parts.proofs.Speakers.{speaker_of, speaker_is, none_waits, none_hands}
 use Rattle.rk_laws_parts.proofs.Staging.{lane_of, stages}
 use Rattle.rk_laws_parts.proofs.Staged.{Serves, serves_row, staged_alike, staged_speaker}
@@ -147,6 +149,14 @@ module _ (v : View) (master : ℕ) (call : Call) (value : Option (List ℕ)) (so
   pub counters_staged : CountersOf now (truths v) (rests now)
   counters_staged = record {
     low = sound.counters.low;
+    moving =
+        All-weaker
+        (λ r. IfSome (target_truth v.written v.handed r r.phase) (AreAboveMap r.range (map_after (base_map v.base) v.journal)))
+        (λ r. IfSome (target_truth now.written v.handed r r.phase) (AreAboveMap r.range (map_after (base_map v.base) v.journal)))
+        (λ r.
+        subst (λ (o : Option (List Entry)). IfSome o (AreAboveMap r.range (map_after (base_map v.base) v.journal)))
+        (sym (target_truth_same v.written now.written v.handed r r.phase change.truth_same)))
+        v.rows sound.counters.moving;
     counted = λ q.
         all_in (Counts v q) (Counts now q) v.rows
         (λ r stands counts.

@@ -127,6 +127,7 @@ module _ (lane masters backups : ℕ) where
     once = λ i j a b first second same. absurd (cc);
     reached = All-nil _;
     recorded = All-nil _;
+    moving = All-nil _;
     answering = λ master. All-nil _;
     handed_on = All-nil _;
     sent = nothing_kept _;
@@ -142,6 +143,7 @@ module _ (lane masters backups : ℕ) where
   counters_empty : CountersOf new (truths new) (rests new)
   counters_empty = record {
     low = All-nil _;
+    moving = All-nil _;
     counted = λ master. All-nil _;
     handed_on = All-nil _;
     sent = nothing_kept _;

@@ -41,6 +41,7 @@ module _ (v : View) (number : ℕ) (sound : SoundView v) where
     once = sound.calls.once;
     reached = sound.calls.reached;
     recorded = sound.calls.recorded;
+    moving = sound.calls.moving;
     answering = sound.calls.answering;
     handed_on = sound.calls.handed_on;
     sent = fewer _ sound.calls.sent;
@@ -50,6 +51,7 @@ module _ (v : View) (number : ℕ) (sound : SoundView v) where
   counters : CountersOf now (truths v) (rests v)
   counters = record {
     low = sound.counters.low;
+    moving = sound.counters.moving;
     counted = sound.counters.counted;
     handed_on = sound.counters.handed_on;
     sent = fewer _ sound.counters.sent;

@@ -48,7 +48,7 @@ use Rattle.rk_sound.specs.Posts.{Post, InvitedTarget, ReadyTarget, OpeningSource
 use Rattle.rk_sound.specs.Roles.{RoleFits, KeepTerm}
 use Rattle.rk_sound.specs.Truth.{IsTruth}
 use Rattle.rk_sound.specs.Order.{AreAbove}
-use Rattle.rk_sound.specs.Handing.{handed_by, handed_for_grant}
+use Rattle.rk_sound.specs.Handing.{handed_by, handed_for_grant, target_truth}
 use Rattle.rk_sound.specs.Calls.{AreHandedOver, IsKnown, IsStagedEnd, ReachAll, TellAll}
 use Rattle.rk_sound.specs.Counters.{AreAboveMap, IsNext}
 use Rattle.rk_sound.specs.Rest.{FirstIsDone, IsRest, OnlyIsUnnamed, Waits}
@@ -245,6 +245,7 @@ module _ (v : View) (row : Row) (source sfrom target place : ℕ) (sound : Sound
     once = sound.calls.once;
     reached = each (λ r. TellAll r.range v.journal (truths v r)) (λ reached. reached) sound.calls.reached;
     recorded = each (λ r. All (IsKnown v.base v.journal) (told (truths v r))) (λ known. known) sound.calls.recorded;
+    moving = each (λ r. IfSome (target_truth v.written v.handed r r.phase) (TellAll r.range v.journal)) (λ tells. tt) sound.calls.moving;
     answering = λ q.
         each
         (λ r. StillCounts (v.live q) (v.handovers q r.tablet).term r.term
@@ -271,6 +272,9 @@ module _ (v : View) (row : Row) (source sfrom target place : ℕ) (sound : Sound
   counters : CountersOf now (truths v) (rests v)
   counters = record {
     low = each (λ r. AreAboveMap r.range (map_after (base_map v.base) v.journal) (truths v r)) (λ low. low) sound.counters.low;
+    moving =
+        each (λ r. IfSome (target_truth v.written v.handed r r.phase) (AreAboveMap r.range (map_after (base_map v.base) v.journal)))
+        (λ low. tt) sound.counters.moving;
     counted = λ q.
         each
         (λ r. StillCounts (v.live q) (v.handovers q r.tablet).term r.term

@@ -281,6 +281,7 @@ module _ (v : View) (row : Row) (master : ℕ) (new : Handover) (gather : Gather
     once = sound.calls.once;
     reached = sound.calls.reached;
     recorded = sound.calls.recorded;
+    moving = sound.calls.moving;
     answering = λ q k d within.
         by_row
         (λ x q h. StillCounts (v.live q) h.term x.term → speaks (post_of x.phase q) h x.term ≡ true
@@ -307,6 +308,7 @@ module _ (v : View) (row : Row) (master : ℕ) (new : Handover) (gather : Gather
   counters : CountersOf now (truths v) (rests v)
   counters = record {
     low = sound.counters.low;
+    moving = sound.counters.moving;
     counted = λ q k d within.
         by_row
         (λ x q h. StillCounts (v.live q) h.term x.term → speaks (post_of x.phase q) h x.term ≡ true

@@ -58,6 +58,7 @@ module _ (v : View) (number : ℕ) (message : Message) (sound : SoundView v) (ma
     once = sound.calls.once;
     reached = sound.calls.reached;
     recorded = sound.calls.recorded;
+    moving = sound.calls.moving;
     answering = sound.calls.answering;
     handed_on = sound.calls.handed_on;
     sent =
@@ -70,6 +71,7 @@ module _ (v : View) (number : ℕ) (message : Message) (sound : SoundView v) (ma
   counters : CountersOf now (truths v) (rests v)
   counters = record {
     low = sound.counters.low;
+    moving = sound.counters.moving;
     counted = sound.counters.counted;
     handed_on = sound.counters.handed_on;
     sent =

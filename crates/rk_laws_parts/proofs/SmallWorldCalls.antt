@@ -1,6 +1,6 @@
 -- The small world keeps the parts Calls, Rest and Tables: its one call ended once, and nothing is staged.
 use Rattle.std.proofs.Common.{◌≡◌, ℕ, ◌≤◌, Bool, true, false, cond, List, [], ◌∷◌, drop, Some, None, refl, sym, ap, subst, ◌∙◌, ◌⊎◌, inl, inr, arith}
-use Rattle.std.specs.Prelude.{All, Contains, slice_get}
+use Rattle.std.specs.Prelude.{All, Contains, IfSome, slice_get}
 use Rattle.std.specs.List.{list_any}
 use Rattle.std.specs.List.Sorted.{IsStrictlySortedBy}
 use Rattle.std.proofs.lemmas.List.Elements.{All-nil}
@@ -25,6 +25,7 @@ use Rattle.rk_world.specs.Ledger.{asked_by}
 use Rattle.rk_world.specs.Written.{written_by, member_truth}
 use Rattle.rk_world.specs.World.{tablet_in, written_in, calls_in, lives}
 use Rattle.rk_sound.specs.Posts.{Post, post_of, StillCounts}
+use Rattle.rk_sound.specs.Handing.{target_truth}
 use Rattle.rk_sound.specs.Calls.{AreHandedOver, IsKnown, IsReached, IsStagedEnd, ReachAll, TellAll, is_record_in}
 use Rattle.rk_sound.specs.Rest.{IsRest, FirstIsDone, OnlyIsUnnamed, IsLast, Waits, HasCall, EachHasCall, is_call_entry}
 use Rattle.rk_sound.specs.Tables.{HasItems, IsTableOf, has_all_items}
@@ -72,6 +73,7 @@ small_calls = record {
   recorded = all_one (λ row. All (IsKnown no_base small_journal) (told (small_truths row))) small_row
       (subst (λ (truth : List Entry). All (IsKnown no_base small_journal) (told truth)) (sym truth_is)
       (all_one (IsKnown no_base small_journal) small_end known_one));
+  moving = all_one (λ row. IfSome (target_truth small_view.written [] row row.phase) (TellAll row.range small_journal)) small_row tt;
   answering = λ q. each_speaking (λ row m. ReachAll row.range small_journal (ends_of (tablet_at m row.tablet).completions)) reached_one q;
   handed_on = nothing_kept (λ row h. AreHandedOver no_base row.range small_journal h.ends);
   sent = nothing_sent (λ row h. AreHandedOver no_base row.range small_journal h.ends);

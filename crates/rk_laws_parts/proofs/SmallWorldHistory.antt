@@ -1,5 +1,6 @@
 -- The small world keeps the parts Truth, Order and Counters: its log and its journal tell of one put.
 use Rattle.std.proofs.Common.{◌≡◌, ◌≤◌, ◌<◌, Bool, true, false, cond, eqb, ◌&&◌, List, [], ◌∷◌, ◌++◌, Some, None, refl, sym, subst, ◌∙◌, arith}
+use Rattle.std.specs.Prelude.{IfSome}
 use Rattle.std.specs.Str.{bytes_eq}
 use Rattle.rk_types.specs.Hashing.{hash_of}
 use Rattle.rk_model.proofs.Keys.{name-swap}
@@ -17,6 +18,7 @@ use Rattle.rk_world.specs.Master.{tablet_at}
 use Rattle.rk_world.specs.Ledger.{asked_by}
 use Rattle.rk_sound.specs.Truth.{Truth, IsTruth, IsAfterSeen}
 use Rattle.rk_sound.specs.Order.{Order, AreAbove}
+use Rattle.rk_sound.specs.Handing.{target_truth}
 use Rattle.rk_sound.specs.Counters.{IsNext, AreAboveMap}
 use Rattle.rk_sound.specs.Whole.{CountersOf}
 use Rattle.rk_laws_parts.proofs.SmallWorld.{small_ledger, small_entry, small_item, small_key, small_placed, small_range, small_row, small_map, small_journal, small_truths, small_rests, small_value, small_view}
@@ -94,6 +96,10 @@ next_one = subst (λ (truth : List Entry). floor_of (truth ++ []) ≤ 2) (sym tr
 pub small_counters : CountersOf small_view small_truths small_rests
 small_counters = record {
   low = all_one (λ row. AreAboveMap row.range (map_after (base_map no_base) small_journal) (small_truths row)) small_row low_one;
+  moving =
+      all_one
+      (λ row. IfSome (target_truth small_view.written [] row row.phase) (AreAboveMap row.range (map_after (base_map no_base) small_journal)))
+      small_row tt;
   counted = λ q. each_speaking
       (λ row m. IsNext (small_truths row ++ small_rests row) (tablet_at m row.tablet).handover.counter) next_one q;
   handed_on = nothing_kept (λ row h. IsNext (small_truths row ++ small_rests row) h.floor);

@@ -166,9 +166,8 @@ module _ (v : View) (master : ℕ) (call : Call) (value : Option (List ℕ)) (so
 
   calls : CallsOf now (truths v) (rests now)
   calls =
-      calls_alike v.base v.rows (truths v) (rests now) v.handovers now.handovers v.completions v.live v.handed v.journal v.wire
-      (calls_more v.base v.rows (truths v) (rests v) (rests now) v.handovers v.completions v.live v.handed v.journal v.wire sound.calls
-      tells)
+      calls_alike (record v { written = now.written }) (truths v) (rests now) now.handovers
+      (calls_more v (truths v) (rests v) (rests now) now.written sound.calls tells change.truth_same)
       (staged_alike v.rows before after master row call item change)
 
   records : TablesOf now

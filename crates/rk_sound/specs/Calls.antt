@@ -20,8 +20,9 @@ use Rattle.rk_world.specs.Ends.{told, outcome_of}
 use Rattle.rk_world.specs.Material.{of_key}
 use Rattle.rk_world.specs.Base.{Base, ends_told}
 use Rattle.rk_world.specs.Coordinator.{Handed}
+use Rattle.rk_world.specs.Written.{Written}
 use Rattle.rk_sound.specs.Posts.{post_of, speaks, StillCounts}
-use Rattle.rk_sound.specs.Handing.{handed_by, handed_for_grant}
+use Rattle.rk_sound.specs.Handing.{handed_by, handed_for_grant, target_truth}
 
 -- whether a record is of a key in a range
 abbrev pub is_record_in : Range → Placed → Bool
@@ -80,7 +81,7 @@ pub record IsStagedEnd (rows : List Row) (rests : Row → List Entry) (master ta
   pub rebuilt : row.phase ≡ Rebuilding (lineage_of row.phase) master
   pub at_term : term ≡ row.term
 
-pub record Calls (base : Base) (rows : List Row) (truths rests : Row → List Entry) (handovers : ℕ → ℕ → Handover) (completions : ℕ → ℕ → Completions) (live : ℕ → Bool) (handed : NumberMap Handed) (journal : List Placed) (wire : NumberMap Message) : Type 0 where
+pub record Calls (base : Base) (rows : List Row) (truths rests : Row → List Entry) (written : ℕ → Written) (handovers : ℕ → ℕ → Handover) (completions : ℕ → ℕ → Completions) (live : ℕ → Bool) (handed : NumberMap Handed) (journal : List Placed) (wire : NumberMap Message) : Type 0 where
   -- no mutation has two records
   pub once :
       (i j : ℕ) (a b : Placed) → slice_get journal i ≡ Some a → slice_get journal j ≡ Some b
@@ -89,6 +90,8 @@ pub record Calls (base : Base) (rows : List Row) (truths rests : Row → List En
   -- is a record's, or one of the start
   pub reached : All (λ row. TellAll row.range journal (truths row)) rows
   pub recorded : All (λ row. All (IsKnown base journal) (told (truths row))) rows
+  -- what a row that moves has once its source is forgotten tells the end of each mutation there, too
+  pub moving : All (λ row. IfSome (target_truth written handed row row.phase) (TellAll row.range journal)) rows
   -- so do the completions of a master that answers calls, or will
   pub answering :
       (master : ℕ)

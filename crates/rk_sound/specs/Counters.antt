@@ -15,8 +15,9 @@ use Rattle.rk_world.specs.Material.{of_key}
 use Rattle.rk_world.specs.Base.{Base, base_map}
 use Rattle.rk_world.specs.Merge.{floor_of}
 use Rattle.rk_world.specs.Coordinator.{Handed}
+use Rattle.rk_world.specs.Written.{Written}
 use Rattle.rk_sound.specs.Posts.{post_of, speaks, StillCounts}
-use Rattle.rk_sound.specs.Handing.{handed_by, handed_for_grant}
+use Rattle.rk_sound.specs.Handing.{handed_by, handed_for_grant, target_truth}
 
 -- the floor of what entries tell of a key is above the version that a map has of it, for each key in a range
 abbrev pub AreAboveMap : Range → Map → List Entry → Type 0
@@ -27,9 +28,12 @@ AreAboveMap range map entries =
 abbrev pub IsNext : List Entry → ℕ → Type 0
 IsNext material number = floor_of material ≤ number
 
-pub record Counters (base : Base) (rows : List Row) (truths rests : Row → List Entry) (handovers : ℕ → ℕ → Handover) (live : ℕ → Bool) (handed : NumberMap Handed) (journal : List Placed) (wire : NumberMap Message) : Type 0 where
+pub record Counters (base : Base) (rows : List Row) (truths rests : Row → List Entry) (written : ℕ → Written) (handovers : ℕ → ℕ → Handover) (live : ℕ → Bool) (handed : NumberMap Handed) (journal : List Placed) (wire : NumberMap Message) : Type 0 where
   -- what a rebuild takes from the truth of a row is above each version that was given there, key by key
   pub low : All (λ row. AreAboveMap row.range (map_after (base_map base) journal) (truths row)) rows
+  -- so is what a row that moves has once its source is forgotten
+  pub moving :
+      All (λ row. IfSome (target_truth written handed row row.phase) (AreAboveMap row.range (map_after (base_map base) journal))) rows
   -- so is the counter of a master that gives versions, or will, also with what is not applied
   pub counted :
       (master : ℕ)

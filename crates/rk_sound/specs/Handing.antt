@@ -1,18 +1,22 @@
--- Handing: what was told to hand a tablet over, as long as it may still be taken.
-use Rattle.std.specs.Prelude.{ℕ, ◌==◌, ◌&&◌, Bool, true, false, if◌then◌else◌, Option, Some, None}
+-- Handing: what was told to hand a tablet over, as long as it may still be taken, and what it makes of the target of a row that moves.
+use Rattle.std.specs.Prelude.{ℕ, ◌==◌, ◌&&◌, Bool, true, false, if◌then◌else◌, List, ◌∷◌, Option, Some, None}
+use Rattle.std.specs.Option.{option_map}
 use Rattle.rk_types.specs.NumberMap.{NumberMap, get}
 use Rattle.rk_types.specs.declared.lineage.Member.{Member}
+use Rattle.rk_entry.specs.declared.entry.Entry.{Entry}
+use Rattle.rk_entry.specs.declared.entry.Entry.TheVariants as entries
 use Rattle.rk_transfer.specs.declared.handover.Handover.{Handover}
 use Rattle.rk_transfer.specs.declared.role.Role.{Role}
 use Rattle.rk_transfer.specs.declared.role.Role.TheVariants as roles
 use Rattle.rk_tablet_map.specs.Phase.{lineage_of}
 use Rattle.rk_tablet_map.specs.declared.phase.Phase.{Phase}
-use Rattle.rk_tablet_map.specs.declared.phase.Phase.TheVariants.{Opening}
+use Rattle.rk_tablet_map.specs.declared.phase.Phase.TheVariants.{Opening, Moving}
 use Rattle.rk_tablet_map.specs.declared.row.Row.{Row}
 use Rattle.rk_message.specs.declared.message.Body.{Body}
 use Rattle.rk_message.specs.declared.message.Body.TheVariants as bodies
 use Rattle.rk_world.specs.Lineage.{second_of}
 use Rattle.rk_world.specs.Coordinator.{Handed}
+use Rattle.rk_world.specs.Written.{Written, member_truth}
 
 -- whether a row opens
 abbrev pub is_opening : Phase → Bool
@@ -57,3 +61,16 @@ handed_by row handovers (bodies.Grant grant) =
     then Some (record { floor = grant.floor; ends = grant.ends })
     else None
 handed_by row handovers _ = None
+
+-- the entry that begins what the target of a row has, by what the source told
+abbrev pub beginning_in : Row → Handed → Entry
+beginning_in row handed =
+    entries.Carried (record { range = row.range; term = row.term; floor = handed.floor; ends = handed.ends })
+
+-- what the target of a row that moves has applied, behind what its source told; none where nothing is noted
+abbrev pub target_truth : (ℕ → Written) → NumberMap Handed → Row → Phase → Option (List Entry)
+target_truth written handed row (Moving source sfrom target dfrom) =
+    option_map
+    (λ h. beginning_in row h ∷ member_truth written row.range (record { master = target; from = dfrom }))
+    (get handed row.tablet)
+target_truth written handed row _ = None

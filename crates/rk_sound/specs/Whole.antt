@@ -54,10 +54,10 @@ abbrev pub OrderOf : View → (Row → List Entry) → (Row → List Entry) → 
 OrderOf v truths rests = Order v.rows truths rests
 
 abbrev pub CallsOf : View → (Row → List Entry) → (Row → List Entry) → Type 0
-CallsOf v truths rests = Calls v.base v.rows truths rests v.handovers v.completions v.live v.handed v.journal v.wire
+CallsOf v truths rests = Calls v.base v.rows truths rests v.written v.handovers v.completions v.live v.handed v.journal v.wire
 
 abbrev pub CountersOf : View → (Row → List Entry) → (Row → List Entry) → Type 0
-CountersOf v truths rests = Counters v.base v.rows truths rests v.handovers v.live v.handed v.journal v.wire
+CountersOf v truths rests = Counters v.base v.rows truths rests v.written v.handovers v.live v.handed v.journal v.wire
 
 abbrev pub RestOf : View → (Row → List Entry) → (Row → List Entry) → Type 0
 RestOf v truths rests = Rest v.base v.rows truths rests v.written v.handovers v.calls v.live v.journal v.asked
