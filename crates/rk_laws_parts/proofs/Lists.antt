@@ -1,8 +1,8 @@
 -- Properties of each element, by the elements that stand in a list.
-use Rattle.std.proofs.Common.{List, ◌++◌}
+use Rattle.std.proofs.Common.{List}
 use Rattle.std.specs.Prelude.{All}
 use Rattle.std.specs.List.{Contains}
-use Rattle.std.proofs.lemmas.List.Elements.{All-weaker, All-contains, All-contains_itself, Contains-append_left, Contains-append_right}
+use Rattle.std.proofs.lemmas.List.Elements.{All-weaker, All-contains, All-contains_itself}
 
 -- what each element has that stands there
 pub all_by : {X : Type 0} (P : X → Type 0) (xs : List X) → ((x : X) → Contains xs x → P x) → All P xs
@@ -11,11 +11,3 @@ all_by P xs each = All-weaker (Contains xs) P each xs (All-contains_itself xs)
 -- what follows for each element that stands there
 pub all_in : {X : Type 0} (P Q : X → Type 0) (xs : List X) → ((x : X) → Contains xs x → P x → Q x) → All P xs → All Q xs
 all_in P Q xs gives all = all_by Q xs (λ x stands. gives x stands (All-contains P xs x all stands))
-
--- the first ones of all
-pub all_left : {X : Type 0} (P : X → Type 0) (xs ys : List X) → All P (xs ++ ys) → All P xs
-all_left P xs ys all = all_by P xs (λ x stands. All-contains P (xs ++ ys) x all (Contains-append_left xs ys x stands))
-
--- and the last ones
-pub all_right : {X : Type 0} (P : X → Type 0) (xs ys : List X) → All P (xs ++ ys) → All P ys
-all_right P xs ys all = all_by P ys (λ x stands. All-contains P (xs ++ ys) x all (Contains-append_right xs ys x stands))
