@@ -60,8 +60,8 @@ prepare_looks : (row : Row) (old new : Handover) (live : Bool) (master : ℕ) (p
 prepare_looks row old new live master prepare looks fits = record {
   range = fits.range;
   invited = λ is lives below. fits.invited is lives (subst (λ (term : ℕ). term < row.term) looks.term below);
-  members = λ meet lives member.
-      subst (λ (term : ℕ). prepare.tenure.term ≤ term) (sym looks.term) (fits.members meet lives member);
+  members = λ asks lives member.
+      subst (λ (term : ℕ). prepare.tenure.term ≤ term) (sym looks.term) (fits.members asks lives member);
 }
 
 close_looks : (row : Row) (old new : Handover) (live : Bool) (master : ℕ) (tenure : Tenure) → LooksAs old new → CloseFits row old live master tenure → CloseFits row new live master tenure
@@ -80,6 +80,7 @@ rebuild_looks row old new live master rebuild looks fits = record {
 own_looks : (row : Row) (old new : Handover) (live : Bool) (master : ℕ) (tenure : Tenure) → LooksAs old new → OwnFits row old live master tenure → OwnFits row new live master tenure
 own_looks row old new live master tenure looks fits = record {
   owned = fits.owned;
+  reached = λ same lives. subst (λ (term : ℕ). tenure.term ≤ term) (sym looks.term) (fits.reached same lives);
   owner = λ same lives at.
       subst (λ (term : ℕ). IsOwner (post_of row.phase master) term row.term) (sym looks.term)
       (fits.owner same lives (sym looks.term ∙ at));

@@ -425,6 +425,7 @@ module _ (v : View) (row : Row) (source sfrom target place : ℕ) (sound : Sound
   own : (q : ℕ) (tenure : Tenure) → OwnFits old (v.handovers q row.tablet) (v.live q) q tenure → OwnFits new (v.handovers q row.tablet) (v.live q) q tenure
   own q tenure fits = record {
     owned = λ is. fits.owned (was_of tenure is);
+    reached = fits.reached;
     owner = λ same lives at_term.
         posts
         (λ was is. IsOwner was (v.handovers q row.tablet).term row.term → IsOwner is (v.handovers q row.tablet).term row.term) q

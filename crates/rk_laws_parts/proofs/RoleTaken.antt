@@ -479,7 +479,7 @@ module _ (v : View) (row : Row) (master : ℕ) (new : Handover) (gather : Gather
   prepare_on live prepare fits = record {
     range = fits.range;
     invited = λ is lives below. fits.invited is lives (omega (arith, below, may.grows));
-    members = λ met lives member. omega (arith, fits.members met lives member, may.grows);
+    members = λ asks lives member. omega (arith, fits.members asks lives member, may.grows);
   }
 
   close_on : (live : Bool) (tenure : Tenure) → CloseFits row old live master tenure → CloseFits row new live master tenure
@@ -498,6 +498,7 @@ module _ (v : View) (row : Row) (master : ℕ) (new : Handover) (gather : Gather
   own_on : (live : Bool) (tenure : Tenure) → OwnFits row old live master tenure → OwnFits row new live master tenure
   own_on live tenure fits = record {
     owned = fits.owned;
+    reached = λ same lives. omega (arith, fits.reached same lives, may.grows);
     owner = λ same lives at.
         ⊎_elim
         (λ (term : new.term ≡ old.term).

@@ -69,13 +69,16 @@ ByMaster node Fits = ⊥
 -- ---- orders of the coordinator: one of the row's term that its receiver would follow is what the row asks for now; of a smaller
 -- term it would follow only what does no harm
 
--- a Prepare, beside each row: its members keep as great a term, where their range is asked for
+-- a Prepare asks for a row: it is of its tablet, or its range meets the row's
+abbrev pub AsksFor : Prepare → Row → Type 0
+AsksFor prepare row = (prepare.tenure.tablet ≡ row.tablet) ⊎ (meets row.range prepare.range ≡ true)
+
+-- a Prepare, beside each row: its members keep as great a term, where the row is asked for
 pub record PrepareFits (row : Row) (handover : Handover) (live : Bool) (master : ℕ) (prepare : Prepare) : Type 0 where
   pub range : IsOf row prepare.tenure → prepare.range ≡ row.range
   pub invited : IsOf row prepare.tenure → live ≡ true → handover.term < row.term → post_of row.phase master ≡ InvitedTarget
   pub members :
-      meets row.range prepare.range ≡ true → live ≡ true → is_member (lineage_of row.phase) master ≡ true
-      → prepare.tenure.term ≤ handover.term
+      AsksFor prepare row → live ≡ true → is_member (lineage_of row.phase) master ≡ true → prepare.tenure.term ≤ handover.term
 
 -- a source is asked to close
 abbrev pub IsClosing : Phase → ℕ → Type 0
@@ -139,9 +142,10 @@ IsOwner OpeningSource own term = ⊤
 IsOwner (OnlyRebuilder place) own term = own < term
 IsOwner _ own term = ⊥
 
--- an Own; the master that keeps its term owns the tablet, or did
+-- an Own; a living receiver keeps as great a term, and one that keeps its term owns the tablet, or did
 pub record OwnFits (row : Row) (handover : Handover) (live : Bool) (master : ℕ) (tenure : Tenure) : Type 0 where
   pub owned : IsOf row tenure → IsOwnedBy row.phase master
+  pub reached : tenure.tablet ≡ row.tablet → live ≡ true → tenure.term ≤ handover.term
   pub owner :
       tenure.tablet ≡ row.tablet → live ≡ true → handover.term ≡ tenure.term
       → IsOwner (post_of row.phase master) handover.term row.term
@@ -216,7 +220,7 @@ pub record IsOfTarget (row : Row) (handover : Handover) (tenure : Tenure) : Type
   pub tablet : tenure.tablet ≡ row.tablet
   pub term : tenure.term ≡ handover.term
 
--- a Grant is for the second of two members, from the first, with what that told
+-- a Grant that its receiver would take is for the second of two members, from the first, with what that told
 abbrev pub GrantIn : List Member → Option Handed → ℕ → Grant → Type 0
 GrantIn (source ∷ target ∷ []) handed master grant =
     (target.master ≡ master) × (grant.source ≡ source.master)

@@ -39,6 +39,7 @@ use Rattle.rk_world.specs.Coordinator.{Handed}
 use Rattle.rk_world.specs.Written.{Written, applied_entries, member_truth}
 use Rattle.rk_world.specs.Premises.{IsMaster}
 use Rattle.rk_sound.specs.View.{View}
+use Rattle.rk_sound.specs.Terms.{IsBelowOthers}
 use Rattle.rk_sound.specs.Cover.{IsWithinRows}
 use Rattle.rk_sound.specs.Posts.{InvitedTarget, post_of, speaks}
 use Rattle.rk_sound.specs.Roles.{RoleFits}
@@ -47,7 +48,7 @@ use Rattle.rk_sound.specs.Calls.{IsKnown}
 use Rattle.rk_sound.specs.Receives.{is_joining, HasPulled, HasArrived, scan_items, IsOutdone, IsFound, entries_from, copied_items}
 use Rattle.rk_sound.specs.Logs.{stored_of}
 use Rattle.rk_sound.specs.Rebuilds.{AreGathered, IsGatherOf, IsReadPart, READ_BACKUP}
-use Rattle.rk_sound.specs.Messages.{HasJoined, HasRebuilt, MayFollowClose, IsOwner}
+use Rattle.rk_sound.specs.Messages.{AsksFor, HasJoined, HasRebuilt, MayFollowClose, IsOwner}
 use Rattle.rk_sound.specs.Changes.{HasSegmentLeft}
 
 -- nothing of a range that is not applied stands in a log
@@ -62,8 +63,8 @@ IsAboveKept v master range term =
     (number : ℕ) → meets (v.handovers master number).range range ≡ true → (v.handovers master number).term < term
 
 -- a living master may make ready for a tablet at a term above each that it keeps of it, or of a range that meets it, and at most the
--- row's; at the row's own term only where the row asks it to. The range lies in rows, and the master is in the lineage of no row that
--- meets it
+-- row's; at the row's own term only where the row asks it to. The range lies in rows, the term is below that of each other row that
+-- the range meets, and the master is in the lineage of no row that is asked for
 pub record MayPrepare (v : View) (row : Row) (master : ℕ) (prepare : Prepare) : Type 0 where
   pub lives : v.live master ≡ true
   pub has_row : Contains v.rows row
@@ -73,8 +74,8 @@ pub record MayPrepare (v : View) (row : Row) (master : ℕ) (prepare : Prepare) 
   pub within : prepare.tenure.term ≤ row.term
   pub invited : prepare.tenure.term ≡ row.term → (post_of row.phase master ≡ InvitedTarget) × (prepare.range ≡ row.range)
   pub covered : IsWithinRows v.rows prepare.range
-  pub outside :
-      All (λ other. meets other.range prepare.range ≡ true → is_member (lineage_of other.phase) master ≡ true → ⊥) v.rows
+  pub below : All (λ other. IsBelowOthers other row.tablet prepare.tenure.term prepare.range) v.rows
+  pub outside : All (λ other. AsksFor prepare other → is_member (lineage_of other.phase) master ≡ true → ⊥) v.rows
 
 -- a living source may close at a greater term, in a role from which that is a move, where the row asks it to, or where it is now to
 -- rebuild the tablet, which was its alone, at a term that is greater still
