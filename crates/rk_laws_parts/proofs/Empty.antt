@@ -92,6 +92,7 @@ module _ (lane masters backups : ℕ) where
   terms_empty : TermsOf new
   terms_empty = record {
     kept = λ master tablet. All-nil _;
+    begun = λ master tablet there. absurd (not_absent _ (nothing_of master tablet) there);
     apart = λ master a b apart first second. absurd (not_absent _ (nothing_of master a) first);
     sent = nothing_kept _;
   }

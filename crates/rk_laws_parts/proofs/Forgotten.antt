@@ -18,7 +18,12 @@ module _ (v : View) (number : ℕ) (sound : SoundView v) where
   fewer P old n m found = old n m (remove_less v.wire number n m found)
 
   terms : TermsOf now
-  terms = record { kept = sound.terms.kept; apart = sound.terms.apart; sent = fewer _ sound.terms.sent }
+  terms = record {
+    kept = sound.terms.kept;
+    begun = sound.terms.begun;
+    apart = sound.terms.apart;
+    sent = fewer _ sound.terms.sent;
+  }
 
   cover : CoverOf now
   cover = record {

@@ -131,6 +131,7 @@ module _ (v : View) (row : Row) (source sfrom target place : ℕ) (sound : Sound
     kept = λ q r.
         each (λ other. HandoverFits other r (v.handovers q r))
         (λ fits. record { within = fits.within; below = fits.below; exact = fits.exact }) (sound.terms.kept q r);
+    begun = sound.terms.begun;
     apart = sound.terms.apart;
     sent = λ n m there.
         each (λ other. SentFits other m.body) (λ fits. record { within = fits.within; below = fits.below }) (sound.terms.sent n m there);

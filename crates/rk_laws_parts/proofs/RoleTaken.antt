@@ -175,6 +175,9 @@ module _ (v : View) (row : Row) (master : ℕ) (new : Handover) (gather : Gather
     kept = λ q r k d within.
         let x : Row = slice_index_or v.rows k d in
         by (λ q r h. HandoverFits x r h) q r (handover_fits x (Contains-get_or v.rows k d within)) (sound.terms.kept q r k d within);
+    begun = λ q r.
+        by (λ q r h. is_absent h.role ≡ false → 1 ≤ h.term) q r (λ was there. omega (arith, was (may.present there), may.grows))
+        (sound.terms.begun q r);
     apart = λ q a b other a_there b_there.
         (λ i. meets (range_same q a i) (range_same q b i)) ∙ sound.terms.apart q a b other (present q a a_there) (present q b b_there);
     sent = sound.terms.sent;

@@ -26,6 +26,7 @@ module _ (v : View) (number : ℕ) (message : Message) (sound : SoundView v) (ma
   terms : TermsOf now
   terms = record {
     kept = sound.terms.kept;
+    begun = sound.terms.begun;
     apart = sound.terms.apart;
     sent = each_insert (λ n m. All (λ row. SentFits row m.body) v.rows) v.wire number message sound.terms.sent may.terms;
   }

@@ -93,6 +93,8 @@ small_terms = record {
   kept = each_tablet (λ q r tablet. All (λ row. HandoverFits row r tablet.handover) small_map)
       (all_one (λ row. HandoverFits row 1 small_tablet.handover) small_row handover_here)
       (λ q r apart. all_one (λ row. HandoverFits row r no_tablet.handover) small_row (handover_nowhere r));
+  begun = each_tablet (λ q r tablet. is_absent tablet.handover.role ≡ false → 1 ≤ tablet.handover.term)
+      (λ there. omega arith) (λ q r apart there. absurd (cc));
   apart = λ q a b apart first second. absurd (apart ((present_one q a first).1 ∙ sym (present_one q b second).1));
   sent = each_sent (λ row message. SentFits row message.body)
       (no_tenure small_request.body refl) (no_tenure small_append.body refl)

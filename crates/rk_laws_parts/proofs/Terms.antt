@@ -29,6 +29,9 @@ terms_looks rows handovers handovers' wire old looks = record {
       (λ row. HandoverFits row number (handovers' master number))
       (λ row. handover_looks row number (handovers master number) (handovers' master number) (looks master number)) rows
       (old.kept master number);
+  begun = λ master number there.
+      subst (λ (term : ℕ). 1 ≤ term) (sym (looks master number).term)
+      (old.begun master number (sym (looks master number).role.absent ∙ there));
   apart = λ master a b other a_there b_there.
       (λ i. meets ((looks master a).range i) ((looks master b).range i))
       ∙ old.apart master a b other (sym (looks master a).role.absent ∙ a_there) (sym (looks master b).role.absent ∙ b_there);

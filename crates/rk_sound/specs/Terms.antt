@@ -61,6 +61,9 @@ pub record SentFits (row : Row) (body : Body) : Type 0 where
 
 pub record Terms (rows : List Row) (handovers : ℕ → ℕ → Handover) (wire : NumberMap Message) : Type 0 where
   pub kept : (master tablet : ℕ) → All (λ row. HandoverFits row tablet (handovers master tablet)) rows
+  -- a tablet that is not absent has a term of at least 1
+  pub begun :
+      (master tablet : ℕ) → is_absent (handovers master tablet).role ≡ false → 1 ≤ (handovers master tablet).term
   -- two tablets of one master that are not absent do not meet
   pub apart :
       (master a b : ℕ) → a ≢ b
