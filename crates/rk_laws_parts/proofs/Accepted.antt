@@ -204,7 +204,11 @@ module _ (v : View) (place : ℕ) (sound : SoundView v) (may : MayAccept v place
   }
 
   still_staged : (entry : Entry) → IsStaged v.base v.asked v.journal entry → IsStaged v.base v.asked after entry
-  still_staged (entries.Held held) = still_last held.client held.seq held.table held.key
+  unfolding still_last
+  still_staged (entries.Held held) = λ staged. record {
+    last = still_last held.client held.seq held.table held.key staged.last;
+    leaves = staged.leaves;
+  }
   still_staged (entries.Refused refused) = still_last refused.client refused.seq refused.table refused.key
   still_staged (entries.Carried carried) = All-weaker (IsKnown v.base v.journal) (IsKnown v.base after) known carried.ends
   still_staged (entries.Joined joined) = λ staged. staged

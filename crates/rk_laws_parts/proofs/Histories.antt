@@ -121,7 +121,12 @@ is_rest_staged base range truth rest journal asked call counter value old may le
           subst (λ (list : List Held). AgreeIn range (live_items list) (live_after (base_map base) (journal ++ records_of asked (call_ends (rest ++ entries.Held item ∷ []))))) items
           (subst (λ (more : List Placed). AgreeIn range (live_items (items_of (truth ++ rest) ++ item ∷ [])) (live_after (base_map base) (journal ++ more))) (sym records)
           (agree_staged base range (truth ++ rest) journal (records_of asked (call_ends rest)) call counter value old.live leaves low));
-      staged = All-push (IsStaged base asked journal) rest (entries.Held item) old.staged may.last;
+      staged = All-push (IsStaged base asked journal) rest (entries.Held item) old.staged (record {
+        last = may.last;
+        leaves =
+            subst (λ (c : Call). change_of c.op (outcome_of (end_of_item counter value)) ≡ Some (map_entry_of item value))
+            (sym may.same_call) leaves;
+      });
       one =
           subst (λ (list : List Ended). AllPairs (λ a b. a.client ≢ b.client) list) (sym ends)
           (all_pairs_push (λ a b. a.client ≢ b.client) (call_ends rest) end old.one may.unstaged);

@@ -309,6 +309,7 @@ module _ (v : View) (row : Row) (source sfrom target place : ℕ) (sound : Sound
         last = wait.last;
         is_last = subst (λ (r : Row). last_of (lineage_of r.phase) ≡ Some wait.last) is wait.is_last;
         here = wait.here;
+        from = wait.from;
         may_stage = subst (λ (r : Row). may_have_staged (v.handovers q r.tablet).role ≡ true) is wait.may_stage;
       })
       (λ (stands : Contains now.rows wait.row). record {
@@ -323,6 +324,7 @@ module _ (v : View) (row : Row) (source sfrom target place : ℕ) (sound : Sound
         last = wait.last;
         is_last = wait.is_last;
         here = wait.here;
+        from = wait.from;
         may_stage = wait.may_stage;
       })
       (stands_still v.rows row.tablet old new wait.row found wait.has_row)

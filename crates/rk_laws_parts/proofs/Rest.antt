@@ -1,13 +1,12 @@
 -- Laws of the part Rest: what a staged write keeps of it.
 use Rattle.std.proofs.Common.{◌≡◌, ℕ, ◌≤◌, Bool, true, false, List, ◌++◌, length, Option, refl, sym, ap, ◌∙◌, subst, ⊎_elim}
-use Rattle.std.specs.Prelude.{slice_index_or, Option, Bool}
+use Rattle.std.specs.Prelude.{slice_index_or, max, Option, Bool}
 use Rattle.std.proofs.lemmas.List.Elements.{All-contains, Contains-get_or}
 use Rattle.rk_types.specs.NumberMap.{NumberMap}
 use Rattle.rk_types.specs.declared.call.Call.{Call}
 use Rattle.rk_types.specs.declared.held.Held.{Held}
 use Rattle.rk_types.specs.declared.history.Placed.{Placed}
 use Rattle.rk_types.specs.declared.range.Range.{Range}
-use Rattle.rk_outside.specs.Segments.{Segments}
 use Rattle.rk_entry.specs.declared.entry.Entry.{Entry}
 use Rattle.rk_entry.specs.declared.entry.Entry.TheVariants as entries
 use Rattle.rk_transfer.specs.declared.handover.Handover.{Handover}
@@ -23,7 +22,6 @@ use Rattle.rk_world.specs.Requests.{item_of}
 use Rattle.rk_world.specs.Coordinator.{Handed}
 use Rattle.rk_world.specs.Ledger.{LastCall}
 use Rattle.rk_sound.specs.View.{View, truths, rests}
-use Rattle.rk_sound.specs.Logs.{stored_of}
 use Rattle.rk_sound.specs.Rest.{IsRest, IsEntryOf, IsLast, IsLastAsked}
 use Rattle.rk_sound.specs.Whole.{RestOf, RowsOf, LogsOf, CountersOf, SoundView}
 use Rattle.rk_sound.specs.Changes.{IsServedIn, MayStage}
@@ -33,9 +31,8 @@ use Rattle.rk_laws_parts.proofs.Differs.{still_counts}
 use Rattle.rk_laws_parts.proofs.Shares.{marked_none}
 use Rattle.rk_laws_parts.proofs.Staged.{counter_low, row_cases, counted_same}
 use Rattle.rk_laws_parts.proofs.Histories.{is_rest_staged}
-use Rattle.rk_laws_parts.proofs.Applied.{applied_within}
 use Rattle.rk_laws_parts.proofs.Waiting.{done_staged, idle_staged, waiting_staged, found_staged, unnamed_staged, asked_staged}
-use Rattle.rk_laws_parts.proofs.Staging.{lane_of, stages}
+use Rattle.rk_laws_parts.proofs.Staging.{lane_of, last_placed, stages}
 
 -- an entry of a call is of each range that has the call's key
 pub own_touches : (range : Range) (call : Call) (entry : Entry) → IsEntryOf call entry → has_key range call.table call.key ≡ true → touches range entry ≡ true
@@ -59,7 +56,6 @@ rest_staged v master call value sound may =
     let base : Base = v.base in
     let rows : List Row = v.rows in
     let sure : Row → List Entry = truths v in
-    let stored : ℕ → Segments = v.stored in
     let live : ℕ → Bool = v.live in
     let handed : NumberMap Handed = v.handed in
     let journal : List Placed = v.journal in
@@ -84,8 +80,8 @@ rest_staged v master call value sound may =
     (is_rest_staged base row.range (sure row) (before.rests row) journal asked call counter value
     (All-contains (λ r. IsRest base r.range (sure r) (before.rests r) journal asked) rows row old.goes_on served.has_row)
     ends leaves low) in
-    let fits : (before.written master).applied ≤ length (before.written master).entries =
-    applied_within (before.logs master) (before.written master) (stored_of stored master) (held.each master) in
+    let fits : max served.last.from (before.written master).applied ≤ length (before.written master).entries =
+    last_placed v master call value sound may in
     let unmarked : is_marked (before.written master).marks (length (before.written master).entries) ≡ false =
     let log = held.each master in marked_none (before.written master).marks (length (before.written master).entries) log.marked in
     record {

@@ -353,6 +353,7 @@ module _ (v : View) (row : Row) (master : ℕ) (new : Handover) (gather : Gather
           last = wait.last;
           is_last = wait.is_last;
           here = wait.here;
+          from = wait.from;
           may_stage =
               by_row
               (λ x q h. list_any (touches x.range) (drop (v.written q).applied (v.written q).entries) ≡ true

@@ -132,8 +132,8 @@ module _ (v : View) (master : ℕ) (call : Call) (value : Option (List ℕ)) (so
   written_differ = record { here = put_here v.written master _ master refl; others = put_other v.written master _ }
 
   -- its member's place is one of its log
-  placed : max may.served.last.from (v.written master).applied ≤ length (v.written master).entries
-  placed =
+  pub last_placed : max may.served.last.from (v.written master).applied ≤ length (v.written master).entries
+  last_placed =
       let served = may.served in
       let at =
       All-contains (IsPlaced v.written) (lineage_of served.row.phase) served.last
@@ -168,7 +168,7 @@ module _ (v : View) (master : ℕ) (call : Call) (value : Option (List ℕ)) (so
         };
         rest_here =
             lineage_rest_grown _ _ master item written_differ served.row.range (lineage_of served.row.phase) served.last served.is_last
-            served.here served.in_row log.marked placed;
+            served.here served.in_row log.marked last_placed;
         rest_others = λ other stands apart.
             lineage_rest_staged _ _ master item written_differ other.range (lineage_of other.phase) (outside other stands apart);
         truth_same = truth_staged _ _ master item written_differ within;

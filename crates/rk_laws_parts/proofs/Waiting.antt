@@ -63,6 +63,7 @@ waits_on rows handovers handovers' written written' master place call grown same
   last = old.last;
   is_last = old.is_last;
   here = old.here;
+  from = old.from;
   may_stage = same old.row.tablet ∙ old.may_stage;
 }
 
@@ -154,9 +155,9 @@ module _ (rows : List Row) (before after : Lane) (master : ℕ) (row : Row) (cal
       (written_cases rows before after master row call item stages q)
 
   -- the call that was staged waits
-  waits_new : IsEntryOf call (entries.Held item) → has_key row.range call.table call.key ≡ true → (before.written master).applied ≤ length (before.written master).entries → is_marked (before.written master).marks (length (before.written master).entries) ≡ false → Waits rows (after.handovers master) (with_one_more (before.written master) (entries.Held item)) master (length (before.written master).entries) call
+  waits_new : IsEntryOf call (entries.Held item) → has_key row.range call.table call.key ≡ true → max last.from (before.written master).applied ≤ length (before.written master).entries → is_marked (before.written master).marks (length (before.written master).entries) ≡ false → Waits rows (after.handovers master) (with_one_more (before.written master) (entries.Held item)) master (length (before.written master).entries) call
   waits_new own inside fits unmarked = record {
-    behind = fits;
+    behind = let within : (before.written master).applied ≤ length (before.written master).entries = omega (arith, fits) in within;
     entry = entries.Held item;
     stands = slice_get_end (before.written master).entries (entries.Held item);
     own = own;
@@ -167,13 +168,14 @@ module _ (rows : List Row) (before after : Lane) (master : ℕ) (row : Row) (cal
     last = last;
     is_last = is_last;
     here = here;
+    from = omega (arith, fits);
     may_stage =
         counted_same rows before after master row call item stages (λ (handover : Handover). may_have_staged handover.role) (λ tablet. refl) master row.tablet
         ∙ serving_stages (before.handovers master row.tablet).role serves;
   }
 
   -- the calls that wait at a master
-  pub waiting_staged : IsEntryOf call (entries.Held item) → has_key row.range call.table call.key ≡ true → (before.written master).applied ≤ length (before.written master).entries → is_marked (before.written master).marks (length (before.written master).entries) ≡ false → (q : ℕ) → EachIn (λ place c. Waits rows (before.handovers q) (before.written q) q place c) (before.calls q) → EachIn (λ place c. Waits rows (after.handovers q) (after.written q) q place c) (after.calls q)
+  pub waiting_staged : IsEntryOf call (entries.Held item) → has_key row.range call.table call.key ≡ true → max last.from (before.written master).applied ≤ length (before.written master).entries → is_marked (before.written master).marks (length (before.written master).entries) ≡ false → (q : ℕ) → EachIn (λ place c. Waits rows (before.handovers q) (before.written q) q place c) (before.calls q) → EachIn (λ place c. Waits rows (after.handovers q) (after.written q) q place c) (after.calls q)
   waiting_staged own inside fits unmarked q old =
       let on : (place : ℕ) (c : Call) → Waits rows (before.handovers q) (before.written q) q place c → Waits rows (after.handovers q) (after.written q) q place c = λ place c.
       waits_on rows (before.handovers q) (after.handovers q) (before.written q) (after.written q) q place c

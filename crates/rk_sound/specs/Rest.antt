@@ -5,10 +5,12 @@ use Rattle.std.specs.List.{AllPairs, Contains, flat_map, list_any}
 use Rattle.rk_types.specs.NumberMap.{NumberMap, EachIn, get}
 use Rattle.rk_types.specs.declared.call.Call.{Call}
 use Rattle.rk_types.specs.declared.call.Ended.{Ended}
+use Rattle.rk_types.specs.declared.held.Held.{Held}
 use Rattle.rk_types.specs.declared.history.Placed.{Placed}
 use Rattle.rk_types.specs.declared.lineage.Member.{Member}
 use Rattle.rk_types.specs.declared.range.Range.{Range}
 use Rattle.rk_model.specs.History.{IsLegal, live_after}
+use Rattle.rk_model.specs.Machine.{change_of}
 use Rattle.rk_model.specs.Merged.{is_mutation}
 use Rattle.rk_entry.specs.declared.entry.Entry.{Entry}
 use Rattle.rk_entry.specs.declared.entry.Entry.TheVariants as entries
@@ -17,11 +19,11 @@ use Rattle.rk_tablet_map.specs.Phase.{lineage_of}
 use Rattle.rk_tablet_map.specs.declared.row.Row.{Row}
 use Rattle.rk_overlay.specs.Live.{live as live_items}
 use Rattle.rk_world.specs.Ranges.{has_key, AgreeIn}
-use Rattle.rk_world.specs.Ends.{item_end, refusal_end, items_of, outcome_of}
+use Rattle.rk_world.specs.Ends.{end_of_item, item_end, refusal_end, items_of, outcome_of}
 use Rattle.rk_world.specs.Marks.{is_marked}
 use Rattle.rk_world.specs.Material.{joined_from}
 use Rattle.rk_world.specs.Lineage.{last_of}
-use Rattle.rk_world.specs.Base.{Base, base_map}
+use Rattle.rk_world.specs.Base.{Base, base_map, map_entry_of}
 use Rattle.rk_world.specs.RoleTests.{is_idle, may_have_staged}
 use Rattle.rk_world.specs.Master.{touches}
 use Rattle.rk_world.specs.Journal.{has_record}
@@ -61,9 +63,15 @@ pub record IsLastAsked (asked : ℕ → Option LastCall) (journal : List Placed)
   pub mutation : is_mutation last.call.op ≡ true
   pub unrecorded : has_record journal client seq ≡ false
 
+-- the call that left an item that is not applied is the last of its client, and the item is what it leaves
+pub record IsStagedItem (asked : ℕ → Option LastCall) (journal : List Placed) (held : Held) : Type 0 where
+  pub last : IsLastAsked asked journal held.client held.seq held.table held.key
+  pub leaves :
+      change_of last.last.call.op (outcome_of (end_of_item held.version held.value)) ≡ Some (map_entry_of held held.value)
+
 -- what an entry that is not applied is: that of the last call of its client, a Carried whose ends are known, or any Joined
 abbrev pub IsStaged : Base → (ℕ → Option LastCall) → List Placed → Entry → Type 0
-IsStaged base asked journal (entries.Held held) = IsLastAsked asked journal held.client held.seq held.table held.key
+IsStaged base asked journal (entries.Held held) = IsStagedItem asked journal held
 IsStaged base asked journal (entries.Refused refused) =
     IsLastAsked asked journal refused.client refused.seq refused.table refused.key
 IsStaged base asked journal (entries.Carried carried) = All (IsKnown base journal) carried.ends
@@ -121,7 +129,7 @@ is_call_entry (entries.Refused refused) = true
 is_call_entry _ = false
 
 -- a call that waits for the entry at a place: the entry is its own and not applied, a tablet has it that may stage, and
--- the row of its key ends its lineage with this master
+-- the row of its key ends its lineage with this master, at or before the place
 pub record Waits (rows : List Row) (handovers : ℕ → Handover) (written : Written) (master place : ℕ) (call : Call) : Type 0 where
   pub behind : written.applied ≤ place
   pub entry : Entry
@@ -134,6 +142,7 @@ pub record Waits (rows : List Row) (handovers : ℕ → Handover) (written : Wri
   pub last : Member
   pub is_last : last_of (lineage_of row.phase) ≡ Some last
   pub here : last.master ≡ master
+  pub from : last.from ≤ place
   pub may_stage : may_have_staged (handovers row.tablet).role ≡ true
 
 -- the entry at a place has its call
