@@ -14,11 +14,14 @@ use Rattle.rk_message.specs.declared.message.Message.{Message}
 use Rattle.rk_world.specs.Requests.{call_of}
 use Rattle.rk_world.specs.Client.{call_lane}
 use Rattle.rk_world.specs.Ledger.{LastCall}
+use Rattle.rk_world.specs.Base.{Base}
+use Rattle.rk_world.specs.Premises.{IsAfterStart}
 
--- a client's last call, in a lane: it is the client's own, and its key lies there
-pub record IsLastCall (lane client : ℕ) (last : LastCall) : Type 0 where
+-- a client's last call, in a lane: it is the client's own, its key lies there, and it comes after all that the start tells of the client
+pub record IsLastCall (base : Base) (lane client : ℕ) (last : LastCall) : Type 0 where
   pub own : last.call.client ≡ client
   pub here : call_lane last.call ≡ lane
+  pub after : IsAfterStart base last.call
 
 -- the journal has an accepted record of this very call
 pub record IsAccepted (journal : List Placed) (call : Call) : Type 0 where
@@ -60,8 +63,8 @@ pub record AreOneAccepted (a b : Placed) : Type 0 where
   pub client : a.call.client ≡ b.call.client
   pub seq : a.call.seq ≡ b.call.seq
 
-pub record Asked (lane : ℕ) (asked : ℕ → Option LastCall) (requests : NumberMap Message) (journal : List Placed) (wire : NumberMap Message) : Type 0 where
-  pub last : (client : ℕ) → IfSome (asked client) (IsLastCall lane client)
+pub record Asked (base : Base) (lane : ℕ) (asked : ℕ → Option LastCall) (requests : NumberMap Message) (journal : List Placed) (wire : NumberMap Message) : Type 0 where
+  pub last : (client : ℕ) → IfSome (asked client) (IsLastCall base lane client)
   pub own_keys : HasOwnKeys lane journal
   -- each record is of a call that was asked
   pub recorded : All (λ placed. WasAsked (asked placed.call.client) journal placed.call) journal

@@ -25,6 +25,7 @@ use Rattle.rk_world.specs.Base.{Base, base_map, map_entry_of}
 use Rattle.rk_world.specs.Requests.{item_of}
 use Rattle.rk_world.specs.Client.{call_lane}
 use Rattle.rk_world.specs.Ledger.{LastCall}
+use Rattle.rk_world.specs.Premises.{IsAfterStart}
 use Rattle.rk_sound.specs.View.{View, truths, rests}
 use Rattle.rk_sound.specs.Terms.{SentFits, tenure_in, range_in}
 use Rattle.rk_sound.specs.Cover.{IsWithinRows}
@@ -65,10 +66,12 @@ pub record MayCome (v : View) (client : ℕ) : Type 0 where
 pub record MaySave (v : View) (client : ℕ) (message : Message) : Type 0 where
   pub request : IsRequest v.asked v.journal client message.from message.body
 
--- a client may ask a call where its last one, if any, is older and accepted, and the key lies in this lane
+-- a client may ask a call where its last one, if any, is older and accepted, the key lies in this lane, and the call comes after all
+-- that the start tells of the client
 pub record MayAsk (v : View) (client : ℕ) (last : LastCall) : Type 0 where
   pub own : last.call.client ≡ client
   pub here : call_lane last.call ≡ v.lane
+  pub after : IsAfterStart v.base last.call
   pub accepted : IfSome (v.asked client) (λ old. (old.call.seq < last.call.seq) × IsAccepted v.journal old.call)
 
 -- a record may be accepted where it is that of its client's last call, if the client is there, and that has no accepted one

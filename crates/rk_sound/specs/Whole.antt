@@ -75,7 +75,7 @@ abbrev pub MessagesOf : View → Type 0
 MessagesOf v = Messages v.rows v.logs v.written v.stored v.handovers v.completions v.merged v.live v.handed v.journal v.wire
 
 abbrev pub AskedOf : View → Type 0
-AskedOf v = Asked v.lane v.asked v.requests v.journal v.wire
+AskedOf v = Asked v.base v.lane v.asked v.requests v.journal v.wire
 
 -- ---- all parts
 
