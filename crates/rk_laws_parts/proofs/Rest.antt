@@ -104,7 +104,8 @@ rest_staged v master call value sound may =
           (still_counts (live q) (before.handovers q other.tablet).term (after.handovers q other.tablet).term other.term
           (counted_same rows before after master row call item stages (λ (handover : Handover). handover.term) (λ tablet. refl) q other.tablet) counts));
       waiting = λ q alive.
-          waiting_staged rows before after master row call item served.last stages served.is_last served.here served.serves own served.in_row fits unmarked q
+          waiting_staged rows before after master row call item served.last stages served.is_last served.here served.serves
+          (record { own = own; inside = served.in_row; fits = fits; unmarked = unmarked }) q
           (old.waiting q alive);
       are_last = λ q alive.
           asked_staged rows before after master row call item served.last stages served.is_last served.here served.serves asked

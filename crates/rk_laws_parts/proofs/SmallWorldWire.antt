@@ -74,7 +74,8 @@ request_one = record { was_asked = inl refl; seen = λ same. refl }
 -- the put is the last call of its client, and the request asks it
 pub small_asked : Asked no_base 4 (asked_by small_ledger) small_ledger.requests small_journal small_wire
 small_asked = record {
-  last = each_client (λ client last. IfSome last (IsLastCall no_base 4 client)) (record { own = refl; here = lane_one; after = All-nil _ }) (λ client apart. tt);
+  last = each_client (λ client last. IfSome last (IsLastCall no_base 4 client))
+      (record { own = refl; here = lane_one; after = All-nil _ }) (λ client apart. tt);
   own_keys = all_one (λ placed. lane_of_key placed.call.key ≡ 4) small_placed lane_one;
   recorded = all_one (λ placed. WasAsked (asked_by small_ledger placed.call.client) small_journal placed.call) small_placed (inl refl);
   once = λ i j a b first second same. first_place small_placed a i first ∙ sym (first_place small_placed b j second);

@@ -87,6 +87,14 @@ calls_push calls written call entry own old place e behind stands is unmarked =
     })
     (slice_get_push_cases written.entries entry e place stands)
 
+-- a call to be staged is of the row's range, its entry is its own and bears no mark, and it comes behind what is applied and behind the
+-- last member's place
+pub record IsNewCall (before : Lane) (master : ℕ) (row : Row) (last : Member) (call : Call) (item : Held) : Type 0 where
+  pub own : IsEntryOf call (entries.Held item)
+  pub inside : has_key row.range call.table call.key ≡ true
+  pub fits : max last.from (before.written master).applied ≤ length (before.written master).entries
+  pub unmarked : is_marked (before.written master).marks (length (before.written master).entries) ≡ false
+
 module _ (rows : List Row) (before after : Lane) (master : ℕ) (row : Row) (call : Call) (item : Held) (last : Member) (stages : Stages rows before after master row call item) (is_last : last_of (lineage_of row.phase) ≡ Some last) (here : last.master ≡ master) (serves : is_serving (before.handovers master row.tablet).role ≡ true) where
   -- of two members the first has nothing more
   done_at : (other : Row) → Contains rows other → (lineage : List Member) → AreApart lineage → lineage_of other.phase ≡ lineage → FirstIsDone before.written other.range lineage → FirstIsDone after.written other.range lineage
@@ -155,28 +163,28 @@ module _ (rows : List Row) (before after : Lane) (master : ℕ) (row : Row) (cal
       (written_cases rows before after master row call item stages q)
 
   -- the call that was staged waits
-  waits_new : IsEntryOf call (entries.Held item) → has_key row.range call.table call.key ≡ true → max last.from (before.written master).applied ≤ length (before.written master).entries → is_marked (before.written master).marks (length (before.written master).entries) ≡ false → Waits rows (after.handovers master) (with_one_more (before.written master) (entries.Held item)) master (length (before.written master).entries) call
-  waits_new own inside fits unmarked = record {
-    behind = let within : (before.written master).applied ≤ length (before.written master).entries = omega (arith, fits) in within;
+  waits_new : IsNewCall before master row last call item → Waits rows (after.handovers master) (with_one_more (before.written master) (entries.Held item)) master (length (before.written master).entries) call
+  waits_new new = record {
+    behind = let within : (before.written master).applied ≤ length (before.written master).entries = omega (arith, new.fits) in within;
     entry = entries.Held item;
     stands = slice_get_end (before.written master).entries (entries.Held item);
-    own = own;
-    unmarked = unmarked;
+    own = new.own;
+    unmarked = new.unmarked;
     row = row;
     has_row = stages.has_row;
-    in_row = inside;
+    in_row = new.inside;
     last = last;
     is_last = is_last;
     here = here;
-    from = omega (arith, fits);
+    from = omega (arith, new.fits);
     may_stage =
         counted_same rows before after master row call item stages (λ (handover : Handover). may_have_staged handover.role) (λ tablet. refl) master row.tablet
         ∙ serving_stages (before.handovers master row.tablet).role serves;
   }
 
   -- the calls that wait at a master
-  pub waiting_staged : IsEntryOf call (entries.Held item) → has_key row.range call.table call.key ≡ true → max last.from (before.written master).applied ≤ length (before.written master).entries → is_marked (before.written master).marks (length (before.written master).entries) ≡ false → (q : ℕ) → EachIn (λ place c. Waits rows (before.handovers q) (before.written q) q place c) (before.calls q) → EachIn (λ place c. Waits rows (after.handovers q) (after.written q) q place c) (after.calls q)
-  waiting_staged own inside fits unmarked q old =
+  pub waiting_staged : IsNewCall before master row last call item → (q : ℕ) → EachIn (λ place c. Waits rows (before.handovers q) (before.written q) q place c) (before.calls q) → EachIn (λ place c. Waits rows (after.handovers q) (after.written q) q place c) (after.calls q)
+  waiting_staged new q old =
       let on : (place : ℕ) (c : Call) → Waits rows (before.handovers q) (before.written q) q place c → Waits rows (after.handovers q) (after.written q) q place c = λ place c.
       waits_on rows (before.handovers q) (after.handovers q) (before.written q) (after.written q) q place c
       (written_grown rows before after master row call item stages q)
@@ -185,13 +193,13 @@ module _ (rows : List Row) (before after : Lane) (master : ℕ) (row : Row) (cal
       each_weaker (λ place c. Waits rows (before.handovers q) (before.written q) q place c) (λ place c. Waits rows (after.handovers q) (after.written q) q place c) (before.calls q) on old in
       ⊎_elim
       (λ (at : q ≡ master).
-      let new : Waits rows (after.handovers q) (after.written q) q (length (before.written master).entries) call =
+      let its : Waits rows (after.handovers q) (after.written q) q (length (before.written master).entries) call =
       subst (λ (n : ℕ). Waits rows (after.handovers n) (after.written n) n (length (before.written master).entries) call) (sym at)
-      (subst (λ (w : Written). Waits rows (after.handovers master) w master (length (before.written master).entries) call) (sym stages.written_differ.here) (waits_new own inside fits unmarked)) in
+      (subst (λ (w : Written). Waits rows (after.handovers master) w master (length (before.written master).entries) call) (sym stages.written_differ.here) (waits_new new)) in
       let table : insert (before.calls q) (length (before.written master).entries) call ≡ after.calls q =
       ap (λ (n : ℕ). insert (before.calls n) (length (before.written master).entries) call) at ∙ sym stages.calls_differ.here ∙ ap after.calls (sym at) in
       subst (λ (table : NumberMap Call). EachIn (λ place c. Waits rows (after.handovers q) (after.written q) q place c) table) table
-      (each_insert (λ place c. Waits rows (after.handovers q) (after.written q) q place c) (before.calls q) (length (before.written master).entries) call each new))
+      (each_insert (λ place c. Waits rows (after.handovers q) (after.written q) q place c) (before.calls q) (length (before.written master).entries) call each its))
       (λ (other : q ≡ master → ⊥).
       subst (λ (table : NumberMap Call). EachIn (λ place c. Waits rows (after.handovers q) (after.written q) q place c) table) (sym (stages.calls_differ.others q other)) each)
       (cases_eq q master)
