@@ -18,7 +18,8 @@ use Rattle.rk_world.specs.Calls.{Visited, accept, accept_by, accepting, ask, ask
 use Rattle.rk_world.specs.Client.{ClientTurn, Session, call_lane, range_of, session_accept, session_turn, turn_by, turn_of}
 use Rattle.rk_world.specs.Formed.{IsFormedLast, IsFormedLedger, IsWellFormed}
 use Rattle.rk_world.specs.Journal.{is_accepted}
-use Rattle.rk_world.specs.Ledger.{LastCall, Ledger, asked_by, is_added, seen_of, with_accepted, with_asked}
+use Rattle.rk_world.specs.declared.ledger.LastCall.{LastCall}
+use Rattle.rk_world.specs.Ledger.{Ledger, asked_by, is_added, seen_of, with_accepted, with_asked}
 use Rattle.rk_world.specs.Limits.{IsFormedMessage, Limits, limits_of}
 use Rattle.rk_world.specs.Premises.{IsAfterStart, IsLawfulCall, MayAct}
 use Rattle.rk_world.specs.Refusals.{accept_refusal, ask_refusal, where_true, worn, worn_session}

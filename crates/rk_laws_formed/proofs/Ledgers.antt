@@ -23,9 +23,10 @@ use Rattle.rk_world.specs.Base.{Base}
 use Rattle.rk_world.specs.Ends.{outcome_of}
 use Rattle.rk_world.specs.Formed.{IsFormedLast, IsFormedLedger}
 use Rattle.rk_world.specs.Journal.{accepted_at, as_accepted, has_record, last_stamp, last_stamp_from, next_record}
-use Rattle.rk_world.specs.Ledger.{LastCall, Ledger, asked_by, is_added, seen_of, with_accepted, with_all_served, with_asked, with_client, with_end, with_end_of, with_ends, with_marks, with_mutation, with_rebuilt, with_record, with_request, with_served, without_marks}
+use Rattle.rk_world.specs.declared.ledger.LastCall.{LastCall}
+use Rattle.rk_world.specs.Ledger.{Ledger, asked_by, is_added, seen_of, with_accepted, with_all_served, with_asked, with_client, with_end, with_end_of, with_ends, with_marks, with_mutation, with_rebuilt, with_record, with_request, with_served, without_marks}
 use Rattle.rk_world.specs.Limits.{IsFormedMessage, Limits}
-use Rattle.rk_world.specs.Marks.{Mark}
+use Rattle.rk_world.specs.declared.work.Mark.{Mark}
 use Rattle.rk_world.specs.Refusals.{MOST_CLIENTS}
 use Rattle.rk_laws_formed.proofs.Lists.{all_got}
 

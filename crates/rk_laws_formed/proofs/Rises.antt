@@ -19,7 +19,8 @@ use Rattle.rk_world.specs.Coordinator.{Coordinator}
 use Rattle.rk_world.specs.Ends.{outcome_of}
 use Rattle.rk_world.specs.Formed.{IsWellFormed}
 use Rattle.rk_world.specs.Journal.{last_stamp, next_record}
-use Rattle.rk_world.specs.Ledger.{LastCall, Ledger, asked_by, seen_of, with_all_served, with_end, with_ends, with_rebuilt, with_record, with_served}
+use Rattle.rk_world.specs.declared.ledger.LastCall.{LastCall}
+use Rattle.rk_world.specs.Ledger.{Ledger, asked_by, seen_of, with_all_served, with_end, with_ends, with_rebuilt, with_record, with_served}
 use Rattle.rk_world.specs.Master.{Master}
 use Rattle.rk_world.specs.Step.{ledger_after, quietly, with_sends}
 use Rattle.rk_world.specs.Worked.{Worked}

@@ -19,7 +19,8 @@ use Rattle.rk_world.specs.Calls.{Visited, accept, accept_by, accepting, ask, ask
 use Rattle.rk_world.specs.Client.{ClientTurn, Session, session_accept, session_turn}
 use Rattle.rk_world.specs.Formed.{IsWellFormed}
 use Rattle.rk_world.specs.Journal.{last_stamp}
-use Rattle.rk_world.specs.Ledger.{LastCall, Ledger, is_added, seen_of, with_client}
+use Rattle.rk_world.specs.declared.ledger.LastCall.{LastCall}
+use Rattle.rk_world.specs.Ledger.{Ledger, is_added, seen_of, with_client}
 use Rattle.rk_world.specs.Refusals.{WORN_NUMBER, accept_refusal, ask_refusal, refusal, too_great, where_true, worn, worn_session}
 use Rattle.rk_world.specs.Room.{HasRoom, MOST_NUMBER}
 use Rattle.rk_world.specs.Step.{happened, sent_again, with_sends}

@@ -30,7 +30,7 @@ use Rattle.rk_world.specs.Ends.{told}
 use Rattle.rk_world.specs.Material.{of_key}
 use Rattle.rk_world.specs.Base.{base_map, ends_told}
 use Rattle.rk_world.specs.Journal.{accepted_at, as_accepted}
-use Rattle.rk_world.specs.Ledger.{LastCall}
+use Rattle.rk_world.specs.declared.ledger.LastCall.{LastCall}
 use Rattle.rk_world.specs.Requests.{call_of}
 use Rattle.rk_world.specs.World.{World}
 use Rattle.rk_sound.specs.View.{View, view, truths, rests}

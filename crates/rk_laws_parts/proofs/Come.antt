@@ -3,7 +3,8 @@ use Rattle.std.proofs.Common.{◌≡◌, ℕ, None, Option, sym, ap, subst, ◌�
 use Rattle.std.specs.Prelude.{unwrap_or}
 use Rattle.std.proofs.lemmas.Bool.{cases_eq}
 use Rattle.rk_types.proofs.NumberMaps.{get_same, get_other}
-use Rattle.rk_world.specs.Ledger.{Ledger, LastCall, asked_by, with_client}
+use Rattle.rk_world.specs.declared.ledger.LastCall.{LastCall}
+use Rattle.rk_world.specs.Ledger.{Ledger, asked_by, with_client}
 use Rattle.rk_world.specs.World.{World}
 use Rattle.rk_sound.specs.View.{view}
 use Rattle.rk_sound.specs.Whole.{IsSound, SoundView}

@@ -16,7 +16,8 @@ use Rattle.rk_log.specs.Cut.{ends, end_of, cut, with_bytes}
 use Rattle.rk_log.specs.Log.{Log, with_entry}
 use Rattle.rk_log.specs.declared.ends.EntryEnd.{EntryEnd}
 use Rattle.rk_world.specs.Ends.{items_in, items_of, told, told_by}
-use Rattle.rk_world.specs.Marks.{Mark, is_marked, unmarked, unmarked_from}
+use Rattle.rk_world.specs.declared.work.Mark.{Mark}
+use Rattle.rk_world.specs.Marks.{is_marked, unmarked, unmarked_from}
 use Rattle.rk_world.specs.Material.{counts, counting}
 use Rattle.rk_sound.specs.Rebuilds.{TellNoMore, stored_count}
 use Rattle.rk_laws_parts.proofs.Floors.{floor_append}

@@ -27,7 +27,7 @@ use Rattle.rk_world.specs.Ends.{items_of, items_in, item_end, end_of_item, outco
 use Rattle.rk_world.specs.Base.{Base, base_map, map_entry_of}
 use Rattle.rk_world.specs.Merge.{floor_of}
 use Rattle.rk_world.specs.Requests.{item_of}
-use Rattle.rk_world.specs.Ledger.{LastCall}
+use Rattle.rk_world.specs.declared.ledger.LastCall.{LastCall}
 use Rattle.rk_sound.specs.Rest.{IsRest, IsStaged, call_end, call_ends, record_of_last, records_of}
 use Rattle.rk_sound.specs.Changes.{MayEnd}
 use Rattle.rk_laws_parts.proofs.Floors.{floor_above}

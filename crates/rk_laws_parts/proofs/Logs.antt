@@ -16,7 +16,7 @@ use Rattle.rk_message.specs.declared.message.Body.{Body}
 use Rattle.rk_message.specs.declared.message.Body.TheVariants as bodies
 use Rattle.rk_message.specs.declared.message.Message.{Message}
 use Rattle.rk_message.specs.declared.replication.Append.{Append}
-use Rattle.rk_world.specs.Marks.{Mark}
+use Rattle.rk_world.specs.declared.work.Mark.{Mark}
 use Rattle.rk_world.specs.Written.{Written}
 use Rattle.rk_sound.specs.Logs.{IsFirstPart, IsCopy, IsKnownBefore, IsLog, IsFromLog, Logs, LogSays, segments_in, stored_of}
 use Rattle.rk_sound.specs.Changes.{HasSegmentLeft}

@@ -31,7 +31,7 @@ use Rattle.rk_message.specs.declared.message.Body.{Body}
 use Rattle.rk_message.specs.declared.message.Body.TheVariants as bodies
 use Rattle.rk_world.specs.Ranges.{has_all, has_key}
 use Rattle.rk_world.specs.Ends.{items_of, told}
-use Rattle.rk_world.specs.Marks.{Mark}
+use Rattle.rk_world.specs.declared.work.Mark.{Mark}
 use Rattle.rk_world.specs.Base.{base_map}
 use Rattle.rk_world.specs.Coordinator.{Handed}
 use Rattle.rk_world.specs.Lineage.{is_member, last_of}

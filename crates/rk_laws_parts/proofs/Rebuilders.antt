@@ -21,7 +21,8 @@ use Rattle.rk_tablet_map.specs.declared.row.Row.{Row}
 use Rattle.rk_world.specs.declared.work.Merged.{Merged}
 use Rattle.rk_world.specs.Ranges.{has_key}
 use Rattle.rk_world.specs.Ends.{items_of}
-use Rattle.rk_world.specs.Marks.{Mark, is_marked, unmarked_from}
+use Rattle.rk_world.specs.declared.work.Mark.{Mark}
+use Rattle.rk_world.specs.Marks.{is_marked, unmarked_from}
 use Rattle.rk_world.specs.Material.{material_of, named, side_entries}
 use Rattle.rk_world.specs.Lineage.{is_member, last_of}
 use Rattle.rk_world.specs.Master.{touches}

@@ -20,7 +20,7 @@ use Rattle.rk_world.specs.Merge.{floor_of}
 use Rattle.rk_world.specs.Master.{touches}
 use Rattle.rk_world.specs.Requests.{item_of}
 use Rattle.rk_world.specs.Coordinator.{Handed}
-use Rattle.rk_world.specs.Ledger.{LastCall}
+use Rattle.rk_world.specs.declared.ledger.LastCall.{LastCall}
 use Rattle.rk_sound.specs.View.{View, truths, rests}
 use Rattle.rk_sound.specs.Rest.{IsRest, IsEntryOf, IsLast, IsLastAsked}
 use Rattle.rk_sound.specs.Whole.{RestOf, RowsOf, LogsOf, CountersOf, SoundView}

@@ -10,7 +10,8 @@ use Rattle.rk_types.specs.declared.range.Range.{Range}
 use Rattle.rk_entry.specs.declared.entry.Entry.{Entry}
 use Rattle.rk_entry.specs.declared.entry.Entry.TheVariants as entries
 use Rattle.rk_world.specs.Ranges.{has_key}
-use Rattle.rk_world.specs.Marks.{Mark, is_marked, unmarked, unmarked_from}
+use Rattle.rk_world.specs.declared.work.Mark.{Mark}
+use Rattle.rk_world.specs.Marks.{is_marked, unmarked, unmarked_from}
 use Rattle.rk_world.specs.Material.{counts, counting, with_number, named, named_by, material_of, side_entries, log_material, joined_from, is_joined_in}
 
 append_nil : {X : Type 0} (xs : List X) → xs ++ [] ≡ xs

@@ -30,7 +30,8 @@ use Rattle.rk_world.specs.Base.{no_base}
 use Rattle.rk_world.specs.Tablet.{Tablet, no_tablet}
 use Rattle.rk_world.specs.Master.{Master}
 use Rattle.rk_world.specs.Backup.{no_segments, with_stored}
-use Rattle.rk_world.specs.Ledger.{Ledger, LastCall}
+use Rattle.rk_world.specs.declared.ledger.LastCall.{LastCall}
+use Rattle.rk_world.specs.Ledger.{Ledger}
 use Rattle.rk_world.specs.Written.{truth_of, rest_of}
 use Rattle.rk_world.specs.World.{World, written_in}
 use Rattle.rk_sound.specs.View.{View, view}

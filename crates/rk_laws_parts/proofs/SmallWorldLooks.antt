@@ -13,7 +13,8 @@ use Rattle.rk_world.specs.Tablet.{Tablet, no_tablet}
 use Rattle.rk_world.specs.Master.{Master, new_master, tablet_at}
 use Rattle.rk_world.specs.Coordinator.{Handed}
 use Rattle.rk_world.specs.Backup.{no_segments}
-use Rattle.rk_world.specs.Ledger.{LastCall, asked_by}
+use Rattle.rk_world.specs.declared.ledger.LastCall.{LastCall}
+use Rattle.rk_world.specs.Ledger.{asked_by}
 use Rattle.rk_world.specs.World.{master_at, backup_at, tablet_in, lives}
 use Rattle.rk_sound.specs.Posts.{Post, Owner, Bystander, post_of, speaks, StillCounts}
 use Rattle.rk_sound.specs.Handing.{handed_by, handed_for_grant}

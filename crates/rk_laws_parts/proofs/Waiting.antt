@@ -20,12 +20,13 @@ use Rattle.rk_transfer.specs.declared.role.Role.TheVariants as roles
 use Rattle.rk_tablet_map.specs.Phase.{lineage_of}
 use Rattle.rk_tablet_map.specs.declared.row.Row.{Row}
 use Rattle.rk_world.specs.Ranges.{has_key}
-use Rattle.rk_world.specs.Marks.{Mark, is_marked}
+use Rattle.rk_world.specs.declared.work.Mark.{Mark}
+use Rattle.rk_world.specs.Marks.{is_marked}
 use Rattle.rk_world.specs.Material.{joined_from}
 use Rattle.rk_world.specs.Lineage.{last_of}
 use Rattle.rk_world.specs.RoleTests.{is_idle, may_have_staged}
 use Rattle.rk_world.specs.Master.{touches}
-use Rattle.rk_world.specs.Ledger.{LastCall}
+use Rattle.rk_world.specs.declared.ledger.LastCall.{LastCall}
 use Rattle.rk_world.specs.Written.{Written}
 use Rattle.rk_sound.specs.Rows.{AreApart, IsFormed}
 use Rattle.rk_sound.specs.Rest.{Waits, IsEntryOf, FirstIsDone, EachHasCall, OnlyIsUnnamed, IsLast}

@@ -13,9 +13,9 @@ use Rattle.rk_message.specs.declared.message.Body.TheVariants as bodies
 use Rattle.rk_message.specs.declared.message.Message.{Message}
 use Rattle.rk_world.specs.Requests.{call_of}
 use Rattle.rk_world.specs.Client.{call_lane}
-use Rattle.rk_world.specs.Ledger.{LastCall}
 use Rattle.rk_world.specs.Base.{Base}
 use Rattle.rk_world.specs.Premises.{IsAfterStart}
+use Rattle.rk_world.specs.declared.ledger.LastCall.{LastCall}
 
 -- a client's last call, in a lane: it is the client's own, its key lies there, and it comes after all that the start tells of the client
 pub record IsLastCall (base : Base) (lane client : ℕ) (last : LastCall) : Type 0 where

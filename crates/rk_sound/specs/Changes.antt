@@ -24,8 +24,8 @@ use Rattle.rk_world.specs.Lineage.{last_of}
 use Rattle.rk_world.specs.Base.{Base, base_map, map_entry_of}
 use Rattle.rk_world.specs.Requests.{item_of}
 use Rattle.rk_world.specs.Client.{call_lane}
-use Rattle.rk_world.specs.Ledger.{LastCall}
 use Rattle.rk_world.specs.Premises.{IsAfterStart}
+use Rattle.rk_world.specs.declared.ledger.LastCall.{LastCall}
 use Rattle.rk_sound.specs.View.{View, truths, rests}
 use Rattle.rk_sound.specs.Terms.{SentFits, tenure_in, range_in}
 use Rattle.rk_sound.specs.Cover.{IsWithinRows}

@@ -26,7 +26,8 @@ use Rattle.rk_tablet_map.specs.declared.phase.Phase.TheVariants.{Rebuilding}
 use Rattle.rk_tablet_map.specs.declared.row.Row.{Row}
 use Rattle.rk_world.specs.declared.work.Merged.{Merged}
 use Rattle.rk_world.specs.Ends.{told, items_of}
-use Rattle.rk_world.specs.Marks.{Mark, is_marked, unmarked_from}
+use Rattle.rk_world.specs.declared.work.Mark.{Mark}
+use Rattle.rk_world.specs.Marks.{is_marked, unmarked_from}
 use Rattle.rk_world.specs.Material.{counting, side_entries, material_of, as_entries, named}
 use Rattle.rk_world.specs.Lineage.{is_member}
 use Rattle.rk_world.specs.Gather.{Gather, Gathered, next_reading, by_member}

@@ -27,7 +27,7 @@ use Rattle.rk_world.specs.Base.{Base, base_map, map_entry_of}
 use Rattle.rk_world.specs.RoleTests.{is_idle, may_have_staged}
 use Rattle.rk_world.specs.Master.{touches}
 use Rattle.rk_world.specs.Journal.{has_record}
-use Rattle.rk_world.specs.Ledger.{LastCall}
+use Rattle.rk_world.specs.declared.ledger.LastCall.{LastCall}
 use Rattle.rk_world.specs.Written.{Written, member_rest, member_truth, member_material}
 use Rattle.rk_sound.specs.Posts.{StillCounts}
 use Rattle.rk_sound.specs.Calls.{IsKnown}

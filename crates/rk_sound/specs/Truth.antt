@@ -12,7 +12,7 @@ use Rattle.rk_overlay.specs.Plain.{IsPlain}
 use Rattle.rk_world.specs.Ranges.{AgreeIn}
 use Rattle.rk_world.specs.Ends.{items_of}
 use Rattle.rk_world.specs.Base.{Base, base_map}
-use Rattle.rk_world.specs.Ledger.{LastCall}
+use Rattle.rk_world.specs.declared.ledger.LastCall.{LastCall}
 
 -- the truth of a row tells the records that the journal leaves in the row's range
 pub record IsTruth (base : Base) (range : Range) (truth : List Entry) (journal : List Placed) : Type 0 where

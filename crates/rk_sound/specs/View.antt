@@ -17,7 +17,8 @@ use Rattle.rk_world.specs.Base.{Base}
 use Rattle.rk_world.specs.Gather.{Gather}
 use Rattle.rk_world.specs.Tablet.{Pulling}
 use Rattle.rk_world.specs.Coordinator.{Handed}
-use Rattle.rk_world.specs.Ledger.{LastCall, asked_by}
+use Rattle.rk_world.specs.declared.ledger.LastCall.{LastCall}
+use Rattle.rk_world.specs.Ledger.{asked_by}
 use Rattle.rk_world.specs.Written.{Written, truth_of, rest_of}
 use Rattle.rk_world.specs.World.{World, master_at, backup_at, lives, log_in, records_in, calls_in, tablet_in, written_in}
 

@@ -13,7 +13,8 @@ use Rattle.rk_world.specs.declared.event.Taken.{Taken}
 use Rattle.rk_world.specs.declared.event.Taken.TheVariants as takes
 use Rattle.rk_world.specs.Client.{Session, ClientTurn, call_lane, session_turn, session_accept}
 use Rattle.rk_world.specs.Journal.{is_accepted}
-use Rattle.rk_world.specs.Ledger.{LastCall, Ledger, asked_by, is_added, with_asked, with_request, with_accepted}
+use Rattle.rk_world.specs.declared.ledger.LastCall.{LastCall}
+use Rattle.rk_world.specs.Ledger.{Ledger, asked_by, is_added, with_asked, with_request, with_accepted}
 use Rattle.rk_world.specs.World.{World, with_ledger}
 use Rattle.rk_world.specs.Refusals.{ask_refusal, accept_refusal}
 use Rattle.rk_world.specs.Step.{with_sends}

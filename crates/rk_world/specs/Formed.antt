@@ -35,7 +35,8 @@ use Rattle.rk_world.specs.Master.{Master}
 use Rattle.rk_world.specs.Coordinator.{Coordinator, Handed}
 use Rattle.rk_world.specs.Client.{call_lane}
 use Rattle.rk_world.specs.Journal.{last_stamp}
-use Rattle.rk_world.specs.Ledger.{Ledger, LastCall}
+use Rattle.rk_world.specs.declared.ledger.LastCall.{LastCall}
+use Rattle.rk_world.specs.Ledger.{Ledger}
 use Rattle.rk_world.specs.World.{World, has_crashed, standing}
 use Rattle.rk_world.specs.Refusals.{MOST_CLIENTS}
 use Rattle.rk_world.specs.Premises.{MOST_MASTERS, IsMaster, IsLawfulCall, IsAfterStart}

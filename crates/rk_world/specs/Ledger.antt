@@ -10,13 +10,10 @@ use Rattle.rk_message.specs.declared.message.Message.{Message}
 use Rattle.rk_message.specs.declared.rebuilding.Rebuilt.{Rebuilt}
 use Rattle.rk_world.specs.declared.work.Served.{Served}
 use Rattle.rk_world.specs.Ends.{outcome_of}
-use Rattle.rk_world.specs.Marks.{Mark, is_mark_of}
+use Rattle.rk_world.specs.declared.work.Mark.{Mark}
+use Rattle.rk_world.specs.Marks.{is_mark_of}
 use Rattle.rk_world.specs.Journal.{next_record, has_record, accepted_at}
-
--- the last call that a client asked in this lane, with the highest stamp that it had seen
-pub record LastCall : Type 0 where
-  pub call : Call
-  pub seen : ℕ
+use Rattle.rk_world.specs.declared.ledger.LastCall.{LastCall}
 
 -- the ledger of a lane: of each client that was added the last call that it asked here, if any; how many calls were asked;
 -- the last request of each client; the journal, oldest record first; and the pieces of masters' logs that rebuilds made and that

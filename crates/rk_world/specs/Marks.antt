@@ -2,16 +2,9 @@
 use Rattle.std.specs.Prelude.{ℕ, suc, Bool, ◌==◌, ◌&&◌, nat_lt, nat_le, if◌then◌else◌, List, [], ◌∷◌, drop}
 use Rattle.std.specs.List.{list_any}
 use Rattle.rk_entry.specs.declared.entry.Entry.{Entry}
+use Rattle.rk_world.specs.declared.work.Mark.{Mark}
 
--- a piece of a master's log that a rebuild made, from the place `first` on and before the place `past`, until it is told
-pub record Mark : Type 0 where
-  pub master : ℕ
-  pub first : ℕ
-  pub past : ℕ
-  pub tablet : ℕ
-  pub term : ℕ
-
--- whether the entry at a place is of such a piece
+-- whether the entry at a place is of a marked piece
 abbrev pub is_marked : List Mark → ℕ → Bool
 is_marked marks place = list_any (λ mark. nat_le mark.first place && nat_lt place mark.past) marks
 

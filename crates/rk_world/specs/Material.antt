@@ -10,7 +10,8 @@ use Rattle.rk_entry.specs.declared.entry.Entry.TheVariants as entries
 use Rattle.rk_entry.specs.declared.lists.TheConstants.{FIRST_SIDE_SEGMENT}
 use Rattle.rk_overlay.specs.Newest.{is_of}
 use Rattle.rk_world.specs.Ranges.{has_key, has_all}
-use Rattle.rk_world.specs.Marks.{Mark, unmarked_from}
+use Rattle.rk_world.specs.declared.work.Mark.{Mark}
+use Rattle.rk_world.specs.Marks.{unmarked_from}
 
 -- whether an entry counts for a range: an item or a refusal whose key is in it, or a Carried whose range has all of it
 abbrev pub counts : Range → Entry → Bool

@@ -13,7 +13,7 @@ use Rattle.rk_message.specs.declared.rebuilding.CopySegment.{CopySegment}
 use Rattle.rk_message.specs.declared.rebuilding.Rebuild.{Rebuild}
 use Rattle.rk_world.specs.declared.work.Merged.{Merged}
 use Rattle.rk_world.specs.declared.work.Reading.{Reading}
-use Rattle.rk_world.specs.Marks.{Mark}
+use Rattle.rk_world.specs.declared.work.Mark.{Mark}
 use Rattle.rk_world.specs.Material.{material_of, side_entries, as_entries}
 use Rattle.rk_world.specs.Lineage.{own_member}
 use Rattle.rk_world.specs.Gather.{by_member, gather_begun, gathering, is_awaited, next_reading}

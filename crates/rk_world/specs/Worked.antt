@@ -5,7 +5,7 @@ use Rattle.rk_types.specs.declared.node.Node.TheVariants as nodes
 use Rattle.rk_message.specs.declared.message.Body.{Body}
 use Rattle.rk_message.specs.declared.message.Message.{Message}
 use Rattle.rk_world.specs.declared.work.Served.{Served}
-use Rattle.rk_world.specs.Marks.{Mark}
+use Rattle.rk_world.specs.declared.work.Mark.{Mark}
 use Rattle.rk_world.specs.Master.{Master}
 
 -- what a master makes of a message or of its turn: the master after it, what it sends, the calls that it served

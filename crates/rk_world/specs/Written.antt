@@ -7,7 +7,8 @@ use Rattle.rk_types.specs.declared.range.Range.{Range}
 use Rattle.rk_entry.specs.declared.entry.Entry.{Entry}
 use Rattle.rk_tablet_map.specs.Phase.{lineage_of}
 use Rattle.rk_tablet_map.specs.declared.row.Row.{Row}
-use Rattle.rk_world.specs.Marks.{Mark, unmarked_from}
+use Rattle.rk_world.specs.declared.work.Mark.{Mark}
+use Rattle.rk_world.specs.Marks.{unmarked_from}
 use Rattle.rk_world.specs.Material.{counting, log_material}
 use Rattle.rk_world.specs.Base.{Base, base_entries}
 use Rattle.rk_world.specs.Master.{Master}

@@ -8,9 +8,11 @@
 pub use choice::Choice;
 pub use error::{MoveError, StepError};
 pub use event::{Event, Seen, Taken};
-pub use work::{Merged, Reading, Served};
+pub use ledger::LastCall;
+pub use work::{Mark, Merged, Reading, Served};
 
 mod choice;
 mod error;
 mod event;
+mod ledger;
 mod work;

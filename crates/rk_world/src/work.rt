@@ -14,6 +14,17 @@ pub struct Reading {
     pub segment: u32,
 }
 
+/// A piece of a master's log that a rebuild of a tablet made at this term: the entries from the place `first` on and before
+/// the place `past`. They count for nothing until the coordinator takes the rebuild.
+#[derive(Clone, Copy, Debug, PartialEq, Eq)]
+pub struct Mark {
+    pub master: u8,
+    pub first: u64,
+    pub past: u64,
+    pub tablet: u32,
+    pub term: u64,
+}
+
 /// What a rebuild adds to its log: items that are copied, by rising version, a number above each version, and the last
 /// end of each client, in the order of the logs that tell them.
 #[derive(Debug, Drop, PartialEq, Eq)]
