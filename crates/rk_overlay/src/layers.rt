@@ -10,7 +10,7 @@ use std::cmp::Ordering;
 use std::collections::BTreeMap;
 
 /// The newest item so far of each key of each table.
-type Newest<'a> = BTreeMap<(u64, &'a Key), &'a Held>;
+pub type Newest<'a> = BTreeMap<(u64, &'a Key), &'a Held>;
 
 /// The newest item of each key of both lists together, in ascending order of version, then table, then key by its
 /// bytes. A tombstone counts like any other item. Of the items of a key that have its greatest version the first one
@@ -39,8 +39,8 @@ fn take_all<'a>(newest: &mut Newest<'a>, items: &'a [Held]) -> Result<(), NoMemo
     Ok(())
 }
 
-// Takes in one more item, unless the tree has one of its key that is as new.
-fn take_in<'a>(newest: &mut Newest<'a>, item: &'a Held) -> Result<(), NoMemory>
+/// Takes in one more item, unless the tree has one of its key that is as new. A search.
+pub fn take_in<'a>(newest: &mut Newest<'a>, item: &'a Held) -> Result<(), NoMemory>
     ensures { OnOk result ((found : Found)
         → IsTreeOf newest.old found → IsTreeOf newest.new (with_newer found item.now)) }
 {
@@ -54,8 +54,9 @@ fn take_in<'a>(newest: &mut Newest<'a>, item: &'a Held) -> Result<(), NoMemory>
     Ok(())
 }
 
-// The newest items, in order.
-fn in_order<'a>(alloc: Global, newest: &Newest<'a>) -> Result<Vec<&'a Held>, NoMemory>
+/// The newest items of a list that was taken in, in ascending order of version, then table, then key by its bytes. A sort,
+/// and nothing is copied.
+pub fn in_order<'a>(alloc: Global, newest: &Newest<'a>) -> Result<Vec<&'a Held>, NoMemory>
     ensures { IfOk result (λ lent. (items : List Held)
         → IsTreeOf newest.now (newest_lem items) → map (λ item. item.now) lent.items ≡ newest_items items) }
 {

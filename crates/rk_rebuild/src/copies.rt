@@ -1,23 +1,18 @@
 // The newest items that a master's own entries lack.
 ghost use Rattle.std.specs.Prelude.{◌≡◌, ◌++◌, List, IfOk, OnOk, not, filter, map};
-ghost use Rattle.std.specs.BTreeMap.{IsOrdered, values};
 ghost use Rattle.rk_types.specs.declared.held.Held.{Held as Item};
-ghost use Rattle.rk_overlay.specs.Lent.{IsTreeOf, name_cmp};
-ghost use Rattle.rk_overlay.specs.Newest.{Found, newest as newest_lem, newest_from, with_newer};
-ghost use Rattle.rk_overlay.specs.Overlay.{item_cmp, newest_items};
+ghost use Rattle.rk_overlay.specs.Lent.{IsTreeOf};
+ghost use Rattle.rk_overlay.specs.Newest.{Found, newest_from};
 ghost use Rattle.rk_world.specs.Ends.{items_of, items_in};
 ghost use Rattle.rk_world.specs.Merge.{copies_of as copies_of_lem, has_version as has_version_lem};
 ghost use Rattle.rk_rebuild.specs.Lent.{lent};
 ghost use Rattle.rk_rebuild.specs.Versions.{HasVersions};
 
 use rk_entry::Entry;
+use rk_overlay::{Newest, in_order, take_in};
 use rk_types::{Held, Key, NoMemory};
 use std::alloc::Global;
-use std::cmp::Ordering;
 use std::collections::{BTreeMap, BTreeSet};
-
-/// The newest item so far of each key of each table.
-type Newest<'a> = BTreeMap<(u64, &'a Key), &'a Held>;
 
 /// The items that there are, by table, key and version.
 type Versions<'a> = BTreeSet<(u64, &'a Key, u64)>;
@@ -56,50 +51,6 @@ fn take<'a>(newest: &mut Newest<'a>, entry: &'a Entry) -> Result<(), NoMemory>
         Entry::Held(held) => take_in(newest, held),
         Entry::Refused(_) | Entry::Carried(_) | Entry::Joined(_) => Ok(()),
     }
-}
-
-// Takes in one more item, unless the tree has one of its key that is as new.
-fn take_in<'a>(newest: &mut Newest<'a>, item: &'a Held) -> Result<(), NoMemory>
-    ensures { OnOk result ((found : Found)
-        → IsTreeOf newest.old found → IsTreeOf newest.new (with_newer found item.now)) }
-{
-    let name = (item.table, &item.key);
-    if let Some(old) = newest.get(&name) {
-        if old.version >= item.version {
-            return Ok(());
-        }
-    }
-    newest.insert(name, item)?;
-    Ok(())
-}
-
-// The newest items, in order.
-fn in_order<'a>(alloc: Global, newest: &Newest<'a>) -> Result<Vec<&'a Held>, NoMemory>
-    ensures { IfOk result (λ lent. (items : List Item)
-        → IsTreeOf newest.now (newest_lem items) → map (λ item. item.now) lent.items ≡ newest_items items) }
-{
-    let mut lent = values(alloc, newest)?;
-    lent.sort_by(|x, y| compare(x, y))?;
-    Ok(lent)
-}
-
-// The items of the tree, as they stand there.
-fn values<'a>(alloc: Global, newest: &Newest<'a>) -> Result<Vec<&'a Held>, NoMemory>
-    ensures values { IfOk result (λ lent. lent.items ≡ values newest.now) }
-    ensures ordered { IsOrdered name_cmp newest.now }
-{
-    let lent = newest.values().copied().collect(alloc)?;
-    Ok(lent)
-}
-
-// Which of two items comes first.
-fn compare(x: &Held, y: &Held) -> Ordering
-    ensures { result ≡ item_cmp x.now y.now }
-{
-    x.version
-        .cmp(&y.version)
-        .then_with(|| x.table.cmp(&y.table))
-        .then_with(|| x.key.cmp(&y.key))
 }
 
 // Notes the versions of the items among entries.
