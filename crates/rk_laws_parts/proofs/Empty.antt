@@ -233,6 +233,7 @@ module _ (lane masters backups : ℕ) where
           (λ (t : Tablet). IfSome (wanted_place t.handover.role)
           (λ from. IsBare t.handover.range from (written_in (new_world lane masters backups) master) (records_in (new_world lane masters backups) master)))
           (sym (nothing_of master tablet)) tt;
+      named = All-nil _;
     };
     rebuilds = rebuilds_empty;
     messages = record { of_rows = nothing_kept _; others = nothing_kept _ };

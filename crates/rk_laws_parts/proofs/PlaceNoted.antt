@@ -53,7 +53,7 @@ use Rattle.rk_sound.specs.Calls.{AreHandedOver, IsKnown, IsStagedEnd, ReachAll, 
 use Rattle.rk_sound.specs.Counters.{AreAboveMap, IsNext}
 use Rattle.rk_sound.specs.Rest.{FirstIsDone, IsRest, OnlyIsUnnamed, Waits}
 use Rattle.rk_sound.specs.Tables.{HasItems, has_all_items}
-use Rattle.rk_sound.specs.Receives.{HandedFits, MembersFit}
+use Rattle.rk_sound.specs.Receives.{HandedFits, MembersFit, NamedFit}
 use Rattle.rk_sound.specs.Rebuilds.{HasOwnRange, MarkFits, RowIsRebuilt}
 use Rattle.rk_sound.specs.Messages.{SaysOf, IsOf, PrepareFits, CloseFits, IsOnlyRebuilder, OwnFits, IsOwner, ReleaseFits, RebuildFits, ReadyIn, TransferIn, JoinedIn, RebuiltIn, GrantAgrees, AskAgrees, PulledAgrees, GotAgrees}
 use Rattle.rk_sound.specs.Whole.{IsSound, SoundView, NodesOf, RowsOf, TermsOf, CoverOf, RolesOf, TruthOf, OrderOf, CallsOf, CountersOf, RestOf, TablesOf, ReceivesOf, RebuildsOf, MessagesOf}
@@ -367,6 +367,7 @@ module _ (v : View) (row : Row) (source sfrom target place : ℕ) (sound : Sound
         sound.receives.targets;
     handed_on = each (λ r. HandedFits r v.handovers v.completions v.handed (lineage_of r.phase)) (λ fit. tt) sound.receives.handed_on;
     bare = sound.receives.bare;
+    named = each (λ r. NamedFit v.written r.range (lineage_of r.phase)) (λ fit. tt) sound.receives.named;
   }
 
   -- a row that opens has no marks

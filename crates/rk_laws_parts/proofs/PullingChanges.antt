@@ -83,6 +83,7 @@ module _ (v : View) (master number : ℕ) (token : Pulling → Token) (batches :
         members row (Contains-get_or v.rows k d within) (lineage_of row.phase) refl (sound.receives.targets k d within);
     handed_on = sound.receives.handed_on;
     bare = sound.receives.bare;
+    named = sound.receives.named;
   }
 
   pub view_goes_on : SoundView now

@@ -31,8 +31,8 @@ use Rattle.rk_world.specs.Written.{Written, applied_entries}
 use Rattle.rk_done.specs.Completions.{Completions}
 use Rattle.rk_types.specs.declared.call.Ended.{Ended}
 use Rattle.rk_world.specs.Gather.{Gather}
-use Rattle.rk_sound.specs.Receives.{IsFound}
-use Rattle.rk_sound.specs.Rebuilds.{IsMergedOf, merged_place, IsPieceOf, IsRebuilder, IsRebuildTable, named_items, applied_from}
+use Rattle.rk_sound.specs.Receives.{IsFound, named_items}
+use Rattle.rk_sound.specs.Rebuilds.{IsMergedOf, merged_place, IsPieceOf, IsRebuilder, IsRebuildTable, applied_from}
 use Rattle.rk_sound.specs.Small.{risen, with_one_more}
 use Rattle.rk_laws_parts.proofs.Shares.{named_same, unmarked_from_last}
 use Rattle.rk_laws_parts.proofs.Places.{behind_none}
@@ -108,7 +108,7 @@ records_staged range truth from w item table fits had =
     (sym (applied_staged w item fits)) had
 
 -- an item names no side segment
-named_staged : (range : Range) (from : ℕ) (w : Written) (item : Held) → from ≤ length w.entries → named_items range from (with_one_more w (entries.Held item)) ≡ named_items range from w
+pub named_staged : (range : Range) (from : ℕ) (w : Written) (item : Held) → from ≤ length w.entries → named_items range from (with_one_more w (entries.Held item)) ≡ named_items range from w
 named_staged range from w item within =
     ap (λ (segments : List ℕ). filter (is_in range) (items_of (flat_map (side_entries w.sides) segments)))
     (ap (named range) (unmarked_from_last w.marks from w.entries (entries.Held item) within)

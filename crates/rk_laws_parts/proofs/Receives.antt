@@ -37,7 +37,7 @@ use Rattle.rk_sound.specs.Posts.{StillCounts}
 use Rattle.rk_sound.specs.Roles.{Roles}
 use Rattle.rk_sound.specs.Logs.{stored_of}
 use Rattle.rk_sound.specs.Rest.{FirstIsDone}
-use Rattle.rk_sound.specs.Receives.{IsBare, IsTarget, MembersFit, HandedFits, is_granted, wanted_place}
+use Rattle.rk_sound.specs.Receives.{IsBare, IsTarget, MembersFit, HandedFits, NamedFit, is_granted, named_items, wanted_place}
 use Rattle.rk_sound.specs.Changes.{IsServedIn, MayStage}
 use Rattle.rk_sound.specs.Small.{risen, with_one_more, staged}
 use Rattle.rk_sound.specs.View.{View, truths, rests}
@@ -51,7 +51,7 @@ use Rattle.rk_laws_parts.proofs.Serving.{present}
 use Rattle.rk_laws_parts.proofs.Floors.{floor_above, floor_append}
 use Rattle.rk_laws_parts.proofs.Applied.{applied_within}
 use Rattle.rk_laws_parts.proofs.Targets.{AreBelow, bare_pushed, target_counted, target_pushed}
-use Rattle.rk_laws_parts.proofs.Rebuilders.{last_member}
+use Rattle.rk_laws_parts.proofs.Rebuilders.{last_member, named_staged}
 use Rattle.rk_laws_parts.proofs.Staging.{lane_of, stages}
 
 -- what a source tells of a tablet
@@ -164,6 +164,22 @@ module _ (base : Base) (rows : List Row) (before after : Lane) (completions : �
       (now_cases risen before.handovers after.handovers master row.tablet stages.keeps_differ source.master other.tablet)
   told_staged other has (source ∷ target ∷ third ∷ more) apart lineage fit = tt
 
+  -- what the target of a row names is still the source's
+  names_staged : (range : Range) (lineage : List Member) → All (IsPlaced before.written) lineage → NamedFit before.written range lineage → NamedFit after.written range lineage
+  names_staged range [] placed fit = tt
+  names_staged range (only ∷ []) placed fit = tt
+  names_staged range (source ∷ target ∷ []) placed fit = λ held there.
+      let its : IsPlaced before.written target = All-head (IsPlaced before.written) target [] (All-tail (IsPlaced before.written) source (target ∷ []) placed) in
+      let same : named_items range target.from (after.written target.master) ≡ named_items range target.from (before.written target.master) =
+      ⊎_elim
+      (λ (same : after.written target.master ≡ before.written target.master). ap (named_items range target.from) same)
+      (λ (at : (target.master ≡ master) × (after.written target.master ≡ with_one_more (before.written target.master) (entries.Held item))).
+      ap (named_items range target.from) at.1 ∙ named_staged range target.from (before.written target.master) item its)
+      (written_cases rows before after master row call item stages target.master) in
+      subst (λ (truth : List Entry). Contains (items_of truth) held) (sym (stages.truth_same range source))
+      (fit held (subst (λ (items : List Held). Contains items held) same there))
+  names_staged range (source ∷ target ∷ third ∷ more) placed fit = tt
+
 -- a role that serves waits for nothing
 serving_waits : (role : Role) (P : ℕ → Type 0) → is_serving role ≡ true → IfSome (wanted_place role) P
 serving_waits (roles.Wanting from) P serves = absurd (cc)
@@ -272,4 +288,8 @@ receives_staged v master call value sound may =
       bare = λ q r.
           bare_staged rows before after records live wire master served.row call item served.last stages served.is_last served.here served.lives
           served.serves terms roles q r (old.bare q r);
+      named = λ k d within.
+          let other : Row = slice_index_or rows k d in
+          names_staged base rows before after completions pullings records handed master served.row call item served.last stages served.is_last
+          served.here other.range (lineage_of other.phase) (placed.placed k d within) (old.named k d within);
     }

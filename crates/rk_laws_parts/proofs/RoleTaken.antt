@@ -412,6 +412,7 @@ module _ (v : View) (row : Row) (master : ℕ) (new : Handover) (gather : Gather
         told x (Contains-get_or v.rows k d within) (lineage_of x.phase) refl (sound.receives.handed_on k d within);
     bare = λ q r.
         by (λ q r h. IsBareOf h (v.written q) (v.records q)) q r (λ was. steady_place new.role _ may.steady) (sound.receives.bare q r);
+    named = sound.receives.named;
   }
 
   -- the master rebuilds no row of the tablet

@@ -10,7 +10,7 @@ use Rattle.rk_tablet_map.specs.Phase.{lineage_of}
 use Rattle.rk_world.specs.Base.{no_base}
 use Rattle.rk_world.specs.Ledger.{asked_by}
 use Rattle.rk_world.specs.World.{backup_at, lives, log_in, records_in, written_in}
-use Rattle.rk_sound.specs.Receives.{HandedFits, IsBare, MembersFit, wanted_place}
+use Rattle.rk_sound.specs.Receives.{HandedFits, IsBare, MembersFit, NamedFit, wanted_place}
 use Rattle.rk_sound.specs.Rebuilds.{HasOwnRange, MarkFits, RowIsRebuilt}
 use Rattle.rk_sound.specs.Messages.{IsRecordAt, Says, SaysOf}
 use Rattle.rk_sound.specs.Asked.{Asked, IsLastCall, IsRequest, RequestFits, RequestSays, WasAsked}
@@ -26,6 +26,7 @@ small_receives = record {
   bare = λ q r. each_tablet
       (λ n t tablet. IfSome (wanted_place tablet.handover.role) (λ from. IsBare tablet.handover.range from (written_in small_world q) (records_in small_world q)))
       tt (λ n t apart. tt) q r;
+  named = all_one (λ row. NamedFit (written_in small_world) row.range (lineage_of row.phase)) small_row tt;
 }
 
 -- nothing is rebuilt, and nothing is marked

@@ -2,7 +2,7 @@
 -- what an earlier rebuild wrote that was given up tells nothing new. So no acknowledged call is lost with a master, and none
 -- comes back in another order; the steps that read, merge and take a Rebuilt need it.
 use Rattle.std.specs.Prelude.{◌≡◌, IfSome, ◌≤◌, ◌<◌, ℕ, suc, ◌-◌, ◌+◌, ◌==◌, Bool, true, false, not, nat_le, if◌then◌else◌, List, [], ◌∷◌, ◌++◌, None, Contains, All, length, map, filter, take, drop, slice_index_or, is_some, ⊤, ◌⊎◌, Option}
-use Rattle.std.specs.List.{prefix_len, list_any, flat_map}
+use Rattle.std.specs.List.{prefix_len, list_any}
 use Rattle.rk_types.specs.NumberMap.{EachIn}
 use Rattle.rk_types.specs.declared.call.Ended.{Ended}
 use Rattle.rk_types.specs.declared.held.Held.{Held}
@@ -36,7 +36,7 @@ use Rattle.rk_world.specs.Master.{touches}
 use Rattle.rk_world.specs.Rebuilds.{own_place}
 use Rattle.rk_world.specs.Written.{Written, member_material, applied_entries}
 use Rattle.rk_sound.specs.Logs.{IsFirstPart, is_main, stored_of}
-use Rattle.rk_sound.specs.Receives.{IsFound}
+use Rattle.rk_sound.specs.Receives.{IsFound, named_items}
 
 -- rebuilds read from this backup
 abbrev pub READ_BACKUP : ℕ
@@ -132,12 +132,6 @@ pub record IsRebuildTable (range : Range) (truth own : List Entry) (records : Li
 abbrev pub merged_place : Role → Option ℕ
 merged_place (roles.Rebuilding from entry) = entry
 merged_place role = None
-
--- the items of a range in the side segments that a master's unmarked entries name, applied or not
-abbrev pub named_items : Range → ℕ → Written → List Held
-named_items range from written =
-    filter (is_in range)
-    (items_of (flat_map (side_entries written.sides) (named range (unmarked_from written.marks from written.entries))))
 
 -- a master that rebuilds a row: `truth` is the row's, `own` counts of its own entries that are not marked, and `stored` and `known`
 -- tell what backup 1 stores of each master, and is known to store

@@ -22,7 +22,8 @@ use Rattle.rk_priority.specs.Hashes.{contains}
 use Rattle.rk_overlay.specs.Newest.{is_of}
 use Rattle.rk_overlay.specs.Overlay.{newest_items}
 use Rattle.rk_world.specs.Ends.{items_of}
-use Rattle.rk_world.specs.Material.{counting, side_entries, joined_from}
+use Rattle.rk_world.specs.Marks.{unmarked_from}
+use Rattle.rk_world.specs.Material.{counting, side_entries, joined_from, named}
 use Rattle.rk_world.specs.Tablet.{Pulling}
 use Rattle.rk_world.specs.RoleTests.{is_receiving}
 use Rattle.rk_world.specs.Master.{touches}
@@ -171,6 +172,19 @@ HandedFits row handovers completions handed (source ∷ target ∷ []) =
     → IsHandedBy (get handed row.tablet) (handovers source.master row.tablet) (completions source.master row.tablet)
 HandedFits row handovers completions handed _ = ⊤
 
+-- the items of a range in the side segments that a master's unmarked entries name, applied or not
+abbrev pub named_items : Range → ℕ → Written → List Held
+named_items range from written =
+    filter (is_in range)
+    (items_of (flat_map (side_entries written.sides) (named range (unmarked_from written.marks from written.entries))))
+
+-- of two members, the items of a range in the side segments that the last one names are of the first one's truth
+abbrev pub NamedFit : (ℕ → Written) → Range → List Member → Type 0
+NamedFit written range (first ∷ last ∷ []) =
+    (item : Held) → Contains (named_items range last.from (written last.master)) item
+    → Contains (items_of (member_truth written range first)) item
+NamedFit written range lineage = ⊤
+
 -- a master that made ready for a tablet has nothing of it: its entries begin at this place, and none stands there, nor in its table
 pub record IsBare (range : Range) (from : ℕ) (written : Written) (records : List Held) : Type 0 where
   pub placed : from ≤ length written.entries
@@ -189,3 +203,5 @@ pub record Receives (rows : List Row) (written : ℕ → Written) (handovers : �
       (master tablet : ℕ)
       → IfSome (wanted_place (handovers master tablet).role)
       (λ from. IsBare (handovers master tablet).range from (written master) (records master))
+  -- what the last of two members names is the first one's, dead or alive
+  pub named : All (λ row. NamedFit written row.range (lineage_of row.phase)) rows
