@@ -371,7 +371,7 @@ module _ (v : View) (row : Row) (source sfrom target place : ℕ) (sound : Sound
   }
 
   -- a row that opens has no marks
-  unmarked : (q : ℕ) (mark : Mark) → MarkFits old q (v.handovers q row.tablet) (v.live q) mark → ⊥
+  unmarked : (q : ℕ) (mark : Mark) → MarkFits old q (v.handovers q row.tablet) (v.live q) (v.written q) mark → ⊥
   unmarked q mark fits =
       let same : Opening source sfrom target None ≡ Rebuilding fits.rebuilt.0 fits.rebuilt.1 = fits.rebuilt.2 in absurd (cc)
 
@@ -383,9 +383,9 @@ module _ (v : View) (row : Row) (source sfrom target place : ℕ) (sound : Sound
         (λ fit. tt) sound.rebuilds.rebuilt;
     marks = λ q.
         each
-        (λ r. All (λ mark. mark.tablet ≡ r.tablet → MarkFits r q (v.handovers q r.tablet) (v.live q) mark) (v.written q).marks)
-        (All-weaker (λ mark. mark.tablet ≡ row.tablet → MarkFits old q (v.handovers q row.tablet) (v.live q) mark)
-        (λ mark. mark.tablet ≡ row.tablet → MarkFits new q (v.handovers q row.tablet) (v.live q) mark)
+        (λ r. All (λ mark. mark.tablet ≡ r.tablet → MarkFits r q (v.handovers q r.tablet) (v.live q) (v.written q) mark) (v.written q).marks)
+        (All-weaker (λ mark. mark.tablet ≡ row.tablet → MarkFits old q (v.handovers q row.tablet) (v.live q) (v.written q) mark)
+        (λ mark. mark.tablet ≡ row.tablet → MarkFits new q (v.handovers q row.tablet) (v.live q) (v.written q) mark)
         (λ mark fits its. absurd (unmarked q mark (fits its))) (v.written q).marks)
         (sound.rebuilds.marks q);
     pieces = λ q.

@@ -1,9 +1,9 @@
 -- What a master that rebuilds has, once a write was staged.
 use Rattle.std.proofs.Common.{refl, ◌≡◌, ℕ, ◌≤◌, ◌<◌, ◌-◌, suc, true, false, List, [], ◌∷◌, ◌++◌, length, Some, None, sym, ap, ◌∙◌, subst, ⊎_elim, arith}
-use Rattle.std.specs.Prelude.{drop, filter, take, ◌==◌, Option, IfSome, None}
-use Rattle.std.specs.List.{All, Contains, flat_map}
+use Rattle.std.specs.Prelude.{drop, filter, take, ◌==◌, Bool, Option, IfSome, None}
+use Rattle.std.specs.List.{All, Contains, flat_map, list_any}
 use Rattle.std.proofs.lemmas.Bool.{cases_lt, eq-eqb, false≢true, or_left, or_right}
-use Rattle.std.proofs.lemmas.List.{take-append-le, drop-append-le, length-append, length-drop}
+use Rattle.std.proofs.lemmas.List.{append-nil, take-append-le, drop-append-le, length-append, length-drop}
 use Rattle.std.proofs.lemmas.List.Elements.{All-contains}
 use Rattle.std.proofs.lemmas.Option.{IfSome_then}
 use Rattle.rk_types.specs.declared.held.Held.{Held}
@@ -32,9 +32,9 @@ use Rattle.rk_done.specs.Completions.{Completions}
 use Rattle.rk_types.specs.declared.call.Ended.{Ended}
 use Rattle.rk_world.specs.Gather.{Gather}
 use Rattle.rk_sound.specs.Receives.{IsFound, named_items}
-use Rattle.rk_sound.specs.Rebuilds.{IsMergedOf, merged_place, IsPieceOf, IsRebuilder, IsRebuildTable, applied_from}
+use Rattle.rk_sound.specs.Rebuilds.{IsMergedOf, has_merged, merged_place, IsPieceOf, IsRebuilder, IsRebuildTable, applied_from}
 use Rattle.rk_sound.specs.Small.{risen, with_one_more}
-use Rattle.rk_laws_parts.proofs.Shares.{named_same, unmarked_from_last}
+use Rattle.rk_laws_parts.proofs.Shares.{named_same, unless_marked, unmarked_from_last, unmarked_from_none}
 use Rattle.rk_laws_parts.proofs.Places.{behind_none}
 
 -- the last member of a lineage is one of it
@@ -45,6 +45,20 @@ last_member (only ∷ []) last master is here =
     or_left (only.master == master) false (eq-eqb only.master master (ap (λ (m : Member). m.master) same ∙ here))
 last_member (first ∷ next ∷ more) last master is here =
     or_right (first.master == master) (is_member (next ∷ more) master) (last_member (next ∷ more) last master is here)
+
+-- where none of the unmarked entries from a place on passes a test, none does with one more that does not
+pub unmarked_push : (p : Entry → Bool) (marks : List Mark) (place : ℕ) (list : List Entry) (entry : Entry) → p entry ≡ false → list_any p (unmarked_from marks place list) ≡ false → list_any p (unmarked_from marks place (list ++ entry ∷ [])) ≡ false
+unmarked_push p marks place list entry fails none =
+    ⊎_elim
+    (λ (beyond : length list < place). ap (list_any p) (unmarked_from_none marks place list entry beyond) ∙ none)
+    (λ (within : place ≤ length list).
+    ap (list_any p) (unmarked_from_last marks place list entry within)
+    ∙ one_more (unmarked_from marks place list) (is_marked marks (length list)) none)
+    (cases_lt (length list) place)
+  where
+    one_more : (xs : List Entry) (marked : Bool) → list_any p xs ≡ false → list_any p (xs ++ unless_marked marked entry) ≡ false
+    one_more xs true none = ap (list_any p) (append-nil xs) ∙ none
+    one_more xs false none = behind_none p xs 0 entry none fails
 
 -- a piece of a list stands there with more behind the list
 pub piece_push : {X : Type 0} (first past : ℕ) (xs ys : List X) → past ≤ length xs → take (past - first) (drop first (xs ++ ys)) ≡ take (past - first) (drop first xs)
@@ -92,6 +106,10 @@ merged_staged number from own handover completions gather ends w item entry mark
 serving_merged : (role : Role) → is_serving role ≡ true → merged_place role ≡ None
 serving_merged (roles.Rebuilding from entry) serves = absurd (cc)
 serving_merged role serves = refl
+
+pub serving_unmerged : (role : Role) → is_serving role ≡ true → has_merged role ≡ true → ⊥
+serving_unmerged (roles.Rebuilding from entry) serves merged = absurd (cc)
+serving_unmerged role serves merged = false≢true merged
 
 -- items are the truth's, and found in a table
 abbrev AreShared : List Entry → List Held → List Held → Type 0

@@ -24,6 +24,7 @@ use Rattle.rk_world.specs.declared.work.Mark.{Mark}
 use Rattle.rk_world.specs.Marks.{unmarked_from}
 use Rattle.rk_world.specs.Material.{counting}
 use Rattle.rk_world.specs.Lineage.{is_member, last_of}
+use Rattle.rk_world.specs.Master.{touches}
 use Rattle.rk_world.specs.Rebuilds.{own_place}
 use Rattle.rk_world.specs.Written.{Written, member_material}
 use Rattle.rk_done.specs.Completions.{Completions}
@@ -31,7 +32,7 @@ use Rattle.rk_types.specs.declared.call.Ended.{Ended}
 use Rattle.rk_world.specs.Gather.{Gather}
 use Rattle.rk_sound.specs.Rows.{AreApart}
 use Rattle.rk_sound.specs.Logs.{stored_of}
-use Rattle.rk_sound.specs.Rebuilds.{HasOwnRange, IsOfRange, IsRebuilder, MarkFits, MarkedFit, READ_BACKUP, TellNoMore, has_merged, marked_entries, member_marked, member_stored, stored_count, RowIsRebuilt}
+use Rattle.rk_sound.specs.Rebuilds.{HasOwnRange, IsOfRange, IsRebuilder, MarkFits, MarkedFit, READ_BACKUP, StandsLast, TellNoMore, has_merged, marked_entries, member_marked, member_stored, stored_count, RowIsRebuilt}
 use Rattle.rk_sound.specs.Changes.{IsServedIn, MayStage}
 use Rattle.rk_sound.specs.Small.{risen, with_one_more, staged}
 use Rattle.rk_sound.specs.View.{View, truths}
@@ -42,7 +43,7 @@ use Rattle.rk_laws_parts.proofs.Differs.{differs_same}
 use Rattle.rk_laws_parts.proofs.Staged.{counted_same, first_apart, formed_apart, row_cases, written_cases, written_grown}
 use Rattle.rk_laws_parts.proofs.Applied.{applied_within}
 use Rattle.rk_laws_parts.proofs.Grows.{Extends, counting_extends, extends_behind, extends_itself, stored_push, take_extends, tells_extended}
-use Rattle.rk_laws_parts.proofs.Rebuilders.{last_member, piece_push, rebuilder_apart, rebuilder_serving}
+use Rattle.rk_laws_parts.proofs.Rebuilders.{last_member, piece_push, rebuilder_apart, rebuilder_serving, serving_unmerged, unmarked_push}
 use Rattle.rk_laws_parts.proofs.Staging.{lane_of, stages}
 
 -- a master that rebuilds a row, by what masters have written and backups store
@@ -51,13 +52,14 @@ IsRebuilderIn logs written stored row lineage master truth handover completions 
     IsRebuilder row lineage master truth (member_material written row.range (member_at master (own_place handover.role)))
     (λ q. known_of (logs q) READ_BACKUP) (λ q. stored_of stored q READ_BACKUP) (written master) handover completions gather ends table
 
--- a mark fits a tablet of the same term that has merged as much
-pub mark_same : (row : Row) (master : ℕ) (old new : Handover) (live : Bool) (mark : Mark) → new.term ≡ old.term → has_merged new.role ≡ has_merged old.role → MarkFits row master old live mark → MarkFits row master new live mark
-mark_same row master old new live mark term merged fit = record {
+-- a mark fits a tablet of the same term that has merged as much, where its piece still stands last
+pub mark_same : (row : Row) (master : ℕ) (old new : Handover) (live : Bool) (was is : Written) (mark : Mark) → new.term ≡ old.term → has_merged new.role ≡ has_merged old.role → StandsLast row.range is mark → MarkFits row master old live was mark → MarkFits row master new live is mark
+mark_same row master old new live was is mark term merged behind fit = record {
   rebuilt = fit.rebuilt;
   within = fit.within;
   present = fit.present;
   by_rebuilder = λ its. let by = fit.by_rebuilder its in (by.0, term ∙ by.1, merged ∙ by.2);
+  behind = behind;
 }
 
 module _ (rows : List Row) (before after : Lane) (stored : ℕ → Segments) (completions : ℕ → ℕ → Completions) (gathers : ℕ → ℕ → Gather) (merged : ℕ → ℕ → List Ended) (records : ℕ → List Held) (live : ℕ → Bool) (master : ℕ) (row : Row) (call : Call) (item : Held) (last : Member) (stages : Stages rows before after master row call item) (is_last : last_of (lineage_of row.phase) ≡ Some last) (here : last.master ≡ master) (lives : live master ≡ true) (serves : is_serving (before.handovers master row.tablet).role ≡ true) (fits : (before.written master).applied ≤ length (before.written master).entries) where
@@ -209,17 +211,49 @@ module _ (rows : List Row) (before after : Lane) (stored : ℕ → Segments) (co
     marked_staged other has lineage apart (ap lineage_of is) fit.1,
   )
 
+  -- a mark of a master fits before
+  abbrev FitsBefore : Row → ℕ → Mark → Type 0
+  FitsBefore other q mark = MarkFits other q (before.handovers q other.tablet) (live q) (before.written q) mark
+
+  -- and after
+  abbrev FitsAfter : Row → ℕ → Mark → Type 0
+  FitsAfter other q mark = MarkFits other q (after.handovers q other.tablet) (live q) (after.written q) mark
+
+  -- a master that staged an item of a row's range has no mark of the row
+  mark_outside : (other : Row) → Contains rows other → (q : ℕ) (mark : Mark) → q ≡ master → FitsBefore other q mark → has_key other.range item.table item.key ≡ false
+  mark_outside other has q mark at fit =
+      ⊎_elim
+      (λ (its : other ≡ row).
+      let by = fit.by_rebuilder (fit.present (ap live at ∙ lives)) in
+      let same : before.handovers q other.tablet ≡ before.handovers master row.tablet =
+      ap (λ (n : ℕ). before.handovers n other.tablet) at ∙ ap (λ (r : Row). before.handovers master r.tablet) its in
+      absurd (serving_unmerged (before.handovers q other.tablet).role (ap (λ (h : Handover). is_serving h.role) same ∙ serves) by.2))
+      (λ (apart : other.tablet ≡ row.tablet → ⊥). stages.outside other has apart)
+      (row_cases rows before after master row call item stages other has)
+
+  -- so its pieces still stand last
+  last_staged : (other : Row) → Contains rows other → (q : ℕ) (mark : Mark) → FitsBefore other q mark → StandsLast other.range (after.written q) mark
+  last_staged other has q mark fit =
+      ⊎_elim
+      (λ (same : after.written q ≡ before.written q). subst (λ (w : Written). StandsLast other.range w mark) (sym same) fit.behind)
+      (λ (at : (q ≡ master) × (after.written q ≡ with_one_more (before.written q) (entries.Held item))).
+      subst (λ (w : Written). StandsLast other.range w mark) (sym at.1)
+      (unmarked_push (touches other.range) (before.written q).marks mark.first (before.written q).entries (entries.Held item)
+      (mark_outside other has q mark at.0 fit) fit.behind))
+      (written_cases rows before after master row call item stages q)
+
   -- the marks of a master
-  pub marks_staged : (other : Row) (q : ℕ) → All (λ mark. mark.tablet ≡ other.tablet → MarkFits other q (before.handovers q other.tablet) (live q) mark) (before.written q).marks → All (λ mark. mark.tablet ≡ other.tablet → MarkFits other q (after.handovers q other.tablet) (live q) mark) (after.written q).marks
-  marks_staged other q old =
+  pub marks_staged : (other : Row) → Contains rows other → (q : ℕ) → All (λ mark. mark.tablet ≡ other.tablet → FitsBefore other q mark) (before.written q).marks → All (λ mark. mark.tablet ≡ other.tablet → FitsAfter other q mark) (after.written q).marks
+  marks_staged other has q old =
       let grown = written_grown rows before after master row call item stages q in
-      subst (λ (marks : List Mark). All (λ mark. mark.tablet ≡ other.tablet → MarkFits other q (after.handovers q other.tablet) (live q) mark) marks) (sym grown.marks)
-      (All-weaker (λ (mark : Mark). mark.tablet ≡ other.tablet → MarkFits other q (before.handovers q other.tablet) (live q) mark)
-      (λ (mark : Mark). mark.tablet ≡ other.tablet → MarkFits other q (after.handovers q other.tablet) (live q) mark)
+      subst (λ (marks : List Mark). All (λ mark. mark.tablet ≡ other.tablet → FitsAfter other q mark) marks) (sym grown.marks)
+      (All-weaker (λ (mark : Mark). mark.tablet ≡ other.tablet → FitsBefore other q mark)
+      (λ (mark : Mark). mark.tablet ≡ other.tablet → FitsAfter other q mark)
       (λ (mark : Mark) fits its.
-      mark_same other q (before.handovers q other.tablet) (after.handovers q other.tablet) (live q) mark
+      mark_same other q (before.handovers q other.tablet) (after.handovers q other.tablet) (live q) (before.written q) (after.written q) mark
       (counted_same rows before after master row call item stages (λ (handover : Handover). handover.term) (λ tablet. refl) q other.tablet)
       (counted_same rows before after master row call item stages (λ (handover : Handover). has_merged handover.role) (λ tablet. refl) q other.tablet)
+      (last_staged other has q mark (fits its))
       (fits its))
       (before.written q).marks old)
 
@@ -267,8 +301,8 @@ rebuilds_staged v master call value sound may =
           rebuilt_staged rows before after stored completions gathers merged records live master served.row call item served.last stages served.is_last served.here served.lives served.serves fits other
           (Contains-get_or rows k d within) other.phase (sure other) marked (formed_apart other.phase (placed.formed k d within)) refl (old.rebuilt k d within);
       marks = λ q k d within.
-          marks_staged rows before after stored completions gathers merged records live master served.row call item served.last stages served.is_last served.here served.lives served.serves fits (slice_index_or rows k d) q
-          (old.marks q k d within);
+          marks_staged rows before after stored completions gathers merged records live master served.row call item served.last stages served.is_last served.here served.lives served.serves fits (slice_index_or rows k d)
+          (Contains-get_or rows k d within) q (old.marks q k d within);
       pieces = λ q k d within.
           pieces_staged rows before after stored completions gathers merged records live master served.row call item served.last stages served.is_last served.here served.lives served.serves fits (slice_index_or rows k d) q
           (marked q) (old.pieces q k d within);

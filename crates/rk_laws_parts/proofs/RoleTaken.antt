@@ -464,7 +464,7 @@ module _ (v : View) (row : Row) (master : ℕ) (new : Handover) (gather : Gather
         let x : Row = slice_index_or v.rows k d in
         row_rebuilt x (Contains-get_or v.rows k d within) x.phase refl (sound.rebuilds.rebuilt k d within);
     marks = λ q k d within m e inside.
-        by_row (λ x q h. (slice_index_or (v.written q).marks m e).tablet ≡ x.tablet → MarkFits x q h (v.live q) (slice_index_or (v.written q).marks m e))
+        by_row (λ x q h. (slice_index_or (v.written q).marks m e).tablet ≡ x.tablet → MarkFits x q h (v.live q) (v.written q) (slice_index_or (v.written q).marks m e))
         (slice_index_or v.rows k d) (Contains-get_or v.rows k d within) q
         (λ was its.
         let fit = was its in record {
@@ -473,6 +473,7 @@ module _ (v : View) (row : Row) (master : ℕ) (new : Handover) (gather : Gather
           present = fit.present;
           by_rebuilder = λ of_term.
               let told = fit.by_rebuilder of_term in absurd (not_rebuilt (lineage_of row.phase) told.0 told.1);
+          behind = fit.behind;
         })
         (sound.rebuilds.marks q k d within m e inside);
     pieces = sound.rebuilds.pieces;

@@ -75,7 +75,7 @@ drop_none : (place : ℕ) (list : List Entry) (entry : Entry) → length list < 
 drop_none place list entry beyond =
     drop_all place (list ++ entry ∷ []) (longer list entry place beyond) ∙ sym (drop_all place list (omega (arith, beyond)))
 
-unmarked_from_none : (marks : List Mark) (place : ℕ) (list : List Entry) (entry : Entry) → length list < place → unmarked_from marks place (list ++ entry ∷ []) ≡ unmarked_from marks place list
+pub unmarked_from_none : (marks : List Mark) (place : ℕ) (list : List Entry) (entry : Entry) → length list < place → unmarked_from marks place (list ++ entry ∷ []) ≡ unmarked_from marks place list
 unmarked_from_none marks place list entry beyond = ap (unmarked marks place) (drop_none place list entry beyond)
 
 -- an item names no side segment

@@ -36,7 +36,7 @@ small_rebuilds = record {
       (λ row. RowIsRebuilt row row.phase (small_truths row) (log_in small_world) (written_in small_world) (backup_at small_world) small_view.handovers small_view.completions small_view.gathers small_view.merged (records_in small_world) (lives small_world))
       small_row tt;
   marks = λ q. all_one
-      (λ row. All (λ mark. mark.tablet ≡ row.tablet → MarkFits row q (small_view.handovers q row.tablet) (lives small_world q) mark) (written_in small_world q).marks)
+      (λ row. All (λ mark. mark.tablet ≡ row.tablet → MarkFits row q (small_view.handovers q row.tablet) (lives small_world q) (written_in small_world q) mark) (written_in small_world q).marks)
       small_row (All-nil _);
   pieces = λ q. all_one
       (λ row. All (λ mark. mark.tablet ≡ row.tablet → HasOwnRange row.range (written_in small_world q).entries mark) (written_in small_world q).marks)

@@ -203,9 +203,14 @@ abbrev pub has_merged : Role → Bool
 has_merged (roles.Rebuilding from entry) = is_some entry
 has_merged role = false
 
+-- a marked piece stands behind its master's own entries: from it on there is no unmarked one of the range
+abbrev pub StandsLast : Range → Written → Mark → Type 0
+StandsLast range written mark =
+    list_any (touches range) (unmarked_from written.marks mark.first written.entries) ≡ false
+
 -- a mark of a row's tablet: there is one only while the row is rebuilt, of at most its term; a living master has one only of
 -- that term, and one of that term is the rebuilding master's, which has merged
-pub record MarkFits (row : Row) (master : ℕ) (handover : Handover) (live : Bool) (mark : Mark) : Type 0 where
+pub record MarkFits (row : Row) (master : ℕ) (handover : Handover) (live : Bool) (written : Written) (mark : Mark) : Type 0 where
   pub rebuilt : (lineage : List Member) × (to : ℕ) × (row.phase ≡ Rebuilding lineage to)
   pub within : mark.term ≤ row.term
   pub present : live ≡ true → mark.term ≡ row.term
@@ -213,6 +218,7 @@ pub record MarkFits (row : Row) (master : ℕ) (handover : Handover) (live : Boo
       mark.term ≡ row.term
       → (row.phase ≡ Rebuilding (lineage_of row.phase) master) × (handover.term ≡ row.term)
       × (has_merged handover.role ≡ true)
+  pub behind : StandsLast row.range written mark
 
 -- an entry of a rebuild of a range: an item of it, or a Carried of just that range
 abbrev pub IsOfRange : Range → Entry → Type 0
@@ -239,7 +245,7 @@ pub record Rebuilds (rows : List Row) (truths : Row → List Entry) (logs : ℕ 
   pub rebuilt : All (λ row. RowIsRebuilt row row.phase (truths row) logs written stored handovers completions gathers merged records live) rows
   pub marks :
       (master : ℕ)
-      → All (λ row. All (λ mark. mark.tablet ≡ row.tablet → MarkFits row master (handovers master row.tablet) (live master) mark)
+      → All (λ row. All (λ mark. mark.tablet ≡ row.tablet → MarkFits row master (handovers master row.tablet) (live master) (written master) mark)
       (written master).marks) rows
   pub pieces :
       (master : ℕ)
