@@ -12,6 +12,7 @@ use Rattle.rk_types.specs.declared.range.Range.{Range}
 use Rattle.rk_outside.specs.Segments.{bytes_of}
 use Rattle.rk_entry.specs.Entries.{entries_of}
 use Rattle.rk_log.specs.Known.{Known, known_length}
+use Rattle.rk_log.specs.declared.ends.EntryEnd.{EntryEnd}
 use Rattle.rk_world.specs.Gather.{Gathered, LAST_MAIN_SEGMENT, is_awaited, next_of, next_segment, next_side, reading_of, with_main, with_read, with_segment}
 use Rattle.rk_sound.specs.Rows.{AreApart}
 use Rattle.rk_sound.specs.Logs.{is_main}
@@ -20,7 +21,7 @@ use Rattle.rk_sound.specs.Rebuilds.{AreRead, IsGathered, IsReadPart}
 -- ---- members are apart
 
 -- none of these members is this master
-abbrev IsAway : ℕ → List Member → Type 0
+abbrev pub IsAway : ℕ → List Member → Type 0
 IsAway master [] = ⊤
 IsAway master (member ∷ others) = (member.master ≢ master) × IsAway master others
 
@@ -72,9 +73,29 @@ NoneBehind known =
     (earlier later : ℕ) → 1 ≤ earlier → earlier < later → is_main later ≡ true → known_length known earlier ≡ 0
     → known_length known later ≡ 0
 
-module _ (known : Known) (stored : ℕ → List ℕ) (gathered : Gathered) (segment : ℕ) (old : IsGathered known stored gathered) where
+-- what is needed has bytes in its segment, and nothing that is needed stands behind a segment of which nothing is known
+pub record NeedsFew (Needed : EntryEnd → Type 0) (known : Known) : Type 0 where
+  pub some : (end : EntryEnd) → Needed end → 1 ≤ end.offset
+  pub behind :
+      (end : EntryEnd) → Needed end → (earlier : ℕ) → 1 ≤ earlier → earlier < end.segment → is_main end.segment ≡ true
+      → known_length known earlier ≡ 0 → ⊥
+
+module _ (Needed : EntryEnd → Type 0) (known : Known) (stored : ℕ → List ℕ) (gathered : Gathered) (segment : ℕ) (few : NeedsFew Needed known) (old : IsGathered Needed known stored gathered) where
+  -- nothing is needed from its next main segment on, where that was never written
+  none_needed : length gathered.main + 1 ≡ segment → IsReadPart Needed known stored segment [] → (end : EntryEnd) → Needed end → is_main end.segment ≡ true → end.segment ≤ length gathered.main
+  none_needed is part end its main =
+      ⊎_elim
+      (λ (behind : length gathered.main < end.segment).
+      ⊎_elim
+      (λ (same : end.segment ≡ segment). absurd (omega (arith, part.needed end its same, few.some end its)))
+      (λ (other : end.segment ≡ segment → ⊥).
+      absurd (few.behind end its segment (omega (arith, is)) (omega (arith, is, behind, other)) main (omega (arith, part.enough))))
+      (cases_eq end.segment segment))
+      (λ (within : end.segment ≤ length gathered.main). within)
+      (cases_lt (length gathered.main) end.segment)
+
   -- its next main segment was read, or was never written
-  main_gathered : (bytes : Option (List ℕ)) → NoneBehind known → length gathered.main + 1 ≡ segment → IsReadPart known stored segment (bytes_of bytes) → IsGathered known stored (with_main gathered bytes)
+  main_gathered : (bytes : Option (List ℕ)) → NoneBehind known → length gathered.main + 1 ≡ segment → IsReadPart Needed known stored segment (bytes_of bytes) → IsGathered Needed known stored (with_main gathered bytes)
   main_gathered None none is part = record {
     main = old.main;
     passed = λ read later behind main.
@@ -84,19 +105,20 @@ module _ (known : Known) (stored : ℕ → List ℕ) (gathered : Gathered) (segm
         (λ (other : later ≡ segment → ⊥).
         none segment later (omega (arith, is)) (omega (arith, is, behind, other)) main nothing)
         (cases_eq later segment);
+    passed_needed = λ read. none_needed is part;
     sides = old.sides;
   }
   main_gathered (Some bytes) none is part = record {
     main = λ place within.
         ⊎_elim
         (λ (before : place < length gathered.main).
-        subst (AreRead known stored (place + 1))
+        subst (AreRead Needed known stored (place + 1))
         (sym (get_or_append_left gathered.main (entries_of bytes ∷ []) [] place before)) (old.main place before))
         (λ (last : length gathered.main ≤ place).
         let at : length gathered.main ≡ place = omega (arith, last, within, length-append gathered.main (entries_of bytes ∷ [])) in
         record {
           bytes = bytes;
-          read = subst (λ (n : ℕ). IsReadPart known stored n bytes) (sym (ap (λ (n : ℕ). n + 1) (sym at) ∙ is)) part;
+          read = subst (λ (n : ℕ). IsReadPart Needed known stored n bytes) (sym (ap (λ (n : ℕ). n + 1) (sym at) ∙ is)) part;
           spelled = get_or_push gathered.main (entries_of bytes) [] place at;
         })
         (cases_lt place (length gathered.main));
@@ -105,18 +127,24 @@ module _ (known : Known) (stored : ℕ → List ℕ) (gathered : Gathered) (segm
         let last : length gathered.main + 1 ≡ LAST_MAIN_SEGMENT = eqb-true (length gathered.main + 1) LAST_MAIN_SEGMENT read in
         let less = ltb-true later _ main in
         absurd (omega (arith, size, last, behind, less));
+    passed_needed = λ read end its main.
+        let size = length-append gathered.main (entries_of bytes ∷ []) in
+        let last : length gathered.main + 1 ≡ LAST_MAIN_SEGMENT = eqb-true (length gathered.main + 1) LAST_MAIN_SEGMENT read in
+        let less = ltb-true end.segment _ main in
+        omega (arith, size, last, less);
     sides = old.sides;
   }
 
   -- one of its segments was read, which is the next one
-  pub segment_read : (range : Range) (bytes : Option (List ℕ)) → NoneBehind known → next_segment range gathered ≡ Some segment → IsReadPart known stored segment (bytes_of bytes) → IsGathered known stored (with_segment gathered segment bytes)
+  pub segment_read : (range : Range) (bytes : Option (List ℕ)) → NoneBehind known → next_segment range gathered ≡ Some segment → IsReadPart Needed known stored segment (bytes_of bytes) → IsGathered Needed known stored (with_segment gathered segment bytes)
   segment_read range bytes none next part =
-      cond_both gathered.main_read _ (with_main gathered bytes) (IsGathered known stored)
+      cond_both gathered.main_read _ (with_main gathered bytes) (IsGathered Needed known stored)
       (λ e. record {
         main = old.main;
         passed = old.passed;
+        passed_needed = old.passed_needed;
         sides =
-            each_insert (λ n entries. AreRead known stored n entries) gathered.sides segment (entries_of (bytes_of bytes)) old.sides
+            each_insert (λ n entries. AreRead Needed known stored n entries) gathered.sides segment (entries_of (bytes_of bytes)) old.sides
             (record { bytes = bytes_of bytes; read = part; spelled = refl });
       })
       (λ e.

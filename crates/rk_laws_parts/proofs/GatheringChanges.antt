@@ -1,5 +1,5 @@
 -- A view stays sound when what is gathered for a tablet goes on: it is still that of the row, and what was read of each segment is a
--- first part that holds what its master knew to be stored.
+-- first part that holds what its master knew to be stored, and what is needed.
 use Rattle.std.proofs.Common.{◌≡◌, ℕ, List, sym, subst, refl, true}
 use Rattle.std.specs.Prelude.{slice_index_or, Option, None, IfSome}
 use Rattle.std.specs.List.{Contains}

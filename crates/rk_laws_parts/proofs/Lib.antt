@@ -33,6 +33,8 @@ pub mod Waiting
 pub mod Targets
 pub mod Grows
 pub mod Rebuilders
+pub mod Gathered
+pub mod Needed
 pub mod Tables
 pub mod Receives
 pub mod Rebuilds
@@ -48,7 +50,6 @@ pub mod PullingChanges
 pub mod HashWanted
 pub mod HashesResolved
 pub mod TokenPassed
-pub mod Gathered
 pub mod GatheringChanges
 pub mod SegmentGathered
 pub mod Steady

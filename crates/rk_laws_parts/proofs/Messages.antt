@@ -1,5 +1,5 @@
 -- Laws of the part Messages: what a message that is sent, and tablets that look the same, keep of it.
-use Rattle.std.proofs.Common.{sym, subst, ◌∙◌}
+use Rattle.std.proofs.Common.{false, sym, subst, ◌∙◌}
 use Rattle.std.specs.Prelude.{◌≡◌, ◌≤◌, ◌<◌, ◌-◌, ℕ, Bool, List, [], ◌∷◌, Option, None, All, slice_index_or}
 use Rattle.std.specs.List.{flat_map}
 use Rattle.std.proofs.lemmas.List.Elements.{All-weaker}
@@ -12,7 +12,8 @@ use Rattle.rk_types.specs.declared.node.Node.TheVariants as nodes
 use Rattle.rk_outside.specs.Segments.{Segments, bytes_of as copied_bytes}
 use Rattle.rk_entry.specs.declared.entry.Entry.{Entry}
 use Rattle.rk_log.specs.Known.{Known, nothing}
-use Rattle.rk_log.specs.Log.{Log}
+use Rattle.rk_log.specs.Log.{Log, known_of}
+use Rattle.rk_log.specs.declared.ends.EntryEnd.{EntryEnd}
 use Rattle.rk_table.specs.Items.{at_hash}
 use Rattle.rk_table.specs.Scans.{batch_at, next_token}
 use Rattle.rk_done.specs.Completions.{Completions}
@@ -39,11 +40,12 @@ use Rattle.rk_world.specs.Written.{Written}
 use Rattle.rk_sound.specs.Posts.{post_of}
 use Rattle.rk_sound.specs.Logs.{stored_of}
 use Rattle.rk_sound.specs.Receives.{scan_items}
-use Rattle.rk_sound.specs.Rebuilds.{READ_BACKUP, IsReadPart}
+use Rattle.rk_sound.specs.Rebuilds.{READ_BACKUP, IsReadPart, NeededOf}
 use Rattle.rk_sound.specs.Messages.{SaysOf, IfMaster, ByMaster, IsOf, IsOfTarget, PrepareFits, CloseFits, RebuildFits, OwnFits, IsOwner, ReleaseFits, ReadyIn, TransferIn, IsFrozenSource, JoinedIn, RebuiltIn, GrantAgrees, AskAgrees, IsFromSource, PulledAgrees, GotAgrees, CopyIn}
 use Rattle.rk_sound.specs.View.{View}
 use Rattle.rk_sound.specs.Whole.{MessagesOf}
 use Rattle.rk_laws_parts.proofs.Seen.{LooksAs, AllLook}
+use Rattle.rk_laws_parts.proofs.Needed.{part_weaker}
 
 -- what is said where a node is a master, it says as well where that follows
 pub if_master : (node : Node) (Fits Gives : ℕ → Type 0) → ((master : ℕ) → Fits master → Gives master) → IfMaster node Fits → IfMaster node Gives
@@ -161,21 +163,30 @@ got_looks row written written' handovers handovers' live lineage from master got
 
 -- ---- between a rebuilding master and backup 1
 
-copy_looks : (phase : Phase) (logs logs' : ℕ → Log) (stored : ℕ → Segments) (live : ℕ → Bool) (copy : CopySegment) → (logs' copy.master).known ≡ (logs copy.master).known → CopyIn phase logs stored live copy → CopyIn phase logs' stored live copy
-copy_looks (Rebuilding lineage to) logs logs' stored live copy same says = (
-  says.0,
-  subst
-      (λ (known : List Known).
-      IsReadPart (slice_index_or known (READ_BACKUP - 1) nothing) (stored_of stored copy.master READ_BACKUP) copy.segment
-      (copied_bytes copy.bytes))
-      (sym same) says.1,
-)
-copy_looks phase logs logs' stored live copy same says = says
+-- no more is needed of a dead master
+abbrev pub NeedNoMore : (written written' : ℕ → Written) (live : ℕ → Bool) → Type 0
+NeedNoMore written written' live =
+    (row : Row) (lineage : List Member) (q : ℕ) → live q ≡ false → (end : EntryEnd) → NeededOf row written' lineage q end
+    → NeededOf row written lineage q end
+
+module _ (logs logs' : ℕ → Log) (written written' : ℕ → Written) (stored : ℕ → Segments) (live : ℕ → Bool) (copy : CopySegment) (same : (logs' copy.master).known ≡ (logs copy.master).known) (less : NeedNoMore written written' live) where
+  copy_looks : (row : Row) (phase : Phase) → CopyIn row phase logs written stored live copy → CopyIn row phase logs' written' stored live copy
+  copy_looks row (Rebuilding lineage to) says = (
+    says.0,
+    part_weaker (NeededOf row written lineage copy.master) (NeededOf row written' lineage copy.master) (known_of (logs' copy.master) READ_BACKUP)
+        (stored_of stored copy.master READ_BACKUP) copy.segment (copied_bytes copy.bytes) (less row lineage copy.master says.0)
+        (subst
+        (λ (known : List Known).
+        IsReadPart (NeededOf row written lineage copy.master) (slice_index_or known (READ_BACKUP - 1) nothing)
+        (stored_of stored copy.master READ_BACKUP) copy.segment (copied_bytes copy.bytes))
+        (sym same) says.1),
+  )
+  copy_looks row phase says = says
 
 -- ---- all kinds
 
 -- what a message says of a row, it says where each tablet looks as before, and backups are known to hold as much
-module _ (v : View) (logs' : ℕ → Log) (written' : ℕ → Written) (handovers' : ℕ → ℕ → Handover) (looks : AllLook v.written written' v.handovers handovers') (same : (q : ℕ) → (logs' q).known ≡ (v.logs q).known) where
+module _ (v : View) (logs' : ℕ → Log) (written' : ℕ → Written) (handovers' : ℕ → ℕ → Handover) (looks : AllLook v.written written' v.handovers handovers') (same : (q : ℕ) → (logs' q).known ≡ (v.logs q).known) (less : NeedNoMore v.written written' v.live) where
   abbrev SaysBefore : Row → Node → Node → Body → Type 0
   SaysBefore row = SaysOf row v.logs v.written v.stored v.handovers v.completions v.merged v.live v.handed
 
@@ -255,7 +266,7 @@ module _ (v : View) (logs' : ℕ → Log) (written' : ℕ → Written) (handover
       (λ m. RebuildFits row (handovers' m row.tablet) (v.live m) m rebuild)
       (λ m. rebuild_looks row (v.handovers m row.tablet) (handovers' m row.tablet) (v.live m) m rebuild (looks.each m row.tablet)) says
   says_of_looks row from to (bodies.Copy copy) says = λ is.
-      copy_looks row.phase v.logs logs' v.stored v.live copy (same copy.master) (says is)
+      copy_looks v.logs logs' v.written written' v.stored v.live copy (same copy.master) less row row.phase (says is)
   says_of_looks row from to (bodies.Rebuilt rebuilt) says =
       by_master from
       (λ m. IsOf row rebuilt.tenure

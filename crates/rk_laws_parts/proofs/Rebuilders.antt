@@ -12,6 +12,7 @@ use Rattle.rk_types.specs.declared.range.Range.{Range}
 use Rattle.rk_entry.specs.declared.entry.Entry.{Entry}
 use Rattle.rk_entry.specs.declared.entry.Entry.TheVariants as entries
 use Rattle.rk_log.specs.Known.{Known}
+use Rattle.rk_log.specs.declared.ends.EntryEnd.{EntryEnd}
 use Rattle.rk_table.specs.Items.{is_in}
 use Rattle.rk_transfer.specs.Handover.{is_serving}
 use Rattle.rk_transfer.specs.declared.handover.Handover.{Handover}
@@ -142,8 +143,8 @@ placed_staged : (from : ℕ) (w : Written) (item : Held) → from ≤ length w.e
 placed_staged from w item within = omega (arith, within, length-append w.entries (entries.Held item ∷ []))
 
 -- a master that rebuilds a row, and wrote an item of another one
-pub rebuilder_apart : (row : Row) (lineage : List Member) (master : ℕ) (truth own : List Entry) (known : ℕ → Known) (stored : ℕ → ℕ → List ℕ) (w : Written) (handover : Handover) (completions : Completions) (gather : Gather) (ends : List Ended) (table : List Held) (item : Held) → w.applied ≤ length w.entries → All (λ mark. mark.past ≤ length w.entries) w.marks → has_key row.range item.table item.key ≡ false → IsRebuilder row lineage master truth own known stored w handover completions gather ends table → IsRebuilder row lineage master truth own known stored (with_one_more w (entries.Held item)) handover completions gather ends table
-rebuilder_apart row lineage master truth own known stored w handover completions gather ends table item fits marked outside was =
+pub rebuilder_apart : (row : Row) (lineage : List Member) (master : ℕ) (truth own : List Entry) (Needed : ℕ → EntryEnd → Type 0) (known : ℕ → Known) (stored : ℕ → ℕ → List ℕ) (w : Written) (handover : Handover) (completions : Completions) (gather : Gather) (ends : List Ended) (table : List Held) (item : Held) → w.applied ≤ length w.entries → All (λ mark. mark.past ≤ length w.entries) w.marks → has_key row.range item.table item.key ≡ false → IsRebuilder row lineage master truth own Needed known stored w handover completions gather ends table → IsRebuilder row lineage master truth own Needed known stored (with_one_more w (entries.Held item)) handover completions gather ends table
+rebuilder_apart row lineage master truth own Needed known stored w handover completions gather ends table item fits marked outside was =
     let from : ℕ = own_place handover.role in
     record {
       range_is = was.range_is;
@@ -161,8 +162,8 @@ rebuilder_apart row lineage master truth own known stored w handover completions
     }
 
 -- a master that is to rebuild the row and still serves it, as a member of its lineage
-pub rebuilder_serving : (row : Row) (lineage : List Member) (master : ℕ) (truth own own' : List Entry) (known : ℕ → Known) (stored : ℕ → ℕ → List ℕ) (w : Written) (handover : Handover) (completions : Completions) (gather : Gather) (ends : List Ended) (table : List Held) (item : Held) → w.applied ≤ length w.entries → is_serving handover.role ≡ true → is_member lineage master ≡ true → IsRebuilder row lineage master truth own known stored w handover completions gather ends table → IsRebuilder row lineage master truth own' known stored (with_one_more w (entries.Held item)) (risen handover) completions gather ends table
-rebuilder_serving row lineage master truth own own' known stored w handover completions gather ends table item fits serves member was =
+pub rebuilder_serving : (row : Row) (lineage : List Member) (master : ℕ) (truth own own' : List Entry) (Needed : ℕ → EntryEnd → Type 0) (known : ℕ → Known) (stored : ℕ → ℕ → List ℕ) (w : Written) (handover : Handover) (completions : Completions) (gather : Gather) (ends : List Ended) (table : List Held) (item : Held) → w.applied ≤ length w.entries → is_serving handover.role ≡ true → is_member lineage master ≡ true → IsRebuilder row lineage master truth own Needed known stored w handover completions gather ends table → IsRebuilder row lineage master truth own' Needed known stored (with_one_more w (entries.Held item)) (risen handover) completions gather ends table
+rebuilder_serving row lineage master truth own own' Needed known stored w handover completions gather ends table item fits serves member was =
     let from : ℕ = own_place handover.role in
     record {
       range_is = was.range_is;

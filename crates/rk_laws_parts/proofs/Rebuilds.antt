@@ -1,9 +1,9 @@
 -- Laws of the part Rebuilds: what a staged write keeps of it.
-use Rattle.std.proofs.Common.{◌≡◌, ℕ, ◌≤◌, Bool, true, false, List, [], ◌∷◌, ◌++◌, length, Some, refl, sym, ap, ◌∙◌, subst, ⊎_elim}
-use Rattle.std.specs.Prelude.{slice_index_or, drop, take, Option, Bool}
+use Rattle.std.proofs.Common.{cond, inl, ◌≡◌, ℕ, ◌≤◌, Bool, true, false, List, [], ◌∷◌, ◌++◌, length, Some, refl, sym, ap, ◌∙◌, subst, ⊎_elim}
+use Rattle.std.specs.Prelude.{slice_index_or, drop, take, ◌==◌, Option, Bool}
 use Rattle.std.specs.List.{All, Contains}
-use Rattle.std.proofs.lemmas.Bool.{cases_eq, false≢true}
-use Rattle.std.proofs.lemmas.List.Elements.{All-weaker, Contains-get_or}
+use Rattle.std.proofs.lemmas.Bool.{cases_eq, cond-false, cond-true, false≢true, ne_eqb}
+use Rattle.std.proofs.lemmas.List.Elements.{All-contains, All-weaker, Contains-get_or}
 use Rattle.rk_types.specs.declared.call.Call.{Call}
 use Rattle.rk_types.specs.declared.held.Held.{Held}
 use Rattle.rk_types.specs.declared.lineage.Member.{Member}
@@ -12,9 +12,11 @@ use Rattle.rk_outside.specs.Segments.{Segments}
 use Rattle.rk_entry.specs.declared.entry.Entry.{Entry}
 use Rattle.rk_entry.specs.declared.entry.Entry.TheVariants as entries
 use Rattle.rk_log.specs.Known.{Known}
+use Rattle.rk_log.specs.declared.ends.EntryEnd.{EntryEnd}
 use Rattle.rk_log.specs.Log.{Log, known_of, with_entry}
 use Rattle.rk_transfer.specs.Handover.{is_serving}
 use Rattle.rk_transfer.specs.declared.handover.Handover.{Handover}
+use Rattle.rk_transfer.specs.declared.role.Role.{Role}
 use Rattle.rk_tablet_map.specs.Phase.{lineage_of, member as member_at}
 use Rattle.rk_tablet_map.specs.declared.phase.Phase.{Phase}
 use Rattle.rk_tablet_map.specs.declared.phase.Phase.TheVariants.{Owned, Opening, Moving, Rebuilding}
@@ -31,12 +33,14 @@ use Rattle.rk_done.specs.Completions.{Completions}
 use Rattle.rk_types.specs.declared.call.Ended.{Ended}
 use Rattle.rk_world.specs.Gather.{Gather}
 use Rattle.rk_sound.specs.Rows.{AreApart}
+use Rattle.rk_sound.specs.Posts.{Bystander, FormerMember, Holds, Post, StillCounts, bond_of, post_of, rebuilder_post}
+use Rattle.rk_sound.specs.Roles.{RoleFits}
 use Rattle.rk_sound.specs.Logs.{stored_of}
-use Rattle.rk_sound.specs.Rebuilds.{HasOwnRange, IsOfRange, IsRebuilder, MarkFits, MarkedFit, READ_BACKUP, StandsLast, TellNoMore, has_merged, marked_entries, member_marked, member_stored, stored_count, RowIsRebuilt}
+use Rattle.rk_sound.specs.Rebuilds.{HasOwnRange, IsOfRange, IsRebuilder, MarkFits, MarkedFit, NeededOf, NeedsEnd, READ_BACKUP, StandsLast, TellNoMore, has_merged, marked_entries, member_marked, member_stored, stored_count, RowIsRebuilt}
 use Rattle.rk_sound.specs.Changes.{IsServedIn, MayStage}
 use Rattle.rk_sound.specs.Small.{risen, with_one_more, staged}
 use Rattle.rk_sound.specs.View.{View, truths}
-use Rattle.rk_sound.specs.Whole.{RebuildsOf, RowsOf, LogsOf, SoundView}
+use Rattle.rk_sound.specs.Whole.{RebuildsOf, RolesOf, RowsOf, LogsOf, SoundView}
 use Rattle.rk_world.specs.Requests.{item_of}
 use Rattle.rk_laws_parts.proofs.Changing.{Lane, Stages}
 use Rattle.rk_laws_parts.proofs.Differs.{differs_same}
@@ -44,13 +48,19 @@ use Rattle.rk_laws_parts.proofs.Staged.{counted_same, first_apart, formed_apart,
 use Rattle.rk_laws_parts.proofs.Applied.{applied_within}
 use Rattle.rk_laws_parts.proofs.Grows.{Extends, counting_extends, extends_behind, extends_itself, stored_push, take_extends, tells_extended}
 use Rattle.rk_laws_parts.proofs.Rebuilders.{last_member, piece_push, rebuilder_apart, rebuilder_serving, serving_unmerged, unmarked_push}
+use Rattle.rk_laws_parts.proofs.Needed.{given_up_of, given_up_pushed, material_at, material_pushed, needed_member, needs_less, rebuilder_weaker}
 use Rattle.rk_laws_parts.proofs.Staging.{lane_of, stages}
 
--- a master that rebuilds a row, by what masters have written and backups store
+-- a master that rebuilds a row, by what is needed, what masters have written and what backups store
+abbrev pub IsRebuilderBy : (ℕ → EntryEnd → Type 0) → (ℕ → Log) → (ℕ → Written) → (ℕ → Segments) → Row → List Member → ℕ → List Entry → Handover → Completions → Gather → List Ended → List Held → Type 0
+IsRebuilderBy Needed logs written stored row lineage master truth handover completions gather ends table =
+    IsRebuilder row lineage master truth (member_material written row.range (member_at master (own_place handover.role))) Needed
+    (λ q. known_of (logs q) READ_BACKUP) (λ q. stored_of stored q READ_BACKUP) (written master) handover completions gather ends table
+
+-- where what is needed is what masters have written says
 abbrev pub IsRebuilderIn : (ℕ → Log) → (ℕ → Written) → (ℕ → Segments) → Row → List Member → ℕ → List Entry → Handover → Completions → Gather → List Ended → List Held → Type 0
 IsRebuilderIn logs written stored row lineage master truth handover completions gather ends table =
-    IsRebuilder row lineage master truth (member_material written row.range (member_at master (own_place handover.role)))
-    (λ q. known_of (logs q) READ_BACKUP) (λ q. stored_of stored q READ_BACKUP) (written master) handover completions gather ends table
+    IsRebuilderBy (NeededOf row written lineage) logs written stored row lineage master truth handover completions gather ends table
 
 -- a mark fits a tablet of the same term that has merged as much, where its piece still stands last
 pub mark_same : (row : Row) (master : ℕ) (old new : Handover) (live : Bool) (was is : Written) (mark : Mark) → new.term ≡ old.term → has_merged new.role ≡ has_merged old.role → StandsLast row.range is mark → MarkFits row master old live was mark → MarkFits row master new live is mark
@@ -61,6 +71,57 @@ mark_same row master old new live was is mark term merged behind fit = record {
   by_rebuilder = λ its. let by = fit.by_rebuilder its in (by.0, term ∙ by.1, merged ∙ by.2);
   behind = behind;
 }
+
+-- a former member has no tablet that counts
+former_never : (role : Role) (term own applied : ℕ) → Holds (bond_of FormerMember role) term own applied → ⊥
+former_never role term own applied holds = holds
+
+-- so a living master is no member of a row that another one rebuilds
+former_gone : (v : View) → RolesOf v → (row : Row) → Contains v.rows row → (lineage : List Member) (to q : ℕ) → row.phase ≡ Rebuilding lineage to → v.live q ≡ true → (q ≡ to → ⊥) → is_member lineage q ≡ true → ⊥
+former_gone v roles row has lineage to q is lives away member =
+    let h : Handover = v.handovers q row.tablet in
+    let fits : RoleFits row q h (v.written q).applied =
+    All-contains
+    (λ (r : Row). StillCounts (v.live q) (v.handovers q r.tablet).term r.term → RoleFits r q (v.handovers q r.tablet) (v.written q).applied)
+    v.rows row (roles.fitting q) has (inl lives) in
+    let post : post_of (Rebuilding lineage to) q ≡ FormerMember =
+    cond-false (to == q) (rebuilder_post lineage q) (cond (is_member lineage q) FormerMember Bystander) (ne_eqb to q (λ same. away (sym same)))
+    ∙ cond-true (is_member lineage q) FormerMember Bystander member in
+    former_never h.role row.term h.term (v.written q).applied
+    (subst (λ (post : Post). Holds (bond_of post h.role) row.term h.term (v.written q).applied) post
+    (subst (λ (phase : Phase). Holds (bond_of (post_of phase q) h.role) row.term h.term (v.written q).applied) is fits))
+
+module _ (rows : List Row) (before after : Lane) (master : ℕ) (row : Row) (call : Call) (item : Held) (stages : Stages rows before after master row call item) (marked : (q : ℕ) → All (λ mark. mark.past ≤ length (before.written q).entries) (before.written q).marks) where
+  -- what is needed of a row, where these masters have written this
+  abbrev NeedsBy : Row → Member → Member → Written → Written → EntryEnd → Type 0
+  NeedsBy other first last ones lasts = NeedsEnd other.range (given_up_of other first.from ones) (material_at other.range first.from ones) last.from lasts
+
+  -- no more is needed where the first member may have written the item
+  first_staged : (other : Row) (first last : Member) (lasts : Written) (end : EntryEnd) → NeedsBy other first last (after.written first.master) lasts end → NeedsBy other first last (before.written first.master) lasts end
+  first_staged other first last lasts end needs =
+      let old : Written = before.written first.master in
+      let more : Written = with_one_more old (entries.Held item) in
+      ⊎_elim
+      (λ (same : after.written first.master ≡ old). subst (λ (w : Written). NeedsBy other first last w lasts end) same needs)
+      (λ (at : (first.master ≡ master) × (after.written first.master ≡ more)).
+      let grown : NeedsBy other first last more lasts end = subst (λ (w : Written). NeedsBy other first last w lasts end) at.1 needs in
+      needs_less other.range (given_up_of other first.from old) (material_at other.range first.from old) (material_at other.range first.from more)
+      last.from lasts end (material_pushed other.range first.from old item)
+      (subst (λ (list : List Entry). NeedsEnd other.range list (material_at other.range first.from more) last.from lasts end)
+      (given_up_pushed other first.from old item (marked first.master)) grown))
+      (written_cases rows before after master row call item stages first.master)
+
+  -- so no more is needed of another master than the one that staged
+  pub needed_staged : (other : Row) (lineage : List Member) (q : ℕ) → (q ≡ master → ⊥) → (end : EntryEnd) → NeededOf other after.written lineage q end → NeededOf other before.written lineage q end
+  needed_staged other [] q away end needed = needed
+  needed_staged other (only ∷ []) q away end needed = needed
+  needed_staged other (first ∷ last ∷ []) q away end needed = (
+    needed.0,
+    first_staged other first last (before.written last.master) end
+        (subst (λ (w : Written). NeedsBy other first last (after.written first.master) w end)
+        (stages.written_differ.others last.master (λ at. away (sym needed.0 ∙ at))) needed.1),
+  )
+  needed_staged other (first ∷ second ∷ third ∷ more) q away end needed = needed
 
 module _ (rows : List Row) (before after : Lane) (stored : ℕ → Segments) (completions : ℕ → ℕ → Completions) (gathers : ℕ → ℕ → Gather) (merged : ℕ → ℕ → List Ended) (records : ℕ → List Held) (live : ℕ → Bool) (master : ℕ) (row : Row) (call : Call) (item : Held) (last : Member) (stages : Stages rows before after master row call item) (is_last : last_of (lineage_of row.phase) ≡ Some last) (here : last.master ≡ master) (lives : live master ≡ true) (serves : is_serving (before.handovers master row.tablet).role ≡ true) (fits : (before.written master).applied ≤ length (before.written master).entries) where
   -- what is known of backups is what it was
@@ -75,31 +136,55 @@ module _ (rows : List Row) (before after : Lane) (stored : ℕ → Segments) (co
   fits_at : (q : ℕ) → q ≡ master → (before.written q).applied ≤ length (before.written q).entries
   fits_at q at = subst (λ (n : ℕ). (before.written n).applied ≤ length (before.written n).entries) (sym at) fits
 
+  -- the marks of a master are within its log
+  abbrev AreWithin : ℕ → Type 0
+  AreWithin q = All (λ mark. mark.past ≤ length (before.written q).entries) (before.written q).marks
+
+  -- a master rebuilds a row before, by what is needed
+  abbrev RebuildsBefore : (ℕ → EntryEnd → Type 0) → Row → List Member → ℕ → List Entry → Type 0
+  RebuildsBefore Needed other lineage to truth =
+      IsRebuilderBy Needed before.logs before.written stored other lineage to truth (before.handovers to other.tablet)
+      (completions to other.tablet) (gathers to other.tablet) (merged to other.tablet) (records to)
+
+  -- and after
+  abbrev RebuildsAfter : (ℕ → EntryEnd → Type 0) → Row → List Member → ℕ → List Entry → Type 0
+  RebuildsAfter Needed other lineage to truth =
+      IsRebuilderBy Needed after.logs after.written stored other lineage to truth (after.handovers to other.tablet)
+      (completions to other.tablet) (gathers to other.tablet) (merged to other.tablet) (records to)
+
+  -- the item is not of a row's range, where a master staged it
+  abbrev IsOutside : Row → ℕ → Type 0
+  IsOutside other q = q ≡ master → has_key other.range item.table item.key ≡ false
+
+  -- what a master keeps of a row's tablet is what it was
+  abbrev IsKept : Row → ℕ → Type 0
+  IsKept other q = after.handovers q other.tablet ≡ before.handovers q other.tablet
+
   -- a master goes on to rebuild a row whose range has not the item, or for which it staged nothing
-  rebuilder_still : (other : Row) (lineage : List Member) (to : ℕ) (truth : List Entry) → All (λ mark. mark.past ≤ length (before.written to).entries) (before.written to).marks → (to ≡ master → has_key other.range item.table item.key ≡ false) → after.handovers to other.tablet ≡ before.handovers to other.tablet → IsRebuilderIn before.logs before.written stored other lineage to truth (before.handovers to other.tablet) (completions to other.tablet) (gathers to other.tablet) (merged to other.tablet) (records to) → IsRebuilderIn after.logs after.written stored other lineage to truth (after.handovers to other.tablet) (completions to other.tablet) (gathers to other.tablet) (merged to other.tablet) (records to)
-  rebuilder_still other lineage to truth marked apart same old =
+  rebuilder_still : (Needed : ℕ → EntryEnd → Type 0) (other : Row) (lineage : List Member) (to : ℕ) (truth : List Entry) → AreWithin to → IsOutside other to → IsKept other to → RebuildsBefore Needed other lineage to truth → RebuildsAfter Needed other lineage to truth
+  rebuilder_still Needed other lineage to truth marked apart same old =
       let handover : Handover = before.handovers to other.tablet in
       let own : List Entry = member_material before.written other.range (member_at to (own_place handover.role)) in
       let GoesOn : Written → Type 0 = λ (w : Written).
-      IsRebuilder other lineage to truth own (λ q. known_of (before.logs q) READ_BACKUP) (λ q. stored_of stored q READ_BACKUP) w handover
+      IsRebuilder other lineage to truth own Needed (λ q. known_of (before.logs q) READ_BACKUP) (λ q. stored_of stored q READ_BACKUP) w handover
       (completions to other.tablet) (gathers to other.tablet) (merged to other.tablet) (records to) in
-      subst (λ (handover : Handover). IsRebuilderIn after.logs after.written stored other lineage to truth handover (completions to other.tablet) (gathers to other.tablet) (merged to other.tablet) (records to)) (sym same)
+      subst (λ (handover : Handover). IsRebuilderBy Needed after.logs after.written stored other lineage to truth handover (completions to other.tablet) (gathers to other.tablet) (merged to other.tablet) (records to)) (sym same)
       (subst
-      (λ (own : List Entry). IsRebuilder other lineage to truth own (λ q. known_of (after.logs q) READ_BACKUP)
+      (λ (own : List Entry). IsRebuilder other lineage to truth own Needed (λ q. known_of (after.logs q) READ_BACKUP)
       (λ q. stored_of stored q READ_BACKUP) (after.written to) handover (completions to other.tablet) (gathers to other.tablet) (merged to other.tablet) (records to))
       (sym (stages.material_same other.range (member_at to (own_place handover.role)) apart))
       (of_known
-      (λ known. IsRebuilder other lineage to truth own known (λ q. stored_of stored q READ_BACKUP) (after.written to) handover (completions to other.tablet) (gathers to other.tablet) (merged to other.tablet) (records to))
+      (λ known. IsRebuilder other lineage to truth own Needed known (λ q. stored_of stored q READ_BACKUP) (after.written to) handover (completions to other.tablet) (gathers to other.tablet) (merged to other.tablet) (records to))
       (⊎_elim
       (λ (same : after.written to ≡ before.written to). subst GoesOn (sym same) old)
       (λ (at : (to ≡ master) × (after.written to ≡ with_one_more (before.written to) (entries.Held item))).
       subst GoesOn (sym at.1)
-      (rebuilder_apart other lineage to truth _ _ _ (before.written to) handover (completions to other.tablet) (gathers to other.tablet) (merged to other.tablet) (records to) item (fits_at to at.0) marked (apart at.0) old))
+      (rebuilder_apart other lineage to truth _ Needed _ _ (before.written to) handover (completions to other.tablet) (gathers to other.tablet) (merged to other.tablet) (records to) item (fits_at to at.0) marked (apart at.0) old))
       (written_cases rows before after master row call item stages to))))
 
   -- a master goes on to serve the row that it is to rebuild
-  rebuilder_here : (other : Row) (lineage : List Member) (to : ℕ) (truth : List Entry) → other ≡ row → to ≡ master → lineage_of other.phase ≡ lineage → IsRebuilderIn before.logs before.written stored other lineage to truth (before.handovers to other.tablet) (completions to other.tablet) (gathers to other.tablet) (merged to other.tablet) (records to) → IsRebuilderIn after.logs after.written stored other lineage to truth (after.handovers to other.tablet) (completions to other.tablet) (gathers to other.tablet) (merged to other.tablet) (records to)
-  rebuilder_here other lineage to truth its at is old =
+  rebuilder_here : (Needed : ℕ → EntryEnd → Type 0) (other : Row) (lineage : List Member) (to : ℕ) (truth : List Entry) → other ≡ row → to ≡ master → lineage_of other.phase ≡ lineage → RebuildsBefore Needed other lineage to truth → RebuildsAfter Needed other lineage to truth
+  rebuilder_here Needed other lineage to truth its at is old =
       let handover : before.handovers to other.tablet ≡ before.handovers master row.tablet =
       ap (λ (n : ℕ). before.handovers n other.tablet) at ∙ ap (λ (r : Row). before.handovers master r.tablet) its in
       let handover' : after.handovers to other.tablet ≡ after.handovers master row.tablet =
@@ -112,30 +197,48 @@ module _ (rows : List Row) (before after : Lane) (stored : ℕ → Segments) (co
       let more : after.written to ≡ with_one_more (before.written to) (entries.Held item) =
       ap after.written at ∙ stages.written_differ.here ∙ sym (ap (λ (n : ℕ). with_one_more (before.written n) (entries.Held item)) at) in
       let own : List Entry = member_material after.written other.range (member_at to (own_place (before.handovers to other.tablet).role)) in
-      subst (λ (t : Handover). IsRebuilderIn after.logs after.written stored other lineage to truth t (completions to other.tablet) (gathers to other.tablet) (merged to other.tablet) (records to)) (sym counted)
+      subst (λ (t : Handover). IsRebuilderBy Needed after.logs after.written stored other lineage to truth t (completions to other.tablet) (gathers to other.tablet) (merged to other.tablet) (records to)) (sym counted)
       (of_known
-      (λ known. IsRebuilder other lineage to truth own known (λ q. stored_of stored q READ_BACKUP) (after.written to)
+      (λ known. IsRebuilder other lineage to truth own Needed known (λ q. stored_of stored q READ_BACKUP) (after.written to)
       (risen (before.handovers to other.tablet)) (completions to other.tablet) (gathers to other.tablet) (merged to other.tablet) (records to))
       (subst
-      (λ (w : Written). IsRebuilder other lineage to truth own (λ q. known_of (before.logs q) READ_BACKUP)
+      (λ (w : Written). IsRebuilder other lineage to truth own Needed (λ q. known_of (before.logs q) READ_BACKUP)
       (λ q. stored_of stored q READ_BACKUP) w (risen (before.handovers to other.tablet)) (completions to other.tablet) (gathers to other.tablet) (merged to other.tablet) (records to))
       (sym more)
-      (rebuilder_serving other lineage to truth _ own _ _ (before.written to) (before.handovers to other.tablet) (completions to other.tablet) (gathers to other.tablet) (merged to other.tablet) (records to) item (fits_at to at)
+      (rebuilder_serving other lineage to truth _ own Needed _ _ (before.written to) (before.handovers to other.tablet) (completions to other.tablet) (gathers to other.tablet) (merged to other.tablet) (records to) item (fits_at to at)
       (ap (λ (t : Handover). is_serving t.role) handover ∙ serves) member old)))
 
-  -- a master that rebuilds a row
-  rebuilder_staged : (other : Row) → Contains rows other → (lineage : List Member) (to : ℕ) (truth : List Entry) → All (λ mark. mark.past ≤ length (before.written to).entries) (before.written to).marks → lineage_of other.phase ≡ lineage → IsRebuilderIn before.logs before.written stored other lineage to truth (before.handovers to other.tablet) (completions to other.tablet) (gathers to other.tablet) (merged to other.tablet) (records to) → IsRebuilderIn after.logs after.written stored other lineage to truth (after.handovers to other.tablet) (completions to other.tablet) (gathers to other.tablet) (merged to other.tablet) (records to)
-  rebuilder_staged other has lineage to truth marked is old =
+  -- so does one that rebuilds a row, by what was needed
+  rebuilder_goes_on : (Needed : ℕ → EntryEnd → Type 0) (other : Row) → Contains rows other → (lineage : List Member) (to : ℕ) (truth : List Entry) → AreWithin to → lineage_of other.phase ≡ lineage → RebuildsBefore Needed other lineage to truth → RebuildsAfter Needed other lineage to truth
+  rebuilder_goes_on Needed other has lineage to truth marked is old =
       ⊎_elim
       (λ (at : to ≡ master).
       ⊎_elim
-      (λ (its : other ≡ row). rebuilder_here other lineage to truth its at is old)
+      (λ (its : other ≡ row). rebuilder_here Needed other lineage to truth its at is old)
       (λ (apart : other.tablet ≡ row.tablet → ⊥).
-      rebuilder_still other lineage to truth marked (λ at. stages.outside other has apart) (stages.keeps_differ.others to other.tablet (λ at its. apart its)) old)
+      rebuilder_still Needed other lineage to truth marked (λ at. stages.outside other has apart) (stages.keeps_differ.others to other.tablet (λ at its. apart its)) old)
       (row_cases rows before after master row call item stages other has))
       (λ (apart : to ≡ master → ⊥).
-      rebuilder_still other lineage to truth marked (λ at. absurd (apart at)) (stages.keeps_differ.others to other.tablet (λ at its. apart at)) old)
+      rebuilder_still Needed other lineage to truth marked (λ at. absurd (apart at)) (stages.keeps_differ.others to other.tablet (λ at its. apart at)) old)
       (cases_eq to master)
+
+  -- a master that staged is not one of a row that another one rebuilds
+  abbrev IsGone : Row → List Member → ℕ → Type 0
+  IsGone other lineage to = (q : ℕ) → (q ≡ to → ⊥) → is_member lineage q ≡ true → q ≡ master → ⊥
+
+  -- a master that rebuilds a row
+  rebuilder_staged : (other : Row) → Contains rows other → (lineage : List Member) (to : ℕ) (truth : List Entry) → ((q : ℕ) → AreWithin q) → lineage_of other.phase ≡ lineage → IsGone other lineage to → RebuildsBefore (NeededOf other before.written lineage) other lineage to truth → RebuildsAfter (NeededOf other after.written lineage) other lineage to truth
+  rebuilder_staged other has lineage to truth marked is gone old =
+      let now : RebuildsAfter (NeededOf other before.written lineage) other lineage to truth =
+      rebuilder_goes_on (NeededOf other before.written lineage) other has lineage to truth (marked to) is old in
+      rebuilder_weaker other lineage to truth (member_material after.written other.range (member_at to (own_place (after.handovers to other.tablet).role)))
+      (NeededOf other before.written lineage) (NeededOf other after.written lineage) (λ q. known_of (after.logs q) READ_BACKUP)
+      (λ q. stored_of stored q READ_BACKUP) (after.written to) (after.handovers to other.tablet) (completions to other.tablet)
+      (gathers to other.tablet) (merged to other.tablet) (records to)
+      (λ q away end needed.
+      needed_staged rows before after master row call item stages marked other lineage q
+      (gone q away (needed_member other after.written lineage q end needed)) end needed)
+      now
 
   -- a dead master is not the one that staged
   dead_apart : (q : ℕ) → live q ≡ false → q ≡ master → ⊥
@@ -198,14 +301,23 @@ module _ (rows : List Row) (before after : Lane) (stored : ℕ → Segments) (co
             (subst (λ (list : List Entry). TellNoMore (member_marked before.written range second) (member_material before.written range first ++ list)) (sym (material_dead range second dead)) (fit.1 dead))),
       )
 
+  -- a row is rebuilt in a lane
+  abbrev IsRebuilt : Lane → Row → Phase → List Entry → Type 0
+  IsRebuilt lane other phase truth =
+      RowIsRebuilt other phase truth lane.logs lane.written stored lane.handovers completions gathers merged records live
+
+  -- a master that staged is not one of a row, where another one rebuilds that
+  abbrev IsGoneFrom : Row → Type 0
+  IsGoneFrom other = (lineage : List Member) (to : ℕ) → other.phase ≡ Rebuilding lineage to → IsGone other lineage to
+
   -- a row that is rebuilt
-  rebuilt_staged : (other : Row) → Contains rows other → (phase : Phase) (truth : List Entry) → ((q : ℕ) → All (λ mark. mark.past ≤ length (before.written q).entries) (before.written q).marks) → AreApart (lineage_of phase) → other.phase ≡ phase → RowIsRebuilt other phase truth before.logs before.written stored before.handovers completions gathers merged records live → RowIsRebuilt other phase truth after.logs after.written stored after.handovers completions gathers merged records live
-  rebuilt_staged other has (Owned owner from) truth marked apart is fit = tt
-  rebuilt_staged other has (Opening source sfrom target dfrom) truth marked apart is fit = tt
-  rebuilt_staged other has (Moving source sfrom target dfrom) truth marked apart is fit = tt
-  rebuilt_staged other has (Rebuilding lineage to) truth marked apart is fit = (
+  rebuilt_staged : (other : Row) → Contains rows other → (phase : Phase) (truth : List Entry) → ((q : ℕ) → AreWithin q) → AreApart (lineage_of phase) → other.phase ≡ phase → IsGoneFrom other → IsRebuilt before other phase truth → IsRebuilt after other phase truth
+  rebuilt_staged other has (Owned owner from) truth marked apart is gone fit = tt
+  rebuilt_staged other has (Opening source sfrom target dfrom) truth marked apart is gone fit = tt
+  rebuilt_staged other has (Moving source sfrom target dfrom) truth marked apart is gone fit = tt
+  rebuilt_staged other has (Rebuilding lineage to) truth marked apart is gone fit = (
     λ term.
-        rebuilder_staged other has lineage to truth (marked to) (ap lineage_of is)
+        rebuilder_staged other has lineage to truth marked (ap lineage_of is) (gone lineage to is)
         (fit.0
         (sym (counted_same rows before after master row call item stages (λ (handover : Handover). handover.term) (λ tablet. refl) to other.tablet) ∙ term)),
     marked_staged other has lineage apart (ap lineage_of is) fit.1,
@@ -257,15 +369,17 @@ module _ (rows : List Row) (before after : Lane) (stored : ℕ → Segments) (co
       (fits its))
       (before.written q).marks old)
 
+  -- a master has marked pieces of a row's own range
+  abbrev HasPieces : Row → Written → Type 0
+  HasPieces other w = All (λ mark. mark.tablet ≡ other.tablet → HasOwnRange other.range w.entries mark) w.marks
+
   -- and the pieces that they mark
-  pieces_staged : (other : Row) (q : ℕ) → All (λ mark. mark.past ≤ length (before.written q).entries) (before.written q).marks → All (λ mark. mark.tablet ≡ other.tablet → HasOwnRange other.range (before.written q).entries mark) (before.written q).marks → All (λ mark. mark.tablet ≡ other.tablet → HasOwnRange other.range (after.written q).entries mark) (after.written q).marks
+  pieces_staged : (other : Row) (q : ℕ) → AreWithin q → HasPieces other (before.written q) → HasPieces other (after.written q)
   pieces_staged other q marked old =
-      let Pieces : Written → Type 0 = λ (w : Written).
-      All (λ mark. mark.tablet ≡ other.tablet → HasOwnRange other.range w.entries mark) w.marks in
       ⊎_elim
-      (λ (same : after.written q ≡ before.written q). subst Pieces (sym same) old)
+      (λ (same : after.written q ≡ before.written q). subst (HasPieces other) (sym same) old)
       (λ (at : (q ≡ master) × (after.written q ≡ with_one_more (before.written q) (entries.Held item))).
-      subst Pieces (sym at.1)
+      subst (HasPieces other) (sym at.1)
       (λ k d within its.
       let mark : Mark = slice_index_or (before.written q).marks k d in
       subst (λ (list : List Entry). All (IsOfRange other.range) list)
@@ -299,7 +413,11 @@ rebuilds_staged v master call value sound may =
       rebuilt = λ k d within.
           let other : Row = slice_index_or rows k d in
           rebuilt_staged rows before after stored completions gathers merged records live master served.row call item served.last stages served.is_last served.here served.lives served.serves fits other
-          (Contains-get_or rows k d within) other.phase (sure other) marked (formed_apart other.phase (placed.formed k d within)) refl (old.rebuilt k d within);
+          (Contains-get_or rows k d within) other.phase (sure other) marked (formed_apart other.phase (placed.formed k d within)) refl
+          (λ lineage to is q away member at.
+          former_gone v sound.roles other (Contains-get_or rows k d within) lineage to q is
+          (ap v.live at ∙ served.lives) away member)
+          (old.rebuilt k d within);
       marks = λ q k d within.
           marks_staged rows before after stored completions gathers merged records live master served.row call item served.last stages served.is_last served.here served.lives served.serves fits (slice_index_or rows k d)
           (Contains-get_or rows k d within) q (old.marks q k d within);

@@ -71,7 +71,7 @@ longer [] x n l = omega (arith, l)
 longer (y ∷ xs) x zero l = absurd (omega (arith, l))
 longer (y ∷ xs) x (suc n) l = let r = longer xs x n (omega (arith, l)) in omega (arith, r)
 
-drop_none : (place : ℕ) (list : List Entry) (entry : Entry) → length list < place → drop place (list ++ entry ∷ []) ≡ drop place list
+pub drop_none : (place : ℕ) (list : List Entry) (entry : Entry) → length list < place → drop place (list ++ entry ∷ []) ≡ drop place list
 drop_none place list entry beyond =
     drop_all place (list ++ entry ∷ []) (longer list entry place beyond) ∙ sym (drop_all place list (omega (arith, beyond)))
 

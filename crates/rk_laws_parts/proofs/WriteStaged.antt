@@ -2,6 +2,7 @@
 use Rattle.std.proofs.Common.{◌≡◌, ℕ, ◌≤◌, List, [], ◌∷◌, ◌++◌, length, Option, refl, sym, ap, subst, ◌∙◌, ⊎_elim}
 use Rattle.std.specs.Prelude.{All, slice_index_or}
 use Rattle.std.specs.List.{Contains}
+use Rattle.std.proofs.lemmas.Bool.{false≢true}
 use Rattle.std.proofs.lemmas.Grind.{flat_map-append}
 use Rattle.std.proofs.lemmas.List.Elements.{All-push, Contains-append_left}
 use Rattle.std.proofs.lemmas.Option.{IfSome_then}
@@ -44,10 +45,10 @@ use Rattle.rk_laws_parts.proofs.Roles.{roles_looks}
 use Rattle.rk_laws_parts.proofs.Logs.{logs_grown}
 use Rattle.rk_laws_parts.proofs.Calls.{calls_alike, calls_more}
 use Rattle.rk_laws_parts.proofs.Counters.{counters_staged}
-use Rattle.rk_laws_parts.proofs.Messages.{messages_looks}
+use Rattle.rk_laws_parts.proofs.Messages.{messages_looks, NeedNoMore}
 use Rattle.rk_laws_parts.proofs.Tables.{all_items_same}
 use Rattle.rk_laws_parts.proofs.Receives.{receives_staged}
-use Rattle.rk_laws_parts.proofs.Rebuilds.{rebuilds_staged}
+use Rattle.rk_laws_parts.proofs.Rebuilds.{needed_staged, rebuilds_staged}
 use Rattle.rk_laws_parts.proofs.Rest.{rest_staged}
 
 module _ (v : View) (master : ℕ) (call : Call) (value : Option (List ℕ)) (sound : SoundView v) (may : MayStage v master call value) where
@@ -184,9 +185,15 @@ module _ (v : View) (master : ℕ) (call : Call) (value : Option (List ℕ)) (so
         (λ member table. subst (λ (list : List Entry). IsTableOf other.range list (v.records q)) (sym (change.truth_same other.range member)) table);
   }
 
+  -- no more is needed of a dead master
+  less : NeedNoMore v.written now.written v.live
+  less other lineage q dead =
+      needed_staged v.rows before after master row call item change (λ n. let log = sound.logs.each n in log.marked) other lineage q
+      (λ at. false≢true (sym dead ∙ ap v.live at ∙ may.served.lives))
+
   messages : MessagesOf now
   messages =
-      messages_looks v now.logs now.written now.handovers looks known_same sound.messages
+      messages_looks v now.logs now.written now.handovers looks known_same less sound.messages
 
   -- with the truths as they were
   parts : SoundParts now (truths v) (rests now)

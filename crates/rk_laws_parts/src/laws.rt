@@ -60,7 +60,7 @@ pub fn pulling_keeps_lanes_sound()
 {}
 
 /// A sound lane stays sound when a rebuild gathers the segment that it awaits, where what was read of it is a first part of what
-/// backup 1 stores that holds all that its master knew to be stored there.
+/// backup 1 stores that holds all that its master knew to be stored there, and all that the row needs of it.
 pub fn gathering_keeps_lanes_sound()
     ensures gathered { (w : World) (own : ℕ) (copy : CopySegment)
         → IsSound w → MayGather (view w) own copy.tenure.tablet copy.master copy.segment copy.bytes

@@ -49,7 +49,7 @@ use Rattle.rk_sound.specs.Posts.{InvitedTarget, post_of, Post, Owner, OpeningSou
 use Rattle.rk_sound.specs.Logs.{stored_of}
 use Rattle.rk_sound.specs.Handing.{is_wanting}
 use Rattle.rk_sound.specs.Receives.{scan_items}
-use Rattle.rk_sound.specs.Rebuilds.{READ_BACKUP, IsReadPart}
+use Rattle.rk_sound.specs.Rebuilds.{READ_BACKUP, IsReadPart, NeededOf}
 
 -- the row is the one that a message speaks of, at its term
 pub record IsOf (row : Row) (tenure : Tenure) : Type 0 where
@@ -270,13 +270,13 @@ ReadIn (Rebuilding lineage to) live receiver read =
     (receiver ≡ nodes.Backup READ_BACKUP) × (live read.master ≡ false)
 ReadIn phase live receiver read = ⊤
 
--- a Copy for a row that is rebuilt is of the log of a dead master, and holds what that knew to be stored
-abbrev pub CopyIn : Phase → (ℕ → Log) → (ℕ → Segments) → (ℕ → Bool) → CopySegment → Type 0
-CopyIn (Rebuilding lineage to) logs stored live copy =
+-- a Copy for a row that is rebuilt is of the log of a dead master, and holds what that knew to be stored, and what is needed
+abbrev pub CopyIn : Row → Phase → (ℕ → Log) → (ℕ → Written) → (ℕ → Segments) → (ℕ → Bool) → CopySegment → Type 0
+CopyIn row (Rebuilding lineage to) logs written stored live copy =
     (live copy.master ≡ false)
-    × IsReadPart (known_of (logs copy.master) READ_BACKUP) (stored_of stored copy.master READ_BACKUP) copy.segment
+    × IsReadPart (NeededOf row written lineage copy.master) (known_of (logs copy.master) READ_BACKUP) (stored_of stored copy.master READ_BACKUP) copy.segment
     (copied_bytes copy.bytes)
-CopyIn phase logs stored live copy = ⊤
+CopyIn row phase logs written stored live copy = ⊤
 
 -- ---- to clients
 
@@ -338,7 +338,7 @@ SaysOf row logs written stored handovers completions merged live handed from to 
 SaysOf row logs written stored handovers completions merged live handed from to (bodies.Read read) =
     IsOf row read.tenure → ReadIn row.phase live to read
 SaysOf row logs written stored handovers completions merged live handed from to (bodies.Copy copy) =
-    IsOf row copy.tenure → CopyIn row.phase logs stored live copy
+    IsOf row copy.tenure → CopyIn row row.phase logs written stored live copy
 SaysOf row logs written stored handovers completions merged live handed from to (bodies.Rebuilt rebuilt) =
     ByMaster from (λ master. IsOf row rebuilt.tenure
     → RebuiltIn row.phase (handovers master row.tablet) (merged master row.tablet) (written master).applied row.term master rebuilt)

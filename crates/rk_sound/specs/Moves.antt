@@ -47,7 +47,7 @@ use Rattle.rk_sound.specs.Handing.{is_wanting}
 use Rattle.rk_sound.specs.Calls.{IsKnown}
 use Rattle.rk_sound.specs.Receives.{is_joining, HasPulled, HasArrived, scan_items, IsOutdone, IsFound, entries_from, copied_items}
 use Rattle.rk_sound.specs.Logs.{stored_of}
-use Rattle.rk_sound.specs.Rebuilds.{AreGathered, IsGatherOf, IsReadPart, READ_BACKUP}
+use Rattle.rk_sound.specs.Rebuilds.{AreGathered, IsGatherOf, IsReadPart, READ_BACKUP, NeededOf}
 use Rattle.rk_sound.specs.Messages.{AsksFor, HasJoined, HasRebuilt, MayFollowClose, IsOwner}
 use Rattle.rk_sound.specs.Changes.{HasSegmentLeft}
 
@@ -249,21 +249,29 @@ pub record MayBegin (v : View) (row : Row) (master : ℕ) (rebuild : Rebuild) : 
   pub greater : (v.handovers master row.tablet).term < row.term
   pub above : IsAboveKept v master row.range row.term
 
--- what was read of the awaited segment may be gathered, where it is a first part that holds what its master knew to be stored; where
--- there are no bytes, the master knew nothing of it to be stored
+-- what was read of the awaited segment may be gathered for the row that the master rebuilds, where it is a first part that holds what
+-- its master knew to be stored, and what is needed; where there are no bytes, the master knew nothing of it to be stored
 pub record MayGather (v : View) (own tablet master segment : ℕ) (bytes : Option (List ℕ)) : Type 0 where
   pub lives : v.live own ≡ true
+  pub row : Row
+  pub has_row : Contains v.rows row
+  pub tablet_is : row.tablet ≡ tablet
+  pub phase_is : row.phase ≡ Rebuilding (v.gathers own tablet).lineage own
+  pub term_is : (v.handovers own tablet).term ≡ row.term
   pub gathering : is_gathering (v.handovers own tablet).role ≡ true
   pub awaited : is_awaited (next_reading (v.gathers own tablet)) master segment ≡ true
   pub read :
-      IsReadPart (known_of (v.logs master) READ_BACKUP) (stored_of v.stored master READ_BACKUP) segment (read_bytes bytes)
+      IsReadPart (NeededOf row v.written (v.gathers own tablet).lineage master) (known_of (v.logs master) READ_BACKUP)
+      (stored_of v.stored master READ_BACKUP) segment (read_bytes bytes)
 
 -- what a master gathers for a row that it rebuilds goes on: it is still that of the row, and each segment that was read is a first
--- part that holds what its master knew to be stored; nothing is merged so far
+-- part that holds what its master knew to be stored, and what is needed; nothing is merged so far
 pub record GathersOn (v : View) (row : Row) (lineage : List Member) (own : ℕ) (new : Gather) : Type 0 where
   pub gathering : is_gathering (v.handovers own row.tablet).role ≡ true
   pub gather : IsGatherOf new row.range lineage own
-  pub read : AreGathered (λ q. known_of (v.logs q) READ_BACKUP) (λ q. stored_of v.stored q READ_BACKUP) new.members
+  pub read :
+      AreGathered (NeededOf row v.written lineage) (λ q. known_of (v.logs q) READ_BACKUP) (λ q. stored_of v.stored q READ_BACKUP)
+      new.members
 
 -- what is gathered for a tablet may go on at a master, where it does so for each row that the master rebuilds at the row's term
 abbrev pub MayGatherOn : View → ℕ → ℕ → (Gather → Gather) → Type 0

@@ -1,7 +1,7 @@
 -- Rebuilds: what a rebuilding master read is the applied part of a log and maybe more, what it merged is what it read, and
 -- what an earlier rebuild wrote that was given up tells nothing new. So no acknowledged call is lost with a master, and none
 -- comes back in another order; the steps that read, merge and take a Rebuilt need it.
-use Rattle.std.specs.Prelude.{◌≡◌, IfSome, ◌≤◌, ◌<◌, ℕ, suc, ◌-◌, ◌+◌, ◌==◌, Bool, true, false, not, nat_le, if◌then◌else◌, List, [], ◌∷◌, ◌++◌, None, Contains, All, length, map, filter, take, drop, slice_index_or, is_some, ⊤, ◌⊎◌, Option}
+use Rattle.std.specs.Prelude.{◌≡◌, IfSome, ◌≤◌, ◌<◌, ℕ, suc, ◌-◌, ◌+◌, ◌==◌, ◌&&◌, Bool, true, false, not, nat_le, nat_lt, if◌then◌else◌, List, [], ◌∷◌, ◌++◌, None, Some, Contains, All, length, map, filter, take, drop, slice_index_or, slice_get, is_some, ⊤, ◌⊎◌, Option}
 use Rattle.std.specs.List.{prefix_len, list_any}
 use Rattle.rk_types.specs.NumberMap.{EachIn}
 use Rattle.rk_types.specs.declared.call.Ended.{Ended}
@@ -15,6 +15,7 @@ use Rattle.rk_entry.specs.declared.entry.Entry.TheVariants as entries
 use Rattle.rk_log.specs.Cut.{ends}
 use Rattle.rk_log.specs.Known.{Known, known_length}
 use Rattle.rk_log.specs.Log.{Log, known_of}
+use Rattle.rk_log.specs.declared.ends.EntryEnd.{EntryEnd}
 use Rattle.rk_table.specs.Items.{is_in}
 use Rattle.rk_done.specs.Completions.{Completions, completions_from, ends_of}
 use Rattle.rk_transfer.specs.declared.handover.Handover.{Handover}
@@ -25,10 +26,10 @@ use Rattle.rk_tablet_map.specs.declared.phase.Phase.{Phase}
 use Rattle.rk_tablet_map.specs.declared.phase.Phase.TheVariants.{Rebuilding}
 use Rattle.rk_tablet_map.specs.declared.row.Row.{Row}
 use Rattle.rk_world.specs.declared.work.Merged.{Merged}
-use Rattle.rk_world.specs.Ends.{told, items_of}
+use Rattle.rk_world.specs.Ends.{told, items_of, told_by, items_in}
 use Rattle.rk_world.specs.declared.work.Mark.{Mark}
 use Rattle.rk_world.specs.Marks.{is_marked, unmarked_from}
-use Rattle.rk_world.specs.Material.{counting, side_entries, material_of, as_entries, named}
+use Rattle.rk_world.specs.Material.{counting, side_entries, material_of, as_entries, named, counts}
 use Rattle.rk_world.specs.Lineage.{is_member}
 use Rattle.rk_world.specs.Gather.{Gather, Gathered, next_reading, by_member}
 use Rattle.rk_world.specs.Merge.{merge, floor_of}
@@ -42,29 +43,105 @@ use Rattle.rk_sound.specs.Receives.{IsFound, named_items}
 abbrev pub READ_BACKUP : ℕ
 READ_BACKUP = 1
 
+-- ---- what is marked
+
+-- the marked entries from a place on
+abbrev pub marked_entries : List Mark → ℕ → List Entry → List Entry
+marked_entries marks place [] = []
+marked_entries marks place (entry ∷ entries) =
+    if is_marked marks place then entry ∷ marked_entries marks (suc place) entries
+    else marked_entries marks (suc place) entries
+
+-- the marked entries of a member that count
+abbrev pub member_marked : (ℕ → Written) → Range → Member → List Entry
+member_marked written range member =
+    counting range
+    (marked_entries (written member.master).marks member.from (drop member.from (written member.master).entries))
+
+-- the marks of rebuilds of a row that were given up: of its tablet, and of a smaller term
+abbrev pub given_up_marks : Row → List Mark → List Mark
+given_up_marks row marks = filter (λ mark. mark.tablet == row.tablet && nat_lt mark.term row.term) marks
+
+-- what a member has of rebuilds of a row that were given up
+abbrev pub member_given_up : (ℕ → Written) → Row → Member → List Entry
+member_given_up written row member =
+    counting row.range
+    (marked_entries (given_up_marks row (written member.master).marks) member.from
+    (drop member.from (written member.master).entries))
+
+-- ---- what has to be read
+
+-- an entry is an item that these have and those have not
+pub record HasItemMore (these those : List Entry) (entry : Entry) : Type 0 where
+  pub item : Held
+  pub here : Contains (items_in entry) item
+  pub wanted : Contains (items_of these) item
+  pub new : Contains (items_of those) item → ⊥
+
+-- an entry tells an end that these tell and those do not
+pub record TellsEndMore (these those : List Entry) (entry : Entry) : Type 0 where
+  pub end : Ended
+  pub here : Contains (told_by entry) end
+  pub wanted : Contains (told these) end
+  pub new : Contains (told those) end → ⊥
+
+-- an entry tells something that these tell and those do not
+abbrev pub TellsMore : List Entry → List Entry → Entry → Type 0
+TellsMore these those entry = HasItemMore these those entry ⊎ TellsEndMore these those entry
+
+-- an entry of the last of two members that has to be read: it bears no mark, counts, and is the first there to tell something that the
+-- first member's given up pieces tell, and its own entries, `own`, do not
+pub record IsNeeded (range : Range) (given_up own : List Entry) (from : ℕ) (last : Written) (place : ℕ) (entry : Entry) : Type 0 where
+  pub behind : from ≤ place
+  pub stands : slice_get last.entries place ≡ Some entry
+  pub unmarked : is_marked last.marks place ≡ false
+  pub in_range : counts range entry ≡ true
+  pub tells : TellsMore given_up (own ++ counting range (unmarked_from last.marks from (take place last.entries))) entry
+
+-- where an entry ends that has to be read
+pub record NeedsEnd (range : Range) (given_up own : List Entry) (from : ℕ) (last : Written) (end : EntryEnd) : Type 0 where
+  pub place : ℕ
+  pub entry : Entry
+  pub needed : IsNeeded range given_up own from last place entry
+  pub ends_there : slice_get (ends last.entries) place ≡ Some end
+
+-- the ends that a reader of a master has to have read, beside what that knew to be stored: only of the last of two members
+abbrev pub NeededOf : Row → (ℕ → Written) → List Member → ℕ → EntryEnd → Type 0
+NeededOf row written (first ∷ last ∷ []) master end =
+    (last.master ≡ master)
+    × NeedsEnd row.range (member_given_up written row first) (member_material written row.range first) last.from
+    (written last.master) end
+NeededOf row written lineage master end = ⊥
+
 -- ---- what is read
 
--- what is read of a segment: a first part of what the backup stores, and all that its master knew it to store
-pub record IsReadPart (known : Known) (stored : ℕ → List ℕ) (segment : ℕ) (bytes : List ℕ) : Type 0 where
+-- what is read of a segment: a first part of what the backup stores, and all that its master knew it to store; it reaches each end
+-- there that is needed
+pub record IsReadPart (Needed : EntryEnd → Type 0) (known : Known) (stored : ℕ → List ℕ) (segment : ℕ) (bytes : List ℕ) : Type 0 where
   pub front : IsFirstPart bytes (stored segment)
   pub enough : known_length known segment ≤ length bytes
+  pub needed : (end : EntryEnd) → Needed end → end.segment ≡ segment → end.offset ≤ length bytes
 
 -- what was read of a segment spells these entries
-pub record AreRead (known : Known) (stored : ℕ → List ℕ) (segment : ℕ) (entries : List Entry) : Type 0 where
+pub record AreRead (Needed : EntryEnd → Type 0) (known : Known) (stored : ℕ → List ℕ) (segment : ℕ) (entries : List Entry) : Type 0 where
   pub bytes : List ℕ
-  pub read : IsReadPart known stored segment bytes
+  pub read : IsReadPart Needed known stored segment bytes
   pub spelled : entries ≡ entries_of bytes
 
 -- what is gathered of a member: its main segments from the first one on, and side segments
-pub record IsGathered (known : Known) (stored : ℕ → List ℕ) (gathered : Gathered) : Type 0 where
+pub record IsGathered (Needed : EntryEnd → Type 0) (known : Known) (stored : ℕ → List ℕ) (gathered : Gathered) : Type 0 where
   pub main :
       (place : ℕ) → place < length gathered.main
-      → AreRead known stored (place + 1) (slice_index_or gathered.main place [])
+      → AreRead Needed known stored (place + 1) (slice_index_or gathered.main place [])
   -- once the main segments are passed, nothing was known to be stored behind them
   pub passed :
       gathered.main_read ≡ true → (segment : ℕ) → length gathered.main < segment → is_main segment ≡ true
       → known_length known segment ≡ 0
-  pub sides : EachIn (λ segment entries. AreRead known stored segment entries) gathered.sides
+  -- nor does anything stand behind them that is needed
+  pub passed_needed :
+      gathered.main_read ≡ true → (end : EntryEnd) → Needed end → is_main end.segment ≡ true
+      → end.segment ≤ length gathered.main
+  pub sides : EachIn (λ segment entries. AreRead Needed known stored segment entries) gathered.sides
 
 -- the gather is that of a row, by this master
 pub record IsGatherOf (gather : Gather) (range : Range) (lineage : List Member) (own : ℕ) : Type 0 where
@@ -73,10 +150,10 @@ pub record IsGatherOf (gather : Gather) (range : Range) (lineage : List Member) 
   pub own_is : gather.own ≡ own
   pub members_are : map (λ gathered. gathered.member) gather.members ≡ filter (λ member. not (member.master == own)) lineage
 
--- what was read of the members of a gather, by what backup 1 is known to store of each master, and stores
-abbrev pub AreGathered : (ℕ → Known) → (ℕ → ℕ → List ℕ) → List Gathered → Type 0
-AreGathered known stored members =
-    All (λ gathered. IsGathered (known gathered.member.master) (stored gathered.member.master) gathered) members
+-- what was read of the members of a gather, by what is needed of each master, and what backup 1 is known to store of it, and stores
+abbrev pub AreGathered : (ℕ → EntryEnd → Type 0) → (ℕ → Known) → (ℕ → ℕ → List ℕ) → List Gathered → Type 0
+AreGathered Needed known stored members =
+    All (λ gathered. IsGathered (Needed gathered.member.master) (known gathered.member.master) (stored gathered.member.master) gathered) members
 
 -- ---- what is merged
 
@@ -133,12 +210,12 @@ abbrev pub merged_place : Role → Option ℕ
 merged_place (roles.Rebuilding from entry) = entry
 merged_place role = None
 
--- a master that rebuilds a row: `truth` is the row's, `own` counts of its own entries that are not marked, and `stored` and `known`
--- tell what backup 1 stores of each master, and is known to store
-pub record IsRebuilder (row : Row) (lineage : List Member) (master : ℕ) (truth own : List Entry) (known : ℕ → Known) (stored : ℕ → ℕ → List ℕ) (written : Written) (handover : Handover) (completions : Completions) (gathering : Gather) (ends : List Ended) (records : List Held) : Type 0 where
+-- a master that rebuilds a row: `truth` is the row's, `own` counts of its own entries that are not marked, `Needed` tells what has to be
+-- read of each master, and `stored` and `known` what backup 1 stores of it, and is known to store
+pub record IsRebuilder (row : Row) (lineage : List Member) (master : ℕ) (truth own : List Entry) (Needed : ℕ → EntryEnd → Type 0) (known : ℕ → Known) (stored : ℕ → ℕ → List ℕ) (written : Written) (handover : Handover) (completions : Completions) (gathering : Gather) (ends : List Ended) (records : List Held) : Type 0 where
   pub range_is : handover.range ≡ row.range
   pub gather : IsGatherOf gathering row.range lineage master
-  pub read : AreGathered known stored gathering.members
+  pub read : AreGathered Needed known stored gathering.members
   pub placed : own_place handover.role ≤ length written.entries
   pub merged :
       IfSome (merged_place handover.role)
@@ -153,19 +230,6 @@ pub record IsRebuilder (row : Row) (lineage : List Member) (master : ℕ) (truth
   pub outside : is_member lineage master ≡ false → own ≡ []
 
 -- ---- marks
-
--- the marked entries from a place on
-abbrev pub marked_entries : List Mark → ℕ → List Entry → List Entry
-marked_entries marks place [] = []
-marked_entries marks place (entry ∷ entries) =
-    if is_marked marks place then entry ∷ marked_entries marks (suc place) entries
-    else marked_entries marks (suc place) entries
-
--- the marked entries of a member that count
-abbrev pub member_marked : (ℕ → Written) → Range → Member → List Entry
-member_marked written range member =
-    counting range
-    (marked_entries (written member.master).marks member.from (drop member.from (written member.master).entries))
 
 -- entries tell nothing that others do not
 pub record TellNoMore (entries others : List Entry) : Type 0 where
@@ -236,6 +300,7 @@ RowIsRebuilt row (Rebuilding lineage to) truth logs written stored handovers com
     ((handovers to row.tablet).term ≡ row.term
     → IsRebuilder row lineage to truth
     (member_material written row.range (member_at to (own_place (handovers to row.tablet).role)))
+    (NeededOf row written lineage)
     (λ master. known_of (logs master) READ_BACKUP) (λ master. stored_of stored master READ_BACKUP) (written to)
     (handovers to row.tablet) (completions to row.tablet) (gathers to row.tablet) (merged to row.tablet) (records to))
     × MarkedFit logs written stored live row.range lineage

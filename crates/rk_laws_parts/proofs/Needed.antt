@@ -1,0 +1,406 @@
+-- What has to be read of the last of two members, beside what its master knew to be stored: it is no more once a write was staged, and
+-- backup 1 stores it.
+use Rattle.std.proofs.Common.{◌≡◌, ℕ, zero, suc, ◌+◌, ◌-◌, ◌<◌, ◌≤◌, ◌⊎◌, Bool, true, false, cond, ◌||◌, List, [], ◌∷◌, ◌++◌, length, map, filter, get_or, Some, refl, sym, ap, ◌∙◌, subst, ⊎_elim, inl, inr, arith}
+use Rattle.std.specs.Prelude.{◌==◌, ◌&&◌, not, nat_le, nat_lt, drop, take, slice_get, slice_index_or}
+use Rattle.std.specs.List.{All, Contains, flat_map, list_any}
+use Rattle.std.proofs.lemmas.Bool.{and_parts, cases_lt, cond-false, cond_both, eq-eqb, eqb-true, false≢true, leb-true, ltb-true, or_right}
+use Rattle.std.proofs.lemmas.List.{append-nil, drop-append-le, length-drop}
+use Rattle.std.proofs.lemmas.List.Concat.{flat_map-append}
+use Rattle.std.proofs.lemmas.List.Elements.{All-cons, All-contains, All-head, All-nil, All-tail, Contains-append_cases, Contains-append_left, Contains-append_right, filter-append}
+use Rattle.std.proofs.lemmas.List.Sums.{prefix_len_passes}
+use Rattle.std.proofs.lemmas.Option.{get_or_from_slice_get, slice_get_within}
+use Rattle.rk_types.proofs.NumberMaps.{each_weaker}
+use Rattle.rk_types.specs.declared.call.Ended.{Ended}
+use Rattle.rk_types.specs.declared.held.Held.{Held}
+use Rattle.rk_types.specs.declared.lineage.Member.{Member}
+use Rattle.rk_types.specs.declared.range.Range.{Range}
+use Rattle.rk_entry.specs.Spelling.{spelled}
+use Rattle.rk_entry.specs.declared.entry.Entry.{Entry}
+use Rattle.rk_entry.specs.declared.entry.Entry.TheVariants as entries
+use Rattle.rk_log.proofs.Cuts.{AreFilled, filled_with, some_segments, spelled_some}
+use Rattle.rk_log.specs.Cut.{ends, ends_after, with_bytes}
+use Rattle.rk_log.specs.Known.{Known}
+use Rattle.rk_log.specs.Log.{Log}
+use Rattle.rk_log.specs.declared.ends.EntryEnd.{EntryEnd}
+use Rattle.rk_done.specs.Completions.{Completions}
+use Rattle.rk_transfer.specs.declared.handover.Handover.{Handover}
+use Rattle.rk_tablet_map.specs.declared.row.Row.{Row}
+use Rattle.rk_world.specs.Ends.{items_in, items_of, told, told_by}
+use Rattle.rk_world.specs.declared.work.Mark.{Mark}
+use Rattle.rk_world.specs.Marks.{is_marked, unmarked_from}
+use Rattle.rk_world.specs.Material.{counts, counting, log_material, named, side_entries}
+use Rattle.rk_world.specs.Lineage.{is_member}
+use Rattle.rk_world.specs.Gather.{Gather, Gathered}
+use Rattle.rk_world.specs.Written.{Written}
+use Rattle.rk_sound.specs.Rebuilds.{AreGathered, AreRead, HasItemMore, IsGathered, IsNeeded, IsReadPart, IsRebuilder, NeededOf, NeedsEnd, TellNoMore, TellsEndMore, TellsMore, given_up_marks, marked_entries, stored_count}
+use Rattle.rk_sound.specs.Small.{with_one_more}
+use Rattle.rk_laws_parts.proofs.Gathered.{IsAway}
+use Rattle.rk_laws_parts.proofs.Grows.{Extends, counting_extends, extends_behind, take_extends}
+use Rattle.rk_laws_parts.proofs.Shares.{drop_none, marked_none, named_same, unmarked_from_last, unmarked_from_none}
+use Rattle.rk_laws_parts.proofs.Rebuilders.{last_member}
+
+-- ---- what was read is enough where no more is needed
+
+pub part_weaker : (Needed Less : EntryEnd → Type 0) (known : Known) (stored : ℕ → List ℕ) (segment : ℕ) (bytes : List ℕ) → ((end : EntryEnd) → Less end → Needed end) → IsReadPart Needed known stored segment bytes → IsReadPart Less known stored segment bytes
+part_weaker Needed Less known stored segment bytes less part = record {
+  front = part.front;
+  enough = part.enough;
+  needed = λ end its at. part.needed end (less end its) at;
+}
+
+read_weaker : (Needed Less : EntryEnd → Type 0) (known : Known) (stored : ℕ → List ℕ) (segment : ℕ) (list : List Entry) → ((end : EntryEnd) → Less end → Needed end) → AreRead Needed known stored segment list → AreRead Less known stored segment list
+read_weaker Needed Less known stored segment list less read = record {
+  bytes = read.bytes;
+  read = part_weaker Needed Less known stored segment read.bytes less read.read;
+  spelled = read.spelled;
+}
+
+one_weaker : (Needed Less : EntryEnd → Type 0) (known : Known) (stored : ℕ → List ℕ) (gathered : Gathered) → ((end : EntryEnd) → Less end → Needed end) → IsGathered Needed known stored gathered → IsGathered Less known stored gathered
+one_weaker Needed Less known stored gathered less was = record {
+  main = λ place within.
+      read_weaker Needed Less known stored (place + 1) (slice_index_or gathered.main place []) less (was.main place within);
+  passed = was.passed;
+  passed_needed = λ read end its main. was.passed_needed read end (less end its) main;
+  sides =
+      each_weaker (λ n list. AreRead Needed known stored n list) (λ n list. AreRead Less known stored n list) gathered.sides
+      (λ n list. read_weaker Needed Less known stored n list less) was.sides;
+}
+
+-- no more is needed of masters but one
+abbrev pub NeedsLess : (ℕ → EntryEnd → Type 0) → (ℕ → EntryEnd → Type 0) → ℕ → Type 0
+NeedsLess Needed Less own = (q : ℕ) → (q ≡ own → ⊥) → (end : EntryEnd) → Less q end → Needed q end
+
+-- so what was read of them is enough
+module _ (Needed Less : ℕ → EntryEnd → Type 0) (known : ℕ → Known) (stored : ℕ → ℕ → List ℕ) (own : ℕ) (less : NeedsLess Needed Less own) where
+  pub gathered_weaker : (members : List Gathered) → IsAway own (map (λ gathered. gathered.member) members) → AreGathered Needed known stored members → AreGathered Less known stored members
+  gathered_weaker [] away was = All-nil _
+  gathered_weaker (gathered ∷ members) away was =
+      let Was : Gathered → Type 0 = λ g. IsGathered (Needed g.member.master) (known g.member.master) (stored g.member.master) g in
+      let Is : Gathered → Type 0 = λ g. IsGathered (Less g.member.master) (known g.member.master) (stored g.member.master) g in
+      let q : ℕ = gathered.member.master in
+      All-cons Is gathered members
+      (one_weaker (Needed q) (Less q) (known q) (stored q) gathered (less q away.0) (All-head Was gathered members was))
+      (gathered_weaker members away.1 (All-tail Was gathered members was))
+
+-- the members that are read are others than the master
+kept_away : (own : ℕ) (lineage : List Member) → IsAway own (filter (λ member. not (member.master == own)) lineage)
+kept_away own [] = tt
+kept_away own (member ∷ others) =
+    let later = kept_away own others in
+    cond_both (not (member.master == own)) (member ∷ filter (λ m. not (m.master == own)) others)
+    (filter (λ m. not (m.master == own)) others) (IsAway own)
+    (λ e. (λ same. absurd (false≢true (sym (ap not (eq-eqb member.master own same)) ∙ e)), later)) (λ e. later)
+
+-- as the gather of a row says
+pub read_away : (own : ℕ) (lineage : List Member) (members : List Gathered) → map (λ gathered. gathered.member) members ≡ filter (λ member. not (member.master == own)) lineage → IsAway own (map (λ gathered. gathered.member) members)
+read_away own lineage members is = subst (IsAway own) (sym is) (kept_away own lineage)
+
+-- so a master that rebuilds a row goes on where no more is needed of others
+module _ (row : Row) (lineage : List Member) (master : ℕ) (truth own : List Entry) (Needed Less : ℕ → EntryEnd → Type 0) (known : ℕ → Known) (stored : ℕ → ℕ → List ℕ) (w : Written) (handover : Handover) (completions : Completions) (gather : Gather) (merged : List Ended) (table : List Held) where
+  -- by what is needed
+  abbrev RebuildsBy : (ℕ → EntryEnd → Type 0) → Type 0
+  RebuildsBy Wanted = IsRebuilder row lineage master truth own Wanted known stored w handover completions gather merged table
+
+  pub rebuilder_weaker : NeedsLess Needed Less master → RebuildsBy Needed → RebuildsBy Less
+  rebuilder_weaker less was = record {
+    range_is = was.range_is;
+    gather = was.gather;
+    read =
+        gathered_weaker Needed Less known stored master less gather.members
+        (read_away master lineage gather.members was.gather.members_are) was.read;
+    placed = was.placed;
+    merged = was.merged;
+    items = was.items;
+    sides = was.sides;
+    outside = was.outside;
+  }
+
+-- ---- what entries tell
+
+-- what these tell is told by those: items and ends
+abbrev pub AreAmong : List Entry → List Entry → Type 0
+AreAmong these those =
+    ((item : Held) → Contains (items_of these) item → Contains (items_of those) item)
+    × ((end : Ended) → Contains (told these) end → Contains (told those) end)
+
+-- of one kind, with more behind both
+told_front : {X : Type 0} (f : Entry → List X) (these those more : List Entry) → ((x : X) → Contains (flat_map f these) x → Contains (flat_map f those) x) → (x : X) → Contains (flat_map f (these ++ more)) x → Contains (flat_map f (those ++ more)) x
+told_front {X} f these those more among x at =
+    subst (λ (all : List X). Contains all x) (sym (flat_map-append f those more))
+    (⊎_elim
+    (λ (front : Contains (flat_map f these) x). Contains-append_left (flat_map f those) (flat_map f more) x (among x front))
+    (λ (behind : Contains (flat_map f more) x). Contains-append_right (flat_map f those) (flat_map f more) x behind)
+    (Contains-append_cases (flat_map f these) (flat_map f more) x
+    (subst (λ (all : List X). Contains all x) (flat_map-append f these more) at)))
+
+-- of both kinds
+among_front : (these those more : List Entry) → AreAmong these those → AreAmong (these ++ more) (those ++ more)
+among_front these those more among =
+    (told_front items_in these those more among.0, told_front told_by these those more among.1)
+
+-- those may have more
+told_extended : {X : Type 0} (f : Entry → List X) (old new : List Entry) → Extends old new → (x : X) → Contains (flat_map f old) x → Contains (flat_map f new) x
+told_extended {X} f old new grown x at =
+    subst (λ (list : List Entry). Contains (flat_map f list) x) (sym grown.parts)
+    (subst (λ (all : List X). Contains all x) (sym (flat_map-append f old grown.more))
+    (Contains-append_left (flat_map f old) (flat_map f grown.more) x at))
+
+-- of both kinds
+extended_among : (old new : List Entry) → Extends old new → AreAmong old new
+extended_among old new grown = (told_extended items_in old new grown, told_extended told_by old new grown)
+
+pub among_then : (a b c : List Entry) → AreAmong a b → AreAmong b c → AreAmong a c
+among_then a b c first then = (λ item at. then.0 item (first.0 item at), λ end at. then.1 end (first.1 end at))
+
+pub tells_among : (these those : List Entry) → TellNoMore these those → AreAmong these those
+tells_among these those tells =
+    (tells.items, λ end at. All-contains (Contains (told those)) (told these) end tells.ends at)
+
+-- so no entry tells anything of these that those do not
+none_more : (these those : List Entry) (entry : Entry) → AreAmong these those → TellsMore these those entry → ⊥
+none_more these those entry among =
+    ⊎_elim
+    (λ (more : HasItemMore these those entry). more.new (among.0 more.item more.wanted))
+    (λ (more : TellsEndMore these those entry). more.new (among.1 more.end more.wanted))
+
+-- and what those do not tell, fewer do not
+more_than_fewer : (these those fewer : List Entry) (entry : Entry) → AreAmong fewer those → TellsMore these those entry → TellsMore these fewer entry
+more_than_fewer these those fewer entry among =
+    ⊎_elim
+    (λ (more : HasItemMore these those entry).
+    inl (record { item = more.item; here = more.here; wanted = more.wanted; new = λ at. more.new (among.0 more.item at) }))
+    (λ (more : TellsEndMore these those entry).
+    inr (record { end = more.end; here = more.here; wanted = more.wanted; new = λ at. more.new (among.1 more.end at) }))
+
+-- so less is needed where the first member tells more
+pub needs_less : (range : Range) (given_up own more : List Entry) (from : ℕ) (last : Written) (end : EntryEnd) → AreAmong own more → NeedsEnd range given_up more from last end → NeedsEnd range given_up own from last end
+needs_less range given_up own more from last end among needs =
+    let before : List Entry = counting range (unmarked_from last.marks from (take needs.place last.entries)) in
+    record {
+      place = needs.place;
+      entry = needs.entry;
+      needed = record {
+        behind = needs.needed.behind;
+        stands = needs.needed.stands;
+        unmarked = needs.needed.unmarked;
+        in_range = needs.needed.in_range;
+        tells =
+            more_than_fewer given_up (more ++ before) (own ++ before) needs.entry (among_front own more before among)
+            needs.needed.tells;
+      };
+      ends_there = needs.ends_there;
+    }
+
+-- only of a member anything is needed
+pub needed_member : (row : Row) (written : ℕ → Written) (lineage : List Member) (q : ℕ) (end : EntryEnd) → NeededOf row written lineage q end → is_member lineage q ≡ true
+needed_member row written [] q end needed = absurd needed
+needed_member row written (only ∷ []) q end needed = absurd needed
+needed_member row written (first ∷ last ∷ []) q end needed = last_member (first ∷ last ∷ []) last q refl needed.0
+needed_member row written (first ∷ second ∷ third ∷ more) q end needed = absurd needed
+
+-- ---- one more entry
+
+-- a marked entry is not the last one, where all marks are before it
+marked_last : (marks : List Mark) (place : ℕ) (list : List Entry) (entry : Entry) → is_marked marks (place + length list) ≡ false → marked_entries marks place (list ++ entry ∷ []) ≡ marked_entries marks place list
+marked_last marks place [] entry free =
+    let at : place + 0 ≡ place = omega arith in
+    cond-false (is_marked marks place) (entry ∷ []) [] (ap (is_marked marks) (sym at) ∙ free)
+marked_last marks place (first ∷ list) entry free =
+    let at : suc place + length list ≡ place + suc (length list) = omega arith in
+    ap (λ (rest : List Entry). cond (is_marked marks place) (first ∷ rest) rest)
+    (marked_last marks (suc place) list entry (ap (is_marked marks) at ∙ free))
+
+-- nor is it from a place on
+marked_from_last : (marks : List Mark) (from : ℕ) (list : List Entry) (entry : Entry) → is_marked marks (length list) ≡ false → marked_entries marks from (drop from (list ++ entry ∷ [])) ≡ marked_entries marks from (drop from list)
+marked_from_last marks from list entry free =
+    ⊎_elim
+    (λ (beyond : length list < from). ap (marked_entries marks from) (drop_none from list entry beyond))
+    (λ (within : from ≤ length list).
+    let size : from + length (drop from list) ≡ length list = omega (arith, length-drop from list) in
+    ap (marked_entries marks from) (drop-append-le from list (entry ∷ []) within)
+    ∙ marked_last marks from (drop from list) entry (ap (is_marked marks) size ∙ free))
+    (cases_lt (length list) from)
+
+-- those of marks that are kept are before it too
+kept_within : (keep : Mark → Bool) (marks : List Mark) (place : ℕ) → All (λ mark. mark.past ≤ place) marks → All (λ mark. mark.past ≤ place) (filter keep marks)
+kept_within keep [] place within = All-nil _
+kept_within keep (mark ∷ marks) place within =
+    let Within : Mark → Type 0 = λ m. m.past ≤ place in
+    let later = kept_within keep marks place (All-tail Within mark marks within) in
+    cond_both (keep mark) (mark ∷ filter keep marks) (filter keep marks) (All Within)
+    (λ e. All-cons Within mark (filter keep marks) (All-head Within mark marks within) later) (λ e. later)
+
+-- what a master has of given up rebuilds, from a place on
+abbrev pub given_up_of : Row → ℕ → Written → List Entry
+given_up_of row from w = counting row.range (marked_entries (given_up_marks row w.marks) from (drop from w.entries))
+
+-- and all that counts of what it wrote
+abbrev pub material_at : Range → ℕ → Written → List Entry
+material_at range from w = log_material range w.marks w.sides from w.entries
+
+-- the one is what it was
+pub given_up_pushed : (row : Row) (from : ℕ) (w : Written) (item : Held) → All (λ mark. mark.past ≤ length w.entries) w.marks → given_up_of row from (with_one_more w (entries.Held item)) ≡ given_up_of row from w
+given_up_pushed row from w item marked =
+    ap (counting row.range)
+    (marked_from_last (given_up_marks row w.marks) from w.entries (entries.Held item)
+    (marked_none (given_up_marks row w.marks) (length w.entries)
+    (kept_within (λ mark. mark.tablet == row.tablet && nat_lt mark.term row.term) w.marks (length w.entries) marked)))
+
+-- and the other tells what it told
+pub material_pushed : (range : Range) (from : ℕ) (w : Written) (item : Held) → AreAmong (material_at range from w) (material_at range from (with_one_more w (entries.Held item)))
+material_pushed range from w item =
+    let list : List Entry = w.entries ++ entries.Held item ∷ [] in
+    let side : List Entry → List Entry = λ all. counting range (flat_map (side_entries w.sides) (named range all)) in
+    let old : List Entry = counting range (unmarked_from w.marks from w.entries) in
+    let new : List Entry = counting range (unmarked_from w.marks from list) in
+    let same : side (unmarked_from w.marks from list) ≡ side (unmarked_from w.marks from w.entries) =
+    ap (λ (segments : List ℕ). counting range (flat_map (side_entries w.sides) segments)) named_pushed in
+    subst (λ (sides : List Entry). AreAmong (old ++ side (unmarked_from w.marks from w.entries)) (new ++ sides)) (sym same)
+    (among_front old new (side (unmarked_from w.marks from w.entries))
+    (extended_among old new (counting_extends range w.marks from w.entries list (record { more = entries.Held item ∷ []; parts = refl }))))
+  where
+    named_pushed : named range (unmarked_from w.marks from (w.entries ++ entries.Held item ∷ [])) ≡ named range (unmarked_from w.marks from w.entries)
+    named_pushed =
+        ⊎_elim
+        (λ (beyond : length w.entries < from). ap (named range) (unmarked_from_none w.marks from w.entries (entries.Held item) beyond))
+        (λ (within : from ≤ length w.entries).
+        ap (named range) (unmarked_from_last w.marks from w.entries (entries.Held item) within)
+        ∙ named_same range item (unmarked_from w.marks from w.entries) (is_marked w.marks (length w.entries)))
+        (cases_lt (length w.entries) from)
+
+-- ---- what is needed is stored
+
+-- a test that some kept ones pass
+any_kept : (p keep : Mark → Bool) (marks : List Mark) → list_any p (filter keep marks) ≡ true → list_any p marks ≡ true
+any_kept p keep [] some = some
+any_kept p keep (mark ∷ marks) some =
+    cond_both (keep mark) (mark ∷ filter keep marks) (filter keep marks) (λ kept. list_any p kept ≡ true → list_any p (mark ∷ marks) ≡ true)
+    (λ e some. either (p mark) (any_kept p keep marks) some)
+    (λ e some. or_right (p mark) (list_any p marks) (any_kept p keep marks some)) some
+  where
+    either : (b : Bool) → (list_any p (filter keep marks) ≡ true → list_any p marks ≡ true) → (b || list_any p (filter keep marks)) ≡ true → (b || list_any p marks) ≡ true
+    either true later some = refl
+    either false later some = later some
+
+-- what one more entry tells
+told_cons : {X : Type 0} (f : Entry → List X) (range : Range) (entry : Entry) (list : List Entry) → flat_map f (counting range (entry ∷ list)) ≡ flat_map f (counting range (entry ∷ [])) ++ flat_map f (counting range list)
+told_cons f range entry list =
+    ap (flat_map f) (filter-append (counts range) (entry ∷ []) list)
+    ∙ flat_map-append f (counting range (entry ∷ [])) (counting range list)
+
+-- something is told by the marked entries of a range
+abbrev IsTold : {X : Type 0} → (Entry → List X) → Range → List Entry → X → Type 0
+IsTold f range list x = Contains (flat_map f (counting range list)) x
+
+-- what bears some marks tells no more than what bears any
+told_marked : {X : Type 0} (f : Entry → List X) (range : Range) (some all : List Mark) → ((n : ℕ) → is_marked some n ≡ true → is_marked all n ≡ true) → (place : ℕ) (list : List Entry) (x : X) → IsTold f range (marked_entries some place list) x → IsTold f range (marked_entries all place list) x
+told_marked f range some all more place [] x at = at
+told_marked {X} f range some all more place (entry ∷ list) x at =
+    go (is_marked some place) (is_marked all place) (more place) (marked_entries some (suc place) list) (marked_entries all (suc place) list)
+    (told_marked f range some all more (suc place) list x) at
+  where
+    front : (list : List Entry) → IsTold f range (entry ∷ list) x → IsTold f range (entry ∷ []) x ⊎ IsTold f range list x
+    front list at =
+        Contains-append_cases (flat_map f (counting range (entry ∷ []))) (flat_map f (counting range list)) x
+        (subst (λ (all : List X). Contains all x) (told_cons f range entry list) at)
+
+    left : (list : List Entry) → IsTold f range (entry ∷ []) x → IsTold f range (entry ∷ list) x
+    left list at =
+        subst (λ (all : List X). Contains all x) (sym (told_cons f range entry list))
+        (Contains-append_left (flat_map f (counting range (entry ∷ []))) (flat_map f (counting range list)) x at)
+
+    right : (list : List Entry) → IsTold f range list x → IsTold f range (entry ∷ list) x
+    right list at =
+        subst (λ (all : List X). Contains all x) (sym (told_cons f range entry list))
+        (Contains-append_right (flat_map f (counting range (entry ∷ []))) (flat_map f (counting range list)) x at)
+
+    go : (b c : Bool) → (b ≡ true → c ≡ true) → (few many : List Entry) → (IsTold f range few x → IsTold f range many x) → IsTold f range (cond b (entry ∷ few) few) x → IsTold f range (cond c (entry ∷ many) many) x
+    go true false so few many later at = absurd (false≢true (so refl))
+    go true true so few many later at = ⊎_elim (left many) (λ (behind : IsTold f range few x). right many (later behind)) (front few at)
+    go false true so few many later at = right many (later at)
+    go false false so few many later at = later at
+
+-- so what a master has of given up rebuilds tells no more than all that it has of rebuilds
+pub given_up_among : (row : Row) (from : ℕ) (w : Written) → AreAmong (given_up_of row from w) (counting row.range (marked_entries w.marks from (drop from w.entries)))
+given_up_among row from w =
+    let more : (n : ℕ) → is_marked (given_up_marks row w.marks) n ≡ true → is_marked w.marks n ≡ true = λ n.
+    any_kept (λ mark. nat_le mark.first n && nat_lt n mark.past) (λ mark. mark.tablet == row.tablet && nat_lt mark.term row.term) w.marks in (
+      told_marked items_in row.range (given_up_marks row w.marks) w.marks more from (drop from w.entries),
+      told_marked told_by row.range (given_up_marks row w.marks) w.marks more from (drop from w.entries),
+    )
+
+-- a master whose marks are of the row's term has nothing of given up rebuilds
+none_given_up : (row : Row) (marks : List Mark) → All (λ mark. mark.tablet ≡ row.tablet → mark.term ≡ row.term) marks → given_up_marks row marks ≡ []
+none_given_up row [] fit = refl
+none_given_up row (mark ∷ marks) fit =
+    let Fits : Mark → Type 0 = λ m. m.tablet ≡ row.tablet → m.term ≡ row.term in
+    cond_both (mark.tablet == row.tablet && nat_lt mark.term row.term) (mark ∷ given_up_marks row marks) (given_up_marks row marks) (λ kept. kept ≡ [])
+    (λ e.
+    let parts = and_parts (mark.tablet == row.tablet) (nat_lt mark.term row.term) e in
+    let same : mark.term ≡ row.term = All-head Fits mark marks fit (eqb-true mark.tablet row.tablet parts.0) in
+    let less : mark.term < row.term = ltb-true mark.term row.term parts.1 in
+    absurd (omega (arith, same, less)))
+    (λ e. none_given_up row marks (All-tail Fits mark marks fit))
+
+-- without marks nothing is marked
+unmarked_none : (place : ℕ) (list : List Entry) → marked_entries [] place list ≡ []
+unmarked_none place [] = refl
+unmarked_none place (entry ∷ list) = unmarked_none (suc place) list
+
+-- so what it has of them is told by any
+pub living_among : (row : Row) (from : ℕ) (w : Written) (those : List Entry) → All (λ mark. mark.tablet ≡ row.tablet → mark.term ≡ row.term) w.marks → AreAmong (given_up_of row from w) those
+living_among row from w those fit =
+    let none : given_up_of row from w ≡ [] =
+    ap (λ (marks : List Mark). counting row.range (marked_entries marks from (drop from w.entries))) (none_given_up row w.marks fit)
+    ∙ ap (counting row.range) (unmarked_none from (drop from w.entries)) in
+    subst (λ (list : List Entry). AreAmong list those) (sym none)
+    (λ item at. absurd (omega (arith, at.1)), λ end at. absurd (omega (arith, at.1)))
+
+-- what counts of the first entries of a log, from a place on
+abbrev pub first_counted : Range → ℕ → Written → ℕ → List Entry
+first_counted range from w count = counting range (unmarked_from w.marks from (take count w.entries))
+
+-- an entry that is needed is one of the first ones of a log, where these tell all that is wanted
+pub needed_within : (range : Range) (given_up own : List Entry) (from : ℕ) (last : Written) (place : ℕ) (entry : Entry) (count : ℕ) → IsNeeded range given_up own from last place entry → AreAmong given_up (own ++ first_counted range from last count) → place < count
+needed_within range given_up own from last place entry count needed among =
+    let some : List Entry = first_counted range from last count in
+    let all : List Entry = first_counted range from last place in
+    ⊎_elim
+    (λ (within : place < count). within)
+    (λ (few : count ≤ place).
+    let taken : Extends (take count last.entries) (take place last.entries) =
+    subst (λ (list : List Entry). Extends (take count last.entries) (take place list)) (append-nil last.entries)
+    (take_extends count place last.entries [] few) in
+    let grown : Extends (own ++ some) (own ++ all) =
+    extends_behind own some all (counting_extends range last.marks from (take count last.entries) (take place last.entries) taken) in
+    absurd (none_more given_up (own ++ all) entry
+    (among_then given_up (own ++ some) (own ++ all) among (extended_among (own ++ some) (own ++ all) grown)) needed.tells))
+    (cases_lt place count)
+
+-- an entry has some bytes, so it does not end where its segment begins
+end_some : (segments : List (List ℕ)) (list : List Entry) (k : ℕ) (d : EntryEnd) → AreFilled segments → k < length (ends_after segments list) → 1 ≤ (get_or (ends_after segments list) k d).offset
+end_some segments [] k d filled within = absurd (omega arith)
+end_some segments (entry ∷ list) zero d filled within =
+    let now : List (List ℕ) = with_bytes segments (spelled entry) in
+    let some = filled_with segments (spelled entry) filled (spelled_some entry) (length now - 1) (omega (arith, (some_segments segments (spelled entry)).1)) in
+    omega (arith, some)
+end_some segments (entry ∷ list) (suc k) d filled within =
+    end_some (with_bytes segments (spelled entry)) list k d (filled_with segments (spelled entry) filled (spelled_some entry)) (omega arith)
+
+-- an end that is stored, and is not where its segment begins
+pub record IsStoredEnd (stored : ℕ → List ℕ) (end : EntryEnd) : Type 0 where
+  pub some : 1 ≤ end.offset
+  pub there : end.offset ≤ length (stored end.segment)
+
+-- such is the end of one of the first entries, which a backup stores
+pub end_stored : (log : Log) (w : Written) (stored : ℕ → List ℕ) (place : ℕ) (end : EntryEnd) → log.entries ≡ w.entries → place < stored_count log stored → slice_get (ends w.entries) place ≡ Some end → IsStoredEnd stored end
+end_stored log w stored place end same less stands =
+    let there : slice_get (ends log.entries) place ≡ Some end = ap (λ (list : List Entry). slice_get (ends list) place) same ∙ stands in
+    let within : place < length (ends log.entries) = slice_get_within (ends log.entries) place end there in
+    let at : get_or (ends log.entries) place end ≡ end = get_or_from_slice_get (ends log.entries) place end end there in
+    let passes = prefix_len_passes (λ (e : EntryEnd). nat_le e.offset (length (stored e.segment))) (ends log.entries) place end less in
+    record {
+      some = subst (λ (e : EntryEnd). 1 ≤ e.offset) at (end_some [] log.entries place end (λ k h. absurd (omega arith)) within);
+      there =
+          subst (λ (e : EntryEnd). e.offset ≤ length (stored e.segment)) at (leb-true _ _ passes);
+    }
