@@ -1,5 +1,5 @@
 -- The bytes of all logs of a lane fit after each event but those by which a master may append more than an entry: where it is told
--- Pulled, Got, Rebuild or Copy, or Stored while a tablet of its own waits for its side segments.
+-- Pulled, Got, Rebuild or Copy.
 use Rattle.std.proofs.Common.{◌≡◌, ◌≤◌, ◌<◌, ◌+◌, ℕ, false, Option, None, Some, [], refl, subst, arith}
 use Rattle.std.specs.Prelude.{IfSome, unwrap_or}
 use Rattle.std.proofs.lemmas.Bool.{cond_both}
@@ -31,7 +31,8 @@ use Rattle.rk_world.specs.Step.{Stepped, backed_at, delivered, delivered_to, hap
 use Rattle.rk_world.specs.World.{World, bytes_of_logs, has_crashed, is_backup, master_at, with_master, with_stored_by}
 use Rattle.rk_laws_formed.proofs.Bounds.{within_sum_of}
 use Rattle.rk_laws_formed.proofs.Events.{comes_fresh}
-use Rattle.rk_laws_formed.proofs.LogBytes.{bytes_with_tablet, inserted_most, unsealed_at_most}
+use Rattle.rk_laws_formed.proofs.LogBytes.{bytes_with_tablet, unsealed_at_most}
+use Rattle.rk_laws_formed.proofs.MapSums.{inserted_most}
 use Rattle.rk_laws_formed.proofs.Rooms.{room_again, room_come, room_crashed, room_forgotten}
 use Rattle.rk_laws_formed.specs.Plain.{IsPlainBody, IsPlainEvent, IsPlainFor}
 use Rattle.rk_laws_formed.proofs.StepBytes.{BytesFit, split_bytes, told_bytes}
@@ -54,7 +55,7 @@ logs_fit w number master fresh fits = omega (arith, fresh, fits, inserted_most l
 -- ---- a message and a turn
 
 master_bytes : (w : World) (number : ℕ) (message : Message) → bytes_of_logs w < WORN_BYTES → IsMaster w.coordinator.masters number → IsFormedMessage (limits_of w) message
-    → IsPlainBody (master_at w number) message.body → IsWellFormed w → HasRoom w → bytes_of_logs (to_master w number message).world < MOST_BYTES
+    → IsPlainBody message.body → IsWellFormed w → HasRoom w → bytes_of_logs (to_master w number message).world < MOST_BYTES
 master_bytes w number message fresh there told plain formed room =
     cond_both (has_crashed w number) (losing w) (worked_at w number (seen_in message.body) (master_step (master_at w number) message))
     (λ (stepped : Stepped). bytes_of_logs stepped.world < MOST_BYTES)
@@ -86,7 +87,7 @@ backup_bytes w backup sender body called room =
     fits =
         omega (arith, room.bytes, stored_logs w backup (λ segments. stored_after segments sender body called) (get w.backups backup))
 
-received_bytes : (w : World) (message : Message) (to : Node) (called : Called) → message.to ≡ to → bytes_of_logs w < WORN_BYTES → IsFormedMessage (limits_of w) message → IsPlainFor w to message.body → IsWellFormed w → HasRoom w → bytes_of_logs (delivered_to w message to called).world < MOST_BYTES
+received_bytes : (w : World) (message : Message) (to : Node) (called : Called) → message.to ≡ to → bytes_of_logs w < WORN_BYTES → IsFormedMessage (limits_of w) message → IsPlainFor to message.body → IsWellFormed w → HasRoom w → bytes_of_logs (delivered_to w message to called).world < MOST_BYTES
 received_bytes w message (nodes.Client client) called is fresh told plain formed room = room.bytes
 received_bytes w message nodes.Coordinator called is fresh told plain formed room = room.bytes
 received_bytes w message (nodes.Master master) called is fresh told plain formed room =
@@ -97,7 +98,7 @@ received_bytes w message (nodes.Backup backup) called is fresh told plain formed
 delivered_bytes : (w : World) (number : ℕ) (called : Called) → bytes_of_logs w < WORN_BYTES → IsPlainEvent w (events.Deliver number) → IsWellFormed w → HasRoom w → bytes_of_logs (happened w (events.Deliver number) called).world < MOST_BYTES
 delivered_bytes w number called fresh plain formed room = go (get w.wire.messages number) refl plain
   where
-    go : (found : Option Message) → get w.wire.messages number ≡ found → IfSome found (λ message. IsPlainFor w message.to message.body) → bytes_of_logs (delivered w found called).world < MOST_BYTES
+    go : (found : Option Message) → get w.wire.messages number ≡ found → IfSome found (λ message. IsPlainFor message.to message.body) → bytes_of_logs (delivered w found called).world < MOST_BYTES
     go None is it = room.bytes
     go (Some message) is it =
         received_bytes w message message.to called refl fresh (formed.wire.each number message is) it formed room

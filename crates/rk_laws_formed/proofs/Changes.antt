@@ -17,19 +17,21 @@ use Rattle.rk_log.specs.Log.{known_of}
 use Rattle.rk_table.proofs.Changes.{order_after, order_without}
 use Rattle.rk_table.specs.Items.{found, is_in, is_newer, with_item as item_put, with_newer, without}
 use Rattle.rk_table.specs.Order.{IsInScanOrder, is_before}
-use Rattle.rk_world.specs.Formed.{IsFormedCall, IsFormedMaster, IsFormedSide, IsFormedTablet}
+use Rattle.rk_world.specs.Formed.{IsFormedCall, IsFormedMaster, IsFormedSide, IsFormedTablet, side_waits, side_waits_of}
 use Rattle.rk_world.specs.Limits.{IsFormedEntry, IsFormedHeld, Limits}
-use Rattle.rk_world.specs.Master.{Master, with_all, with_appended, with_item, with_known, with_side_segment, with_tablet, without_items}
+use Rattle.rk_world.specs.Master.{Master, tablet_at, with_all, with_appended, with_item, with_known, with_side_segment, with_tablet, without_items}
 use Rattle.rk_world.specs.Material.{as_entries}
 use Rattle.rk_world.specs.Requests.{with_staged}
 use Rattle.rk_world.specs.Tablet.{Tablet}
+use Rattle.rk_laws_formed.proofs.SideWaits.{waits_inserted}
 
 -- ---- tablets
 
 -- its tablets are so
 pub formed_with_tablets : (limits : Limits) (number : ℕ) (master : Master) (tablets : NumberMap Tablet) → IsFormedMaster limits number master
-    → IsInOrder tablets → EachIn (IsFormedTablet limits) tablets → IsFormedMaster limits number (record master { tablets = tablets })
-formed_with_tablets limits number master tablets formed order each = record {
+    → IsInOrder tablets → EachIn (IsFormedTablet limits) tablets → side_waits tablets ≤ length master.log.sides
+    → IsFormedMaster limits number (record master { tablets = tablets })
+formed_with_tablets limits number master tablets formed order each few = record {
   number_is = formed.number_is;
   known = formed.known;
   lengths = formed.lengths;
@@ -44,15 +46,28 @@ formed_with_tablets limits number master tablets formed order each = record {
   calls = formed.calls;
   tablets_order = order;
   tablets = each;
+  waited = few;
 }
 
--- one of its tablets is so
-pub formed_with_tablet : (limits : Limits) (number : ℕ) (master : Master) (id : ℕ) (tablet : Tablet) → IsFormedMaster limits number master
-    → IsFormedTablet limits id tablet → IsFormedMaster limits number (with_tablet master id tablet)
-formed_with_tablet limits number master id tablet formed new =
+-- one of its tablets is so, and there are side segments enough for what all wait for then
+pub formed_with_waiting : (limits : Limits) (number : ℕ) (master : Master) (id : ℕ) (tablet : Tablet) → IsFormedMaster limits number master
+    → IsFormedTablet limits id tablet → side_waits master.tablets + side_waits_of tablet ≤ length master.log.sides
+    → IsFormedMaster limits number (with_tablet master id tablet)
+formed_with_waiting limits number master id tablet formed new few =
     formed_with_tablets limits number master (insert master.tablets id tablet) formed
     (in_order_insert master.tablets id tablet formed.tablets_order)
     (each_insert (IsFormedTablet limits) master.tablets id tablet formed.tablets new)
+    (omega (arith, few, waits_inserted master id tablet formed.tablets_order))
+
+-- one of its tablets is so, and waits for no more side segments than before
+pub formed_with_tablet : (limits : Limits) (number : ℕ) (master : Master) (id : ℕ) (tablet : Tablet) → IsFormedMaster limits number master
+    → IsFormedTablet limits id tablet → side_waits_of tablet ≤ side_waits_of (tablet_at master id)
+    → IsFormedMaster limits number (with_tablet master id tablet)
+formed_with_tablet limits number master id tablet formed new few =
+    formed_with_tablets limits number master (insert master.tablets id tablet) formed
+    (in_order_insert master.tablets id tablet formed.tablets_order)
+    (each_insert (IsFormedTablet limits) master.tablets id tablet formed.tablets new)
+    (omega (arith, formed.waited, few, waits_inserted master id tablet formed.tablets_order))
 
 -- ---- calls
 
@@ -74,6 +89,7 @@ formed_with_calls limits number master calls formed order each = record {
   calls = each;
   tablets_order = formed.tablets_order;
   tablets = formed.tablets;
+  waited = formed.waited;
 }
 
 -- ---- the log
@@ -112,6 +128,7 @@ formed_with_appended limits number master entry formed new = record {
       formed.calls;
   tablets_order = formed.tablets_order;
   tablets = formed.tablets;
+  waited = formed.waited;
 }
 
 -- entries are put at the end of the log, one after the other
@@ -163,6 +180,7 @@ formed_with_known limits number master backup segment size formed = record {
   calls = formed.calls;
   tablets_order = formed.tablets_order;
   tablets = formed.tablets;
+  waited = formed.waited;
 }
 
 -- a side segment with these items becomes known to the log
@@ -188,6 +206,7 @@ formed_with_side_segment limits number master items formed side each = record {
   calls = formed.calls;
   tablets_order = formed.tablets_order;
   tablets = formed.tablets;
+  waited = omega (arith, formed.waited, length-append master.log.sides (spelled_all (as_entries items) ∷ []));
 }
 
 -- ---- records
@@ -220,6 +239,7 @@ formed_with_records limits number master records formed each order = record {
   calls = formed.calls;
   tablets_order = formed.tablets_order;
   tablets = formed.tablets;
+  waited = formed.waited;
 }
 
 -- an item is put into the records

@@ -20,7 +20,7 @@ use Rattle.rk_done.specs.Completions.{noted}
 use Rattle.rk_message.specs.declared.replication.Stored.{Stored}
 use Rattle.rk_world.specs.Commits.{apply_entries, apply_entry, ended_call, newly_held, noting, stored_taken, told_length, with_applied, with_ended, with_entry_item, with_noted, without_call}
 use Rattle.rk_world.specs.Ends.{end_of_item, item_end, outcome_of, refusal_end, told_by}
-use Rattle.rk_world.specs.Formed.{IsFormedCall, IsFormedMaster, IsFormedTablet}
+use Rattle.rk_world.specs.Formed.{IsFormedCall, IsFormedMaster, IsFormedTablet, side_waits, side_waits_of}
 use Rattle.rk_world.specs.Limits.{IsFormedEnd, IsFormedEntry, IsFormedHeld, IsFormedMessage, IsFormedRefused, Limits, version_told}
 use Rattle.rk_world.specs.Master.{Master, with_known}
 use Rattle.rk_world.specs.Premises.{IsMaster}
@@ -33,6 +33,7 @@ use Rattle.rk_laws_formed.proofs.Changes.{formed_with_calls, formed_with_item, f
 use Rattle.rk_laws_formed.proofs.Maps.{All_pairs, each_changed}
 use Rattle.rk_laws_formed.proofs.Messages.{formed_answering}
 use Rattle.rk_laws_formed.proofs.Requests.{outcome_told}
+use Rattle.rk_laws_formed.proofs.SideWaits.{as_many, waits_changed}
 use Rattle.rk_laws_formed.proofs.Tablets.{formed_noting}
 use Rattle.rk_laws_formed.proofs.Waiting.{formed_going_on}
 use Rattle.rk_laws_formed.proofs.Work.{AreLimits, HasRoomFor, IsFormedWork, formed_changed, formed_then}
@@ -121,6 +122,7 @@ formed_with_applied limits number master formed more = record {
   calls = formed.calls;
   tablets_order = formed.tablets_order;
   tablets = formed.tablets;
+  waited = formed.waited;
 }
 
 -- a call at a place waits no more
@@ -139,6 +141,18 @@ formed_may_note limits number tablet call end new formed =
     (record tablet { completions = noted tablet.completions end }) tablet (IsFormedTablet limits number)
     (λ notes. formed_noting limits number tablet end formed new) (λ other. formed)
 
+-- it waits for as many side segments
+noting_waits : (call : Call) (end : Ended) (tablet : Tablet) → side_waits_of (noting call end tablet) ≤ side_waits_of tablet
+noting_waits call end tablet =
+    cond_both (not (is_absent tablet.handover.role) && has_key tablet.handover.range call.table call.key)
+    (record tablet { completions = noted tablet.completions end }) tablet (λ (now : Tablet). side_waits_of now ≤ side_waits_of tablet)
+    (λ notes. as_many (side_waits_of tablet)) (λ other. as_many (side_waits_of tablet))
+
+-- and so do all tablets
+pub noted_waits : (call : Call) (end : Ended) (tablets : NumberMap Tablet) → side_waits (changed_each (λ number tablet. noting call end tablet) tablets) ≤ side_waits tablets
+noted_waits call end tablets =
+    waits_changed (λ number tablet. noting call end tablet) (λ number tablet. noting_waits call end tablet) tablets
+
 -- each tablet that has the key of a call notes its end
 formed_with_noted : (limits : Limits) (number : ℕ) (master : Master) (call : Call) (end : Ended) → IsFormedMaster limits number master
     → IsFormedEnd limits end → IsFormedMaster limits number (with_noted master call end)
@@ -147,6 +161,7 @@ formed_with_noted limits number master call end formed new =
     (in_order_changed (λ number tablet. noting call end tablet) master.tablets formed.tablets_order)
     (each_changed (IsFormedTablet limits) (IsFormedTablet limits) (λ number tablet. noting call end tablet)
     (λ id tablet there. formed_may_note limits id tablet call end new there) master.tablets formed.tablets)
+    (omega (arith, formed.waited, noted_waits call end master.tablets))
 
 -- ---- entries that are applied
 

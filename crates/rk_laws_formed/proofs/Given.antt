@@ -1,5 +1,5 @@
 -- A tablet that a master plays a part for, and one that is given up.
-use Rattle.std.proofs.Common.{◌≡◌, ◌==◌, ◌&&◌, ℕ, Bool, false, true, cond, if◌then◌else◌, Option, None, Some, refl}
+use Rattle.std.proofs.Common.{◌≡◌, ◌≤◌, ◌==◌, ◌&&◌, ℕ, Bool, false, true, cond, if◌then◌else◌, [], Option, None, Some, refl, arith}
 use Rattle.std.specs.Int.{w32}
 use Rattle.std.specs.Prelude.{not, unwrap_or}
 use Rattle.std.proofs.lemmas.List.Elements.{All-nil}
@@ -10,7 +10,7 @@ use Rattle.rk_types.specs.declared.range.Range.{Range}
 use Rattle.rk_entry.specs.Numbers.{IsNumber}
 use Rattle.rk_transfer.specs.declared.handover.Handover.{Handover}
 use Rattle.rk_transfer.specs.declared.role.Role.TheVariants as roles
-use Rattle.rk_world.specs.Formed.{IsFormedMaster, IsFormedTablet}
+use Rattle.rk_world.specs.Formed.{IsFormedMaster, IsFormedTablet, side_waits_of}
 use Rattle.rk_world.specs.Handovers.{given_up, with_others_given_up}
 use Rattle.rk_world.specs.Limits.{Limits}
 use Rattle.rk_world.specs.Master.{Master, tablet_at}
@@ -18,6 +18,7 @@ use Rattle.rk_world.specs.RoleTests.{is_absent}
 use Rattle.rk_world.specs.Tablet.{Tablet, no_tablet, with_handover, without_merged}
 use Rattle.rk_laws_formed.proofs.Changes.{formed_with_tablets}
 use Rattle.rk_laws_formed.proofs.Maps.{each_changed}
+use Rattle.rk_laws_formed.proofs.SideWaits.{as_many, none_waits, waits_changed}
 use Rattle.rk_laws_formed.proofs.Tablets.{IsFormedHandover, IsFormedRest, formed_pulling_from, formed_tablet, handover_of}
 use Rattle.rk_laws_formed.proofs.Waiting.{formed_in_plain}
 use Rattle.rk_laws_formed.proofs.MergedOnce.{none_twice}
@@ -71,6 +72,11 @@ formed_given_up_where limits other it false fits = fits
 abbrev is_met : ℕ → Range → ℕ → Tablet → Bool
 is_met number range other tablet = not (other == number) && meets tablet.handover.range range
 
+-- it waits for no more side segments
+given_up_waits : (it : Tablet) (met : Bool) → side_waits_of (cond met (given_up it) it) ≤ side_waits_of it
+given_up_waits it true = none_waits roles.Absent [] _ (λ sealed. refl)
+given_up_waits it false = as_many (side_waits_of it)
+
 -- a master where each other tablet whose range meets this one is given up
 pub formed_others_given_up : (limits : Limits) (number : ℕ) (master : Master) (tablet : ℕ) (range : Range) → IsFormedMaster limits number master
     → IsFormedMaster limits number (with_others_given_up master tablet range)
@@ -80,3 +86,8 @@ formed_others_given_up limits number master tablet range formed =
     (in_order_changed change master.tablets formed.tablets_order)
     (each_changed (IsFormedTablet limits) (IsFormedTablet limits) change
     (λ other it fits. formed_given_up_where limits other it (is_met tablet range other it) fits) master.tablets formed.tablets)
+    (omega (
+      arith,
+      formed.waited,
+      waits_changed change (λ other it. given_up_waits it (is_met tablet range other it)) master.tablets,
+    ))

@@ -33,8 +33,9 @@ use Rattle.rk_laws_formed.proofs.Given.{formed_moved, formed_others_given_up, ta
 use Rattle.rk_laws_formed.proofs.Messages.{counted_fits, formed_from, from_zero64, tenure_fits}
 use Rattle.rk_laws_formed.proofs.Rising.{rising_within}
 use Rattle.rk_laws_formed.proofs.Sizes.{place_fits}
+use Rattle.rk_laws_formed.proofs.SideWaits.{WaitsForNone, none_waits, none_waits_in}
 use Rattle.rk_laws_formed.proofs.Tablets.{IsFormedHandover, counter_at, formed_pulling_from, formed_tablet, handover_of, rest_at, rest_of, tablet_with_same}
-use Rattle.rk_laws_formed.proofs.Waiting.{EachMoved, IsPlain, formed_freezing, formed_frozen, formed_in_plain}
+use Rattle.rk_laws_formed.proofs.Waiting.{EachMoved, IsPlain, MovesOn, formed_freezing, formed_frozen, formed_in_plain, frozen_on}
 use Rattle.rk_laws_formed.proofs.Work.{AreLimits, HasRoomFor, IsFormedWork, formed_changed, formed_sending}
 use Rattle.rk_laws_formed.proofs.MergedOnce.{none_twice}
 
@@ -55,12 +56,13 @@ there_in limits number master tablet role is there formed =
 
 -- a master whose tablet makes a move, where it applies
 with_move_is_formed : (limits : Limits) (number : ℕ) (master : Master) (tablet : ℕ) (moved : Option Handover) → IsNumber w32 1 tablet
-    → EachMoved (IsFormedHandover limits (tablet_at master tablet).pulling.source) moved → IsFormedMaster limits number master
-    → IsFormedMaster limits number (handing.with_move master tablet moved)
-with_move_is_formed limits number master tablet None is moves formed = formed
-with_move_is_formed limits number master tablet (Some handover) is moves formed =
+    → EachMoved (IsFormedHandover limits (tablet_at master tablet).pulling.source) moved → EachMoved MovesOn moved
+    → IsFormedMaster limits number master → IsFormedMaster limits number (handing.with_move master tablet moved)
+with_move_is_formed limits number master tablet None is moves on formed = formed
+with_move_is_formed limits number master tablet (Some handover) is moves on formed =
     formed_with_tablet limits number master tablet _ formed
     (formed_moved limits tablet (tablet_at master tablet) handover is (moves handover refl) (rest_at limits number master tablet formed))
+    (none_waits handover.role _ _ (on handover refl))
 
 -- a move leaves the log as it is
 move_log : (master : Master) (tablet : ℕ) (moved : Option Handover) → (handing.with_move master tablet moved).log ≡ master.log
@@ -78,6 +80,16 @@ formed_begun limits source handover term range role counter new lawful place sti
           subst (IsFormedHandover limits source) it
           (record { term = new; place = place; range = lawful; counter = counter; source_is = λ receives. absurd (cc (receives, still)) })
       | false ↦ λ none. absurd (cc none)
+    ] is
+
+-- in the role that is asked for anew no side segment is waited for, where that is such a role
+pub begun_on : (handover : Handover) (term : ℕ) (range : Range) (role : Role) → WaitsForNone role → EachMoved MovesOn (begun handover term range role)
+begun_on handover term range role none after is =
+    elim (nat_lt handover.term term) as (λ b. cond b (Some (record handover { role = role; term = term; range = range })) None ≡ Some after → MovesOn after) [
+      | true ↦ λ same.
+          let it : record handover { role = role; term = term; range = range } ≡ after = cc same in
+          subst MovesOn it none
+      | false ↦ λ nothing. absurd (cc nothing)
     ] is
 
 -- a role after a move, and that the role before was not Absent
@@ -160,6 +172,7 @@ module _ (limits : Limits) (number : ℕ) (master : Master) (prepare : Prepare) 
       (formed_begun limits (tablet_at now asked).pulling.source (tablet_at now asked).handover prepare.tenure.term prepare.range
       (roles.Wanting (length master.log.entries))
       (counter_at limits number now asked now_formed (one_stood limits prepare.tenure.term tenure.term)) tenure.term range place refl)
+      (begun_on (tablet_at now asked).handover prepare.tenure.term prepare.range (roles.Wanting (length master.log.entries)) (λ sealed. refl))
       now_formed
 
   -- a master that made ready at this term says so again
@@ -254,10 +267,12 @@ module _ (limits : Limits) (number : ℕ) (master : Master) (tenure : Tenure) wh
           let closing_is = formed_moved limits tenure.tablet it handover told.tablet new (rest_of limits tenure.tablet it there) in
           let now = handing.tablet_closed master tenure.tablet handover in
           formed_freezing limits number now tenure.tablet (tablet_at now tenure.tablet) (frozen handover handover.term)
-          (formed_with_tablet limits number master tenure.tablet closing formed closing_is)
+          (formed_with_tablet limits number master tenure.tablet closing formed closing_is
+          (none_waits_in r roles.Closing _ _ after.now (λ sealed. refl)))
           (subst (IsFormedTablet limits tenure.tablet) (sym (tablet_with_same master tenure.tablet closing)) closing_is)
           (formed_frozen limits (tablet_at now tenure.tablet).pulling.source handover handover.term
           (subst (λ (t : Tablet). IsFormedHandover limits t.pulling.source handover) (sym (tablet_with_same master tenure.tablet closing)) new))
+          (frozen_on handover handover.term)
 
   formed_closing : IsFormedTenure limits tenure → IsFormedMaster limits number master
       → IsFormedMaster limits number (handing.closing master tenure.tablet (closed it.handover tenure.term))
@@ -295,7 +310,8 @@ module _ (limits : Limits) (number : ℕ) (master : Master) (tenure : Tenure) wh
           (formed_with_tablet limits number master tenure.tablet _ formed
           (formed_tablet limits tenure.tablet _ told.tablet
           (record { term = new.term; place = new.place; range = new.range; counter = new.counter; source_is = λ receives. absurd (cc (receives, plain.still)) })
-          (record { order = rest.order; ended = rest.ended; pulled = formed_pulling_from limits 0; gathered = All-nil _; merged = All-nil _; merged_once = none_twice })))
+          (record { order = rest.order; ended = rest.ended; pulled = formed_pulling_from limits 0; gathered = All-nil _; merged = All-nil _; merged_once = none_twice }))
+          (none_waits_in r roles.Serving _ _ after.now (λ sealed. refl)))
 
   -- a master that takes an Own
   pub formed_own : IsFormedTenure limits tenure → IsFormedMaster limits number master → IsFormedWork limits number (handing.own_taken master tenure)
@@ -321,7 +337,8 @@ module _ (limits : Limits) (number : ℕ) (master : Master) (tenure : Tenure) wh
           formed_changed limits number (handing.tablet_released master tenure.tablet handover)
           (formed_with_tablet limits number now tenure.tablet _ (formed_without_items limits number master handover.range formed)
           (formed_moved limits tenure.tablet it handover told.tablet (in_new_role role r is after.there plain formed)
-          (rest_at limits number master tenure.tablet formed)))
+          (rest_at limits number master tenure.tablet formed))
+          (none_waits_in r roles.Absent _ _ after.now (λ sealed. refl)))
 
   -- a master that takes a Release
   pub formed_release : IsFormedTenure limits tenure → IsFormedMaster limits number master → IsFormedWork limits number (handing.release_taken master tenure)
@@ -406,7 +423,8 @@ module _ (limits : Limits) (number : ℕ) (master : Master) (grant : Grant) wher
             gathered = All-nil _;
             merged = All-nil _;
             merged_once = none_twice;
-          })))
+          }))
+          (none_waits_in r roles.Receiving _ _ after.now (λ sealed. refl)))
 
   -- a master that takes a Grant
   pub formed_grant : AreLimits limits → IsFormedGrant limits grant → IsFormedMaster limits number master

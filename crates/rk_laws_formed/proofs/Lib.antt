@@ -6,6 +6,8 @@ pub mod Sizes
 pub mod Given
 pub mod Handovers
 pub mod Maps
+pub mod MapSums
+pub mod SideWaits
 pub mod Changes
 pub mod Completed
 pub mod Tablets

@@ -1,11 +1,7 @@
 -- How many bytes a master's segments and side logs have after a step: where nothing is appended no more than before, and an entry more
 -- where one is.
-use Rattle.std.proofs.Common.{◌≡◌, ◌≤◌, ◌+◌, ◌==◌, ◌&&◌, ◌^◌, ℕ, cond, not, T, List, [], ◌∷◌, ◌++◌, length, map, sum, Option, None, Some, refl, sym, subst, ap, ◌∙◌, arith}
-use Rattle.std.specs.Cmp.{ranked}
-use Rattle.std.specs.FinMap.Entries.{below_all, by_order}
+use Rattle.std.proofs.Common.{◌≡◌, ◌≤◌, ◌+◌, ◌==◌, ◌&&◌, ◌^◌, ℕ, cond, not, List, [], ◌∷◌, ◌++◌, length, map, sum, Option, None, Some, refl, sym, subst, ap, ◌∙◌, arith}
 use Rattle.std.specs.List.{sum_by}
-use Rattle.std.specs.Ordering.{is_eq, nat_cmp}
-use Rattle.std.specs.declared.cmp.Ordering.TheVariants.{Less, Equal, Greater}
 use Rattle.std.proofs.lemmas.Bool.{cond_both}
 use Rattle.std.proofs.lemmas.List.Sums.{sum-map, sum_by-append, sum_by-cons}
 use Rattle.rk_types.specs.NumberMap.{IsInOrder, NumberMap, get, insert}
@@ -36,69 +32,13 @@ use Rattle.rk_world.specs.Material.{as_entries}
 use Rattle.rk_world.specs.Refusals.{MOST_CLIENTS}
 use Rattle.rk_laws_formed.proofs.Bounds.{within_sum_of}
 use Rattle.rk_laws_formed.proofs.Sealing.{none_spelled}
-use Rattle.rk_laws_formed.proofs.Maps.{above_all, first, second}
+use Rattle.rk_laws_formed.proofs.MapSums.{inserted_most, size_found, sum_inserted}
 use Rattle.rk_laws_formed.proofs.Sizes.{bytes_spelled}
-
--- ---- a map by number
-
--- the size of what is under a number, 0 where nothing is
-abbrev pub size_found : {X : Type 0} → (X → ℕ) → Option X → ℕ
-size_found size None = 0
-size_found size (Some thing) = size thing
-
--- nothing is under a number that is below all
-none_below : {X : Type 0} (size : X → ℕ) (n : ℕ) (things : NumberMap X) → T (below_all nat_cmp n things) → (q : ℕ) → q ≤ n → (found : Option X) → get things q ≡ found → size_found size found ≡ 0
-none_below size n things below q up None is = refl
-none_below size n things below q up (Some thing) is =
-    let above = above_all n things q thing below is in
-    absurd (omega arith)
-
--- a thing under a number counts in place of what was there
-pub sum_inserted : {X : Type 0} (size : X → ℕ) (things : NumberMap X) (number : ℕ) (thing : X) → IsInOrder things → sum_by (λ entry. size entry.1) (insert things number thing) + size_found size (get things number) ≡ sum_by (λ entry. size entry.1) things + size thing
-sum_inserted {X} size [] number thing order =
-    omega (arith, sum_by-cons (λ (entry : ℕ × X). size entry.1) (number, thing) [])
-sum_inserted {X} size (here ∷ things) number thing order =
-    let whole = sum_by-cons (λ (entry : ℕ × X). size entry.1) here things in
-    let rest = sum_inserted size things number thing (second (below_all nat_cmp here.0 things) _ order) in
-    elim (nat_cmp number here.0) as (λ o. nat_cmp number here.0 ≡ o → sum_by (λ (entry : ℕ × X). size entry.1) (by_order o ((number, thing) ∷ here ∷ things) ((here.0, thing) ∷ things) (here ∷ insert things number thing)) + size_found size (cond (is_eq o) (Some here.1) (get things number)) ≡ sum_by (λ (entry : ℕ × X). size entry.1) (here ∷ things) + size thing) [
-      | Less ↦ λ is.
-          let less = ranked number here.0 Less (sym is) in
-          omega (
-            arith,
-            sum_by-cons (λ (entry : ℕ × X). size entry.1) (number, thing) (here ∷ things),
-            none_below size here.0 things (first (below_all nat_cmp here.0 things) _ order) number (omega arith) (get things number) refl,
-          )
-      | Equal ↦ λ is. omega (arith, whole, sum_by-cons (λ (entry : ℕ × X). size entry.1) (here.0, thing) things)
-      | Greater ↦ λ is. omega (arith, whole, rest, sum_by-cons (λ (entry : ℕ × X). size entry.1) here (insert things number thing))
-    ]
-    refl
-
--- and in any map no more than beside all that is there
-sum_inserted_most : {X : Type 0} (size : X → ℕ) (things : NumberMap X) (number : ℕ) (thing : X) → sum_by (λ entry. size entry.1) (insert things number thing) ≤ sum_by (λ entry. size entry.1) things + size thing
-sum_inserted_most {X} size [] number thing =
-    omega (arith, sum_by-cons (λ (entry : ℕ × X). size entry.1) (number, thing) [])
-sum_inserted_most {X} size (here ∷ things) number thing =
-    let whole = sum_by-cons (λ (entry : ℕ × X). size entry.1) here things in
-    let rest = sum_inserted_most size things number thing in
-    elim (nat_cmp number here.0) as (λ o. sum_by (λ (entry : ℕ × X). size entry.1) (by_order o ((number, thing) ∷ here ∷ things) ((here.0, thing) ∷ things) (here ∷ insert things number thing)) ≤ sum_by (λ (entry : ℕ × X). size entry.1) (here ∷ things) + size thing) [
-      | Less ↦ omega (arith, sum_by-cons (λ (entry : ℕ × X). size entry.1) (number, thing) (here ∷ things))
-      | Equal ↦ omega (arith, whole, sum_by-cons (λ (entry : ℕ × X). size entry.1) (here.0, thing) things)
-      | Greater ↦ omega (arith, whole, rest, sum_by-cons (λ (entry : ℕ × X). size entry.1) here (insert things number thing))
-    ]
-
-pub inserted_most : {X : Type 0} (size : X → ℕ) (things : NumberMap X) (number : ℕ) (thing : X) → sum (map (λ entry. size entry.1) (insert things number thing)) ≤ sum (map (λ entry. size entry.1) things) + size thing
-inserted_most size things number thing =
-    omega (
-      arith,
-      sum_inserted_most size things number thing,
-      sum-map (λ entry. size entry.1) things,
-      sum-map (λ entry. size entry.1) (insert things number thing),
-    )
 
 -- ---- a tablet
 
 -- workers that have pulled nothing have no bytes
-none_pulled : (none : List Held) → none ≡ [] → sum (map (λ items. length (spelled_all (as_entries items))) (none ∷ none ∷ none ∷ none ∷ [])) ≡ 0
+pub none_pulled : (none : List Held) → none ≡ [] → sum (map (λ items. length (spelled_all (as_entries items))) (none ∷ none ∷ none ∷ none ∷ [])) ≡ 0
 none_pulled none is =
     let bytes : length (spelled_all (as_entries none)) ≡ 0 =
     ap (λ (items : List Held). length (spelled_all (as_entries items))) is ∙ ap (λ (l : List ℕ). length l) none_spelled in
@@ -122,6 +62,26 @@ unsealed_at_most master id = go (get master.tablets id) refl
 -- one of its tablets is so
 pub bytes_with_tablet : (master : Master) (id : ℕ) (tablet : Tablet) → log_bytes (with_tablet master id tablet) ≤ log_bytes master + unsealed_bytes tablet
 bytes_with_tablet master id tablet = omega (arith, inserted_most unsealed_bytes master.tablets id tablet)
+
+-- a tablet that is not there has no bytes
+size_at : (master : Master) (id : ℕ) → size_found unsealed_bytes (get master.tablets id) ≡ unsealed_bytes (tablet_at master id)
+size_at master id = go (get master.tablets id)
+  where
+    go : (found : Option Tablet) → size_found unsealed_bytes found ≡ unsealed_bytes (unwrap_or found no_tablet)
+    go None = sym (pulls_none no_tablet 0 refl)
+    go (Some tablet) = refl
+
+-- where the tablets are in order, the bytes of one count in place of those that it had
+pub bytes_put : (master : Master) (id : ℕ) (tablet : Tablet) → IsInOrder master.tablets
+    → log_bytes (with_tablet master id tablet) + unsealed_bytes (tablet_at master id) ≡ log_bytes master + unsealed_bytes tablet
+bytes_put master id tablet order =
+    omega (
+      arith,
+      size_at master id,
+      sum_inserted unsealed_bytes master.tablets id tablet order,
+      sum-map (λ (entry : ℕ × Tablet). unsealed_bytes entry.1) master.tablets,
+      sum-map (λ (entry : ℕ × Tablet). unsealed_bytes entry.1) (insert master.tablets id tablet),
+    )
 
 -- an entry is appended
 pub bytes_appended : (master : Master) (entry : Entry) → log_bytes (with_appended master entry) ≡ log_bytes master + length (spelled entry)
@@ -166,7 +126,7 @@ bytes_given_up master id range =
 abbrev pub LONGEST_LEFT : ℕ
 LONGEST_LEFT = 2 ^ 20
 
-mark_few : (kind : Kind) → mark_count kind ≤ 1
+pub mark_few : (kind : Kind) → mark_count kind ≤ 1
 mark_few kind = cond_both (is_marked kind) MARK_BYTES 0 (λ (n : ℕ). n ≤ 1) (λ is. omega arith) (λ is. omega arith)
 
 value_few : (value : Option (List ℕ)) → IfSome value (λ value. value_fault value ≡ None) → value_count value ≤ 2 ^ 17

@@ -242,6 +242,7 @@ module _ (a b : Limits) (more : IsMore a b) where
     calls = each_weaker (IsFormedCall a (length master.log.entries)) (IsFormedCall b (length master.log.entries)) master.calls (more_call (length master.log.entries)) formed.calls;
     tablets_order = formed.tablets_order;
     tablets = each_weaker (IsFormedTablet a) (IsFormedTablet b) master.tablets more_tablet formed.tablets;
+    waited = formed.waited;
   }
 
   -- ---- the coordinator

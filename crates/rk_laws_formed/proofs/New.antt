@@ -70,6 +70,7 @@ new_is_formed limits number = record {
   calls = nothing_in_it _;
   tablets_order = tt;
   tablets = nothing_in_it _;
+  waited = omega arith;
 }
 
 module _ (lane masters backups : ℕ) where

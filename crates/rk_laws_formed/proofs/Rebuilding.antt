@@ -8,6 +8,7 @@ use Rattle.std.proofs.lemmas.List.{length_push}
 use Rattle.std.proofs.lemmas.List.Elements.{All-filter, All-head, All-map, All-nil, All-push, All-tail, All-weaker}
 use Rattle.rk_types.proofs.NumberMaps.{each_insert}
 use Rattle.rk_types.specs.NumberMap.{insert}
+use Rattle.rk_types.specs.declared.call.Ended.{Ended}
 use Rattle.rk_types.specs.declared.lineage.Member.{Member}
 use Rattle.rk_types.specs.declared.range.Range.{Range}
 use Rattle.rk_outside.specs.Segments.{bytes_of}
@@ -25,7 +26,7 @@ use Rattle.rk_message.specs.declared.rebuilding.Rebuild.{Rebuild}
 use Rattle.rk_world.specs.declared.work.Merged.{Merged}
 use Rattle.rk_world.specs.declared.work.Reading.{Reading}
 use Rattle.rk_world.specs.Ends.{items_of}
-use Rattle.rk_world.specs.Formed.{IsFormedGathered, IsFormedMaster, IsFormedTablet, place_in}
+use Rattle.rk_world.specs.Formed.{IsFormedGathered, IsFormedMaster, IsFormedTablet, MOST_BASE_CLIENTS, place_in, side_waits_of}
 use Rattle.rk_world.specs.Gather.{Gathered, LAST_MAIN_SEGMENT, by_member, is_awaited, next_reading, unread, with_main, with_read, with_segment}
 use Rattle.rk_world.specs.Handovers.{is_greater, with_others_given_up}
 use Rattle.rk_world.specs.Lineage.{own_member}
@@ -34,6 +35,7 @@ use Rattle.rk_world.specs.Master.{Master, tablet_at, with_all, with_appended}
 use Rattle.rk_world.specs.Material.{as_entries}
 use Rattle.rk_world.specs.Merge.{merge}
 use Rattle.rk_world.specs.Rebuilds as rebuilds
+use Rattle.rk_world.specs.Refusals.{MOST_CLIENTS}
 use Rattle.rk_world.specs.RoleTests.{is_absent, is_gathering, is_receiving}
 use Rattle.rk_world.specs.Tablet.{Tablet}
 use Rattle.rk_world.specs.Worked.{Worked, changed}
@@ -41,7 +43,7 @@ use Rattle.rk_laws_formed.proofs.Lists.{all_flat}
 use Rattle.rk_laws_formed.proofs.Changes.{formed_with_all, formed_with_appended, formed_with_tablet, formed_without_items}
 use Rattle.rk_laws_formed.proofs.Completed.{completions_each, completions_order}
 use Rattle.rk_laws_formed.proofs.Given.{formed_others_given_up, tablet_there}
-use Rattle.rk_laws_formed.proofs.Handovers.{ends_are_formed, ends_are_lawful, formed_begun, one_stood, there_in}
+use Rattle.rk_laws_formed.proofs.Handovers.{begun_on, ends_are_formed, ends_are_lawful, formed_begun, one_stood, there_in}
 use Rattle.rk_laws_formed.proofs.Merges.{copies_formed, ends_formed, floor_first, members_formed, own_formed}
 use Rattle.rk_laws_formed.proofs.Messages.{counted_fits}
 use Rattle.rk_laws_formed.proofs.Requests.{counter_with_tablet, items_formed}
@@ -49,21 +51,36 @@ use Rattle.rk_laws_formed.proofs.Rising.{rising_within}
 use Rattle.rk_log.specs.Log.{Log}
 use Rattle.rk_laws_formed.proofs.Sealing.{first_holds}
 use Rattle.rk_laws_formed.proofs.Sizes.{place_fits}
+use Rattle.rk_laws_formed.proofs.SideWaits.{WaitsForNone, as_many, none_waits}
 use Rattle.rk_laws_formed.proofs.Tablets.{IsFormedHandover, counter_at, formed_pulling_from, formed_tablet, rest_at}
-use Rattle.rk_laws_formed.proofs.Waiting.{EachMoved}
+use Rattle.rk_laws_formed.proofs.Waiting.{EachMoved, MovesOn}
 use Rattle.rk_laws_formed.proofs.Work.{AreLimits, HasRoomFor, IsFormedWork, formed_changed}
 use Rattle.rk_laws_formed.proofs.MergedOnce.{merged_once, none_twice}
 
 -- ---- merging
 
 -- what a merge may make
-record IsFormedMerge (limits : Limits) (merged : Merged) : Type 0 where
-  copies : All (IsFormedHeld limits) merged.copies
-  floor : 1 ≤ merged.floor
-  told : All (IsFormedEnd limits) merged.ends
-  once : AreOfDistinctClients merged.ends
+pub record IsFormedMerge (limits : Limits) (merged : Merged) : Type 0 where
+  pub copies : All (IsFormedHeld limits) merged.copies
+  pub floor : 1 ≤ merged.floor
+  pub told : All (IsFormedEnd limits) merged.ends
+  pub once : AreOfDistinctClients merged.ends
 
-merge_formed : (limits : Limits) (number : ℕ) (master : Master) (id : ℕ) → 1 ≤ limits.top → IsFormedMaster limits number master → IsFormedMerge limits (merge (rebuilds.own_material master (tablet_at master id)) (by_member (tablet_at master id).gather (rebuilds.own_material master (tablet_at master id))))
+-- the last ends of clients are no more than the clients
+pub few_ends : (limits : Limits) (list : List Ended) → AreLimits limits → All (IsFormedEnd limits) list
+    → length (ends_of (completions_from [] list)) ≤ MOST_CLIENTS + MOST_BASE_CLIENTS
+few_ends limits list are told =
+    let order = completions_order [] list tt in
+    let each = completions_each (IsFormedEnd limits) [] list (All-nil _) told in
+    let ends = ends_are_formed limits (completions_from [] list) order each in
+    omega (
+      arith,
+      are.clients,
+      rising_within (ends_of (completions_from [] list)) limits.clients ends.rising
+          (All-weaker (IsFormedEnd limits) (λ end. IsClient limits end.client) (λ end fits. fits.client) _ each),
+    )
+
+pub merge_formed : (limits : Limits) (number : ℕ) (master : Master) (id : ℕ) → 1 ≤ limits.top → IsFormedMaster limits number master → IsFormedMerge limits (merge (rebuilds.own_material master (tablet_at master id)) (by_member (tablet_at master id).gather (rebuilds.own_material master (tablet_at master id))))
 merge_formed limits number master id some formed =
     let it = tablet_at master id in
     let own = rebuilds.own_material master it in
@@ -93,6 +110,19 @@ after_carry place (roles.Wanting from) r is = absurd (cc is)
 after_carry place roles.Receiving r is = absurd (cc is)
 after_carry place (roles.Joining entry) r is = absurd (cc is)
 
+-- in it no side segment is waited for
+carried_waits : (place : ℕ) (role r : Role) → role_carried place role ≡ Some r → WaitsForNone r
+carried_waits place (roles.Rebuilding from None) r is =
+    let same : roles.Rebuilding from (Some place) ≡ r = cc is in subst WaitsForNone same (λ sealed. refl)
+carried_waits place (roles.Rebuilding from (Some entry)) r is = absurd (cc is)
+carried_waits place roles.Absent r is = absurd (cc is)
+carried_waits place roles.Serving r is = absurd (cc is)
+carried_waits place roles.Closing r is = absurd (cc is)
+carried_waits place roles.Frozen r is = absurd (cc is)
+carried_waits place (roles.Wanting from) r is = absurd (cc is)
+carried_waits place roles.Receiving r is = absurd (cc is)
+carried_waits place (roles.Joining entry) r is = absurd (cc is)
+
 module _ (limits : Limits) (number : ℕ) (master : Master) (id : ℕ) (merged : Merged) where
   abbrev it : Tablet
   it = tablet_at master id
@@ -106,16 +136,13 @@ module _ (limits : Limits) (number : ℕ) (master : Master) (id : ℕ) (merged :
       let order = completions_order [] merged.ends tt in
       let each = completions_each (IsFormedEnd limits) [] merged.ends (All-nil _) formed.told in
       let ends = ends_are_formed limits (completions_from [] merged.ends) order each in
-      let few = rising_within (ends_of (completions_from [] merged.ends)) limits.clients ends.rising
-      (All-weaker (IsFormedEnd limits) (λ end. IsClient limits end.client) (λ end fits. fits.client) _ each) in
-      let clients = are.clients in
       let first = formed.floor in
       record {
         lawful = record {
           range = there.range;
           term = counted_fits limits it.handover.term are there.term;
           floor = counted_fits limits merged.floor are (record { first = first; last = floor });
-          few = omega arith;
+          few = omega (arith, few_ends limits merged.ends are formed.told);
           each = ends_are_lawful limits (ends_of (completions_from [] merged.ends)) each;
           rising = ends.rising;
         };
@@ -165,7 +192,8 @@ module _ (limits : Limits) (number : ℕ) (master : Master) (id : ℕ) (merged :
                   gathered = there.gathered;
                   merged = formed.told;
                   merged_once = formed.once;
-                });
+                })
+                (none_waits r _ _ (carried_waits (length copied.log.entries) role r carried_is));
             sends = All-nil _;
           }
 
@@ -257,10 +285,13 @@ module _ (limits : Limits) (number : ℕ) (master : Master) (rebuild : Rebuild) 
       (counter_at limits number now id (now_formed formed) (one_stood limits rebuild.tenure.term told.tenure.term))
       told.tenure.term told.range
       (begun_fits limits master own (own_formed_member limits rebuild.lineage master.number told.members) place) refl)
+      (begun_on (tablet_at now id).handover rebuild.tenure.term rebuild.range (roles.Rebuilding (rebuilds.begun_from master own) None)
+      (λ sealed. refl))
     where
-      go : (moved : Option Handover) → EachMoved (IsFormedHandover limits (tablet_at now id).pulling.source) moved → IsFormedMaster limits number (rebuilds.with_begun now rebuild moved)
-      go None moves = now_formed formed
-      go (Some handover) moves =
+      go : (moved : Option Handover) → EachMoved (IsFormedHandover limits (tablet_at now id).pulling.source) moved → EachMoved MovesOn moved
+          → IsFormedMaster limits number (rebuilds.with_begun now rebuild moved)
+      go None moves on = now_formed formed
+      go (Some handover) moves on =
           let rest = rest_at limits number now id (now_formed formed) in
           formed_with_tablet limits number now id _ (now_formed formed)
           (formed_tablet limits id _ told.tenure.tablet (moves handover refl)
@@ -272,6 +303,7 @@ module _ (limits : Limits) (number : ℕ) (master : Master) (rebuild : Rebuild) 
             merged = All-nil _;
             merged_once = none_twice;
           }))
+          (none_waits handover.role _ _ (on handover refl))
 
 -- ---- Rebuild and Copy
 
@@ -391,6 +423,29 @@ gathering_there (roles.Wanting from) at_term is = absurd (cc is)
 gathering_there roles.Receiving at_term is = absurd (cc is)
 gathering_there (roles.Joining entry) at_term is = absurd (cc is)
 
+-- a rebuild gathers the copy of a segment that it awaits
+pub formed_gathered : (limits : Limits) (number : ℕ) (master : Master) (copy : CopySegment) → IsFormedCopy limits copy
+    → (is_gathering (tablet_at master copy.tenure.tablet).handover.role && ((tablet_at master copy.tenure.tablet).handover.term == copy.tenure.term)) ≡ true
+    → IsFormedMaster limits number master → IsFormedMaster limits number (rebuilds.segment_gathered master copy)
+formed_gathered limits number master copy told is formed =
+    let there = tablet_there limits number master copy.tenure.tablet (gathering_there (tablet_at master copy.tenure.tablet).handover.role _ is) formed in
+    formed_with_tablet limits number master copy.tenure.tablet _ formed
+    (record {
+      number_is = there.number_is;
+      term = there.term;
+      place = there.place;
+      range = there.range;
+      counter = there.counter;
+      order = there.order;
+      ended = there.ended;
+      source = there.source;
+      pulled = there.pulled;
+      gathered = read_formed limits (tablet_at master copy.tenure.tablet).gather.members copy.master copy.segment copy.bytes told.spelled there.gathered;
+      merged = there.merged;
+      merged_once = there.merged_once;
+    })
+    (as_many (side_waits_of (tablet_at master copy.tenure.tablet)))
+
 -- a master that takes the copy of a segment
 pub formed_copy : (limits : Limits) (number : ℕ) (master : Master) (copy : CopySegment) → AreLimits limits → IsFormedCopy limits copy → IsFormedMaster limits number master → HasRoomFor limits (rebuilds.copy_taken master copy).master → IsFormedWork limits number (rebuilds.copy_taken master copy)
 formed_copy limits number master copy are told formed room =
@@ -398,25 +453,6 @@ formed_copy limits number master copy are told formed room =
   where
     it : Tablet
     it = tablet_at master copy.tenure.tablet
-
-    gathered : (is_gathering (tablet_at master copy.tenure.tablet).handover.role && ((tablet_at master copy.tenure.tablet).handover.term == copy.tenure.term)) ≡ true → IsFormedMaster limits number (rebuilds.segment_gathered master copy)
-    gathered is =
-        let there = tablet_there limits number master copy.tenure.tablet (gathering_there (tablet_at master copy.tenure.tablet).handover.role _ is) formed in
-        formed_with_tablet limits number master copy.tenure.tablet _ formed
-        (record {
-          number_is = there.number_is;
-          term = there.term;
-          place = there.place;
-          range = there.range;
-          counter = there.counter;
-          order = there.order;
-          ended = there.ended;
-          source = there.source;
-          pulled = there.pulled;
-          gathered = read_formed limits (tablet_at master copy.tenure.tablet).gather.members copy.master copy.segment copy.bytes told.spelled there.gathered;
-          merged = there.merged;
-          merged_once = there.merged_once;
-        })
 
     awaited : Bool
     awaited = is_gathering it.handover.role && (it.handover.term == copy.tenure.term) && is_awaited (next_reading it.gather) copy.master copy.segment
@@ -428,5 +464,5 @@ formed_copy limits number master copy are told formed room =
     go true is fits =
         formed_goes_on limits number (rebuilds.segment_gathered master copy) copy.tenure.tablet are
         (one_stood limits copy.tenure.term told.tenure.term)
-        (gathered (first_holds _ _ is)) fits
+        (formed_gathered limits number master copy told (first_holds _ _ is) formed) fits
     go false is fits = formed_changed limits number master formed

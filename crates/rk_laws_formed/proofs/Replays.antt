@@ -13,6 +13,7 @@ use Rattle.rk_world.specs.Pulls.{item_replayed, replay, replay_one, token_passed
 use Rattle.rk_world.specs.Tablet.{Pulling, Tablet}
 use Rattle.rk_laws_formed.proofs.Lists.{all_at, all_flat, all_given}
 use Rattle.rk_laws_formed.proofs.Changes.{formed_with_item, formed_with_tablet}
+use Rattle.rk_laws_formed.proofs.SideWaits.{WaitsForNone, none_waits}
 use Rattle.rk_laws_formed.proofs.Tablets.{formed_with_pulling, tablet_with_same}
 
 -- a worker's items with one more
@@ -34,16 +35,19 @@ formed_with_pulled limits pulling worker item formed new = record {
     sides : All (All (IsFormedHeld limits)) pulling.sides
     sides = all_given (IsFormedHeld limits) (λ items. items) pulling.sides formed.items
 
--- a master, and one of its tablets, that are well formed
+-- a master, and one of its tablets, that are well formed, where that tablet waits for no side segment
 pub record IsFormedAt (limits : Limits) (number id : ℕ) (master : Master) : Type 0 where
   pub master_is : IsFormedMaster limits number master
   pub tablet_is : IsFormedTablet limits id (tablet_at master id)
+  pub waits : WaitsForNone (tablet_at master id).handover.role
 
 -- a master with another state of a tablet
-pub formed_put : (limits : Limits) (number id : ℕ) (master : Master) (tablet : Tablet) → IsFormedMaster limits number master → IsFormedTablet limits id tablet → IsFormedAt limits number id (with_tablet master id tablet)
-formed_put limits number id master tablet formed new = record {
-  master_is = formed_with_tablet limits number master id tablet formed new;
+pub formed_put : (limits : Limits) (number id : ℕ) (master : Master) (tablet : Tablet) → IsFormedMaster limits number master → IsFormedTablet limits id tablet
+    → WaitsForNone tablet.handover.role → IsFormedAt limits number id (with_tablet master id tablet)
+formed_put limits number id master tablet formed new none = record {
+  master_is = formed_with_tablet limits number master id tablet formed new (none_waits tablet.handover.role _ _ none);
   tablet_is = subst (IsFormedTablet limits id) (sym (tablet_with_same master id tablet)) new;
+  waits = subst (λ (t : Tablet). WaitsForNone t.handover.role) (sym (tablet_with_same master id tablet)) none;
 }
 
 -- an item is replayed
@@ -55,6 +59,7 @@ formed_replayed limits number id worker master item formed new =
     formed.tablet_is
     (formed_with_pulled limits (tablet_at master id).pulling worker item formed.tablet_is.pulled new)
     formed.tablet_is.source)
+    formed.waits
 
 -- where it is newer
 formed_replay_one : (limits : Limits) (number id worker : ℕ) (master : Master) (item : Held) → IsFormedAt limits number id master → IsFormedHeld limits item → IsFormedAt limits number id (replay_one id worker master item)
@@ -91,3 +96,4 @@ formed_passed limits number id master next token formed =
       sealed = pulled.sealed;
     })
     formed.tablet_is.source)
+    formed.waits

@@ -34,7 +34,7 @@ use Rattle.rk_message.specs.declared.calls.Request.{Request}
 use Rattle.rk_world.specs.declared.choice.Choice.{Choice}
 use Rattle.rk_world.specs.declared.choice.Choice.TheVariants.{Redirects, Repeats, Ignores, Wants, Reads, Writes, Refuses}
 use Rattle.rk_world.specs.Ends.{items_of, outcome_of}
-use Rattle.rk_world.specs.Formed.{IsFormedCall, IsFormedMaster, IsFormedTablet}
+use Rattle.rk_world.specs.Formed.{IsFormedCall, IsFormedMaster, IsFormedTablet, side_waits_of}
 use Rattle.rk_world.specs.Limits.{IsClient, IsFormedEnd, IsFormedEntry, IsFormedHeld, IsFormedMessage, IsFormedNumber, IsFormedRequest, Limits}
 use Rattle.rk_world.specs.Master.{Master, is_staged, serves_key, serving, staged, tablet_at, with_tablet}
 use Rattle.rk_world.specs.Premises.{IsLawfulCall, IsMaster}
@@ -46,6 +46,7 @@ use Rattle.rk_laws_formed.proofs.Changes.{formed_with_staged, formed_with_tablet
 use Rattle.rk_laws_formed.proofs.Completed.{pairs_from_ends}
 use Rattle.rk_laws_formed.proofs.Maps.{each_from_pairs, find_is_got}
 use Rattle.rk_laws_formed.proofs.Messages.{formed_answering, from_zero64, hash_fits, number_fits}
+use Rattle.rk_laws_formed.proofs.SideWaits.{as_many}
 use Rattle.rk_laws_formed.proofs.Tablets.{formed_counted_up, formed_found, formed_with_wanted}
 use Rattle.rk_laws_formed.proofs.Work.{AreLimits, HasRoomFor, IsFormedWork, formed_changed, formed_sending}
 
@@ -267,7 +268,7 @@ write_formed limits number master id call value are formed lawful client there f
     formed_with_tablet limits number (with_staged master call entry) id (counted_up (tablet_at master id))
     (formed_with_staged limits number master call entry formed (call_waits limits master entry call lawful client)
     (item_formed limits call (tablet_at master id).handover.counter value are lawful client there.counter fits))
-    (formed_counted_up limits id (tablet_at master id) there (omega arith))
+    (formed_counted_up limits id (tablet_at master id) there (omega arith)) (as_many (side_waits_of (tablet_at master id)))
 
 refusal_formed : (limits : Limits) (number : ℕ) (master : Master) (call : Call) (found : ℕ) (absent : Bool) → IsFormedMaster limits number master
     → IsLawfulCall call → IsClient limits call.client → IsNumber w64 0 found → found ≤ limits.top → (IsTrue absent → found ≡ 0)
@@ -303,7 +304,8 @@ chosen_formed limits number master asked call Ignores are there formed fits lawf
 chosen_formed limits number master asked call (Wants id) are there formed fits lawful client choice room =
     formed_sending limits number (hash_wanted master id (hash_of call.key)) _
     (formed_with_tablet limits number master id (with_wanted (tablet_at master id) (hash_of call.key)) formed
-    (formed_with_wanted limits id (tablet_at master id) (hash_of call.key) choice (hash_fits call.key)))
+    (formed_with_wanted limits id (tablet_at master id) (hash_of call.key) choice (hash_fits call.key))
+    (as_many (side_waits_of (tablet_at master id))))
     (formed_answering limits number master call (answers.NotYet call.key) there formed.number_is lawful lawful.key)
 chosen_formed limits number master asked call (Reads outcome) are there formed fits lawful client choice room = record {
   master = formed;

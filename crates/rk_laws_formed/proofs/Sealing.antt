@@ -1,14 +1,16 @@
 -- A target that has pulled all seals its side logs: the side segments that it makes are well formed, and so is the master then.
-use Rattle.std.proofs.Common.{◌≡◌, ◌≤◌, ◌<◌, ◌+◌, ◌%◌, ◌&&◌, ◌^◌, ℕ, zero, suc, Bool, false, true, cond, ltb, nat_le, List, [], ◌∷◌, ◌++◌, fold, map, sum, All, length, length-append, Option, None, Some, IfSome, refl, ap, subst, arith}
+use Rattle.std.proofs.Common.{◌≡◌, ◌≤◌, ◌<◌, ◌+◌, ◌%◌, ◌&&◌, ◌^◌, ℕ, zero, suc, Bool, false, true, cond, ltb, nat_le, List, [], ◌∷◌, ◌++◌, fold, map, sum, All, length, length-append, Option, None, Some, IfSome, refl, ap, subst, sym, arith}
 use Rattle.std.specs.Int.{w32, w64}
 use Rattle.std.specs.List.{AllByRecursion, IsDistinct, range_with_len, sum_by}
 use Rattle.std.specs.Prelude.{nat_eq}
 use Rattle.std.proofs.lemmas.Bool.{cond_both, ne_eqb}
 use Rattle.std.proofs.lemmas.Bool.Decides.{nat_tests}
 use Rattle.std.proofs.lemmas.List.{length_push}
+use Rattle.std.proofs.lemmas.List.FromFn.{length-range_with_len}
 use Rattle.std.proofs.lemmas.Map.Keys.{IsDistinct-cons}
 use Rattle.std.proofs.lemmas.List.Elements.{All-append, All-cons, All-head, All-nil, All-push, All-tail}
 use Rattle.std.proofs.lemmas.List.Sums.{sum-map, sum_by-cons}
+use Rattle.rk_types.specs.NumberMap.{IsInOrder, NumberMap}
 use Rattle.rk_types.specs.Held.{spelled_of, spelled_value_of}
 use Rattle.rk_types.specs.Text.{value_fault}
 use Rattle.rk_types.specs.declared.held.Held.{Held}
@@ -32,7 +34,7 @@ use Rattle.rk_message.specs.declared.pulling.Got.{Got}
 use Rattle.rk_message.specs.declared.pulling.Pulled.{Pulled}
 use Rattle.rk_table.specs.Scans.{end}
 use Rattle.rk_world.specs.Ends.{items_of}
-use Rattle.rk_world.specs.Formed.{AreSideSegments, IsFormedMaster, IsFormedPulling, IsFormedSide, IsFormedTablet}
+use Rattle.rk_world.specs.Formed.{AreSideSegments, IsFormedMaster, IsFormedPulling, IsFormedSide, IsFormedTablet, side_waits, side_waits_of}
 use Rattle.rk_world.specs.Limits.{IsFormedHeld, Limits}
 use Rattle.rk_world.specs.Master.{Master, log_bytes, tablet_at, with_side_segment}
 use Rattle.rk_world.specs.Material.{as_entries}
@@ -43,12 +45,13 @@ use Rattle.rk_world.specs.Tablet.{Pulling, Tablet, with_handover}
 use Rattle.rk_world.specs.Waiting.{closing_entry}
 use Rattle.rk_world.specs.Worked.{Worked, changed}
 use Rattle.rk_laws_formed.proofs.Lists.{all_given}
-use Rattle.rk_laws_formed.proofs.Changes.{formed_with_side_segment, formed_with_tablet}
+use Rattle.rk_laws_formed.proofs.Changes.{formed_with_side_segment, formed_with_tablet, formed_with_waiting}
 use Rattle.rk_laws_formed.proofs.Given.{tablet_there}
 use Rattle.rk_laws_formed.proofs.Replays.{IsFormedAt, formed_passed, formed_put, formed_replay}
 use Rattle.rk_laws_formed.proofs.Sizes.{side_bytes}
-use Rattle.rk_laws_formed.proofs.Tablets.{formed_with_handover, formed_with_pulling, handover_of}
-use Rattle.rk_laws_formed.proofs.Waiting.{formed_closing_entry, formed_joined}
+use Rattle.rk_laws_formed.proofs.SideWaits.{as_many, receiving_waits, waits_few, waits_inserted}
+use Rattle.rk_laws_formed.proofs.Tablets.{formed_with_handover, formed_with_pulling, handover_of, tablet_with_same}
+use Rattle.rk_laws_formed.proofs.Waiting.{formed_closing_entry, formed_joined, joined_on}
 use Rattle.rk_laws_formed.proofs.Work.{AreLimits, HasRoomFor, IsFormedWork, formed_changed}
 
 -- ---- how long items are spelled
@@ -77,7 +80,7 @@ items_spelled (item ∷ items) =
       sum-map spelled_of items,
     )
 
-sum_pushed : (items : List Held) (item : Held) → sum (map spelled_of (items ++ item ∷ [])) ≡ sum (map spelled_of items) + spelled_of item
+pub sum_pushed : (items : List Held) (item : Held) → sum (map spelled_of (items ++ item ∷ [])) ≡ sum (map spelled_of items) + spelled_of item
 sum_pushed [] item = omega (arith, sum-map spelled_of (item ∷ []), sum_by-cons spelled_of item [], sum-map spelled_of [])
 sum_pushed (first ∷ items) item =
     omega (
@@ -209,6 +212,11 @@ sides_counted [] master = omega arith
 sides_counted (items ∷ pieces) master =
     omega (arith, sides_counted pieces (with_side_segment master items), length_push master.log.sides (spelled_all (as_entries items)))
 
+-- side segments leave the tablets as they are
+pub sides_tablets : (pieces : List (List Held)) (master : Master) → (fold with_side_segment master pieces).tablets ≡ master.tablets
+sides_tablets [] master = refl
+sides_tablets (items ∷ pieces) master = sides_tablets pieces (with_side_segment master items)
+
 -- each side segment has a byte
 sides_few : (sides : List (List ℕ)) → All IsFormedSide sides → length sides ≤ sum_by (λ (b : List ℕ). length b) sides
 sides_few [] all = omega arith
@@ -244,21 +252,26 @@ joined_sides : (master : Master) (id : ℕ) (tablet : Tablet) (numbers : List �
 joined_sides master id tablet [] = closing_sides master id tablet _
 joined_sides master id tablet (number ∷ numbers) = joining_sides master id tablet _
 
-formed_joining : (limits : Limits) (number id : ℕ) (master : Master) (tablet : Tablet) (numbers : List ℕ) → AreLimits limits → IsFormedMaster limits number master → IsFormedTablet limits id tablet → HasRoomFor limits (joining_by master id tablet numbers) → IsFormedMaster limits number (joining_by master id tablet numbers)
-formed_joining limits number id master tablet [] are formed it room =
+-- a target joins, where there are side segments enough for what it waits for then
+formed_joining : (limits : Limits) (number id : ℕ) (master : Master) (tablet : Tablet) (numbers : List ℕ) → AreLimits limits → IsFormedMaster limits number master → IsFormedTablet limits id tablet
+    → tablet.pulling.sealed ≡ numbers → side_waits master.tablets + length numbers ≤ length master.log.sides
+    → HasRoomFor limits (joining_by master id tablet numbers) → IsFormedMaster limits number (joining_by master id tablet numbers)
+formed_joining limits number id master tablet [] are formed it is few room =
     formed_closing_entry limits number master id tablet _ are formed it
     (formed_joined limits tablet.pulling.source tablet.handover tablet.handover.term (Some (length master.log.entries))
     (handover_of limits id tablet it))
+    (joined_on tablet.handover tablet.handover.term (length master.log.entries))
     room.room.fits
-formed_joining limits number id master tablet (first ∷ numbers) are formed it room =
+formed_joining limits number id master tablet (first ∷ numbers) are formed it sealed_is few room =
     go (joined tablet.handover tablet.handover.term None) refl
   where
     go : (moved : Option Handover) → joined tablet.handover tablet.handover.term None ≡ moved → IsFormedMaster limits number (joining_at master id tablet moved)
     go None is = formed
     go (Some handover) is =
-        formed_with_tablet limits number master id (with_handover tablet handover) formed
+        formed_with_waiting limits number master id (with_handover tablet handover) formed
         (formed_with_handover limits id tablet handover it
         (formed_joined limits tablet.pulling.source tablet.handover tablet.handover.term None (handover_of limits id tablet it) handover is))
+        (omega (arith, few, waits_few handover.role tablet.pulling.sealed, ap (λ (list : List ℕ). length list) sealed_is))
 
 module _ (limits : Limits) (number id : ℕ) (master : Master) where
   abbrev it : Tablet
@@ -297,14 +310,31 @@ module _ (limits : Limits) (number id : ℕ) (master : Master) where
         distinct = numbers_distinct (FIRST_SIDE_SEGMENT + length master.log.sides) (length pieces);
       }
 
+  -- the side segments that it waits for then are new ones
+  sealed_few : IsFormedAt limits number id master → side_waits sealed.tablets + length (tablet_at sealed id).pulling.sealed ≤ length sealed.log.sides
+  sealed_few formed =
+      let new = with_pulling it (sealed_pulling it.pulling numbers) in
+      omega (
+        arith,
+        formed.master_is.waited,
+        waits_inserted now id new (subst (λ (tablets : NumberMap Tablet). IsInOrder tablets) (sym (sides_tablets pieces master)) formed.master_is.tablets_order),
+        formed.waits numbers,
+        ap (λ (tablets : NumberMap Tablet). side_waits tablets) (sides_tablets pieces master),
+        ap (λ (t : Tablet). length t.pulling.sealed) (tablet_with_same now id new),
+        length-range_with_len (FIRST_SIDE_SEGMENT + length master.log.sides) (length pieces),
+        sides_counted pieces master,
+      )
+
   -- a target that has pulled all
   pub formed_pulled_all : AreLimits limits → IsFormedAt limits number id master → HasRoomFor limits (pulled_all master id) → IsFormedMaster limits number (pulled_all master id)
   formed_pulled_all are formed room =
       let put = formed_put limits number id now (with_pulling it (sealed_pulling it.pulling numbers)) (now_formed formed)
       (formed_with_pulling limits id it (sealed_pulling it.pulling numbers) formed.tablet_is
       (formed_sealed_pulling limits it.pulling numbers (numbers_formed formed room) formed.tablet_is.pulled)
-      formed.tablet_is.source) in
-      formed_joining limits number id sealed (tablet_at sealed id) (tablet_at sealed id).pulling.sealed are put.master_is put.tablet_is room
+      formed.tablet_is.source)
+      formed.waits in
+      formed_joining limits number id sealed (tablet_at sealed id) (tablet_at sealed id).pulling.sealed are put.master_is put.tablet_is refl
+      (sealed_few formed) room
 
 -- ---- a target that takes a batch, or what it asked for first
 
@@ -329,6 +359,7 @@ formed_pulling : (limits : Limits) (number id : ℕ) (master : Master) (term : �
 formed_pulling limits number id master term is formed = record {
   master_is = formed;
   tablet_is = tablet_there limits number master id (receiving_there (tablet_at master id).handover.role _ is) formed;
+  waits = receiving_waits (tablet_at master id).handover.role (first_holds _ _ is);
 }
 
 -- a master that takes a Pulled
@@ -395,6 +426,7 @@ formed_resolved limits number id master hashes formed =
       sealed = pulled.sealed;
     })
     formed.tablet_is.source)
+    (as_many (side_waits_of (tablet_at master id)))
 
 -- a master that takes a Got
 pub formed_got : (limits : Limits) (number : ℕ) (master : Master) (message : Got) → All (IsFormedHeld limits) (items_of message.entries) → IsFormedMaster limits number master → IsFormedWork limits number (got_taken master message)

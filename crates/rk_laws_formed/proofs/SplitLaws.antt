@@ -30,6 +30,7 @@ use Rattle.rk_world.specs.Step.{with_added}
 use Rattle.rk_world.specs.Tablet.{Tablet, no_tablet, pulling_from}
 use Rattle.rk_world.specs.World.{World, has_crashed}
 use Rattle.rk_laws_formed.proofs.Changes.{formed_with_tablet}
+use Rattle.rk_laws_formed.proofs.SideWaits.{none_waits}
 use Rattle.rk_laws_formed.proofs.Events.{has_no_fault, no_inner, no_second}
 use Rattle.rk_laws_formed.proofs.Coordinators.{HasRowRoom, IsFormedChange, formed_with_rows, rows_of_formed}
 use Rattle.rk_laws_formed.proofs.Rows.{AreTermsUpTo, IsFormedPhase, IsKnown, all_found, covered_changed, covered_split_rows, formed_changed_rows, formed_split_rows, known_changed, known_split, lawful_below, lawful_from, phase_of_formed, placed_has, term_changed, terms_below, terms_changed, terms_split_rows}
@@ -164,8 +165,10 @@ module _ (limits : Limits) (number : ℕ) (master : Master) (formed : IsFormedMa
       let below = with_half it (range_below range at) term in
       formed_with_tablet limits number (with_tablet master tablet below) new (with_half it (range_from range at) term)
       (formed_with_tablet limits number master tablet below formed
-      (half_is_formed limits tablet tablet it (range_below range at) term old.number_is (lawful_below range at above within old.range) stood old))
+      (half_is_formed limits tablet tablet it (range_below range at) term old.number_is (lawful_below range at above within old.range) stood old)
+      (none_waits roles.Serving [] _ (λ sealed. refl)))
       (half_is_formed limits tablet new it (range_from range at) term is (lawful_from range at above within old.range) stood old)
+      (none_waits roles.Serving [] _ (λ sealed. refl))
 
   -- the master serves both halves of a tablet, at a term that has stood, where both have a hash
   pub formed_with_split : (tablet at new term : ℕ) → IsNumber w32 1 new → IsFormedNumber limits term → IsFormedMaster limits number (with_split master tablet at new term)
@@ -244,6 +247,7 @@ formed_with_added limits number master tablet range some is lawful formed =
     formed_with_tablet limits number master tablet (served (tablet_at master tablet) range) formed
     (served_is_formed limits tablet range (get master.tablets tablet) some is lawful
     (known_has (IsFormedTablet limits) master.tablets tablet formed.tablets))
+    (none_waits roles.Serving [] _ (λ sealed. refl))
 
 -- ---- in a lane
 

@@ -4,7 +4,6 @@ use Rattle.std.proofs.Common.{◌≤◌, ◌<◌, ◌+◌, ◌*◌, ◌==◌, �
 use Rattle.std.proofs.lemmas.Bool.{cond_both}
 use Rattle.std.proofs.lemmas.List.Elements.{All-weaker}
 use Rattle.rk_types.specs.Hashing.{hash_of}
-use Rattle.rk_types.specs.NumberMap.{IsInOrder}
 use Rattle.rk_types.specs.declared.call.Call.{Call}
 use Rattle.rk_types.specs.declared.node.Node.{Node}
 use Rattle.rk_types.specs.declared.node.Node.TheVariants as nodes
@@ -42,7 +41,7 @@ use Rattle.rk_laws_formed.proofs.Tablets.{tablet_with_same}
 use Rattle.rk_laws_formed.proofs.Work.{AreLimits}
 use Rattle.rk_log.specs.Log.{overreach}
 use Rattle.rk_laws_formed.specs.Plain.{IsPlainBody}
-use Rattle.rk_laws_formed.proofs.TurnBytes.{stored_bytes}
+use Rattle.rk_laws_formed.proofs.TurnBytes.{stored_thrice}
 
 -- what a master of a lane that is not worn may have after a step, so that the lane's logs fit
 abbrev pub BytesFit : Master → Type 0
@@ -197,7 +196,7 @@ module _ (master : Master) (below : log_bytes master < WORN_BYTES) where
       (choice_formed limits number master (call_of client request) formed says.call)
   client_fits limits number client _ formed says = kept
 
-  order_fits : (limits : Limits) (body : Body) → AreLimits limits → IsFormedBody limits nodes.Coordinator body → IsPlainBody master body → BytesFit (order master body).master
+  order_fits : (limits : Limits) (body : Body) → AreLimits limits → IsFormedBody limits nodes.Coordinator body → IsPlainBody body → BytesFit (order master body).master
   order_fits limits (bodies.Prepare prepare) are says plain = prepare_fits prepare
   order_fits limits (bodies.Close tenure) are says plain = close_fits tenure
   order_fits limits (bodies.Grant grant) are says plain =
@@ -209,7 +208,7 @@ module _ (master : Master) (below : log_bytes master < WORN_BYTES) where
   order_fits limits (bodies.Rebuild rebuild) are says plain = absurd plain
   order_fits limits _ are says plain = kept
 
-  peer_fits : (sender : ℕ) (body : Body) → IsPlainBody master body → BytesFit (peer_message master (nodes.Master sender) body).master
+  peer_fits : (sender : ℕ) (body : Body) → IsPlainBody body → BytesFit (peer_message master (nodes.Master sender) body).master
   peer_fits sender (bodies.Pull pull) plain =
       tested (is_frozen_at (tablet_at master pull.tenure.tablet) pull.tenure.term) _ (changed master) kept kept
   peer_fits sender (bodies.Want want) plain =
@@ -218,18 +217,18 @@ module _ (master : Master) (below : log_bytes master < WORN_BYTES) where
   peer_fits sender (bodies.Got message) plain = absurd plain
   peer_fits sender _ plain = kept
 
-  backup_fits : (backup : ℕ) (body : Body) → IsInOrder master.tablets → IsPlainBody master body → BytesFit (backup_message master backup body).master
-  backup_fits backup (bodies.Stored stored) order plain =
-      omega (arith, below, stored_bytes master backup stored (overreach master.log stored.segment stored.length) order plain)
-  backup_fits backup (bodies.Copy copy) order plain = absurd plain
-  backup_fits backup _ order plain = kept
+  backup_fits : (limits : Limits) (number backup : ℕ) (body : Body) → IsFormedMaster limits number master → IsPlainBody body → BytesFit (backup_message master backup body).master
+  backup_fits limits number backup (bodies.Stored stored) formed plain =
+      omega (arith, below, stored_thrice limits number master backup stored (overreach master.log stored.segment stored.length) formed)
+  backup_fits limits number backup (bodies.Copy copy) formed plain = absurd plain
+  backup_fits limits number backup _ formed plain = kept
 
   -- a message that appends at most an entry
-  pub told_bytes : (limits : Limits) (number : ℕ) (sender : Node) (body : Body) → AreLimits limits → IsFormedMaster limits number master → IsFormedBody limits sender body → IsPlainBody master body → BytesFit (told_master master sender body).master
+  pub told_bytes : (limits : Limits) (number : ℕ) (sender : Node) (body : Body) → AreLimits limits → IsFormedMaster limits number master → IsFormedBody limits sender body → IsPlainBody body → BytesFit (told_master master sender body).master
   told_bytes limits number (nodes.Client client) body are formed says plain = client_fits limits number client body formed says
   told_bytes limits number nodes.Coordinator body are formed says plain = order_fits limits body are says plain
   told_bytes limits number (nodes.Master sender) body are formed says plain = peer_fits sender body plain
-  told_bytes limits number (nodes.Backup backup) body are formed says plain = backup_fits backup body formed.tablets_order plain
+  told_bytes limits number (nodes.Backup backup) body are formed says plain = backup_fits limits number backup body formed plain
 
 -- ---- a split
 

@@ -1,15 +1,15 @@
--- How many bytes a master has after its turn, and after what a backup tells while no tablet waits for its side segments: no more than
--- before.
-use Rattle.std.proofs.Common.{not, map, List, ◌&&◌, ◌≡◌, ◌≤◌, ℕ, Bool, true, false, cond, nat_lt, All, [], ◌∷◌, Option, None, Some, refl, sym, ap, ◌∙◌, ⊎_elim, arith}
-use Rattle.std.specs.Prelude.{unwrap_or}
+-- How many bytes a master has after its turn: no more than before; and after what a backup tells: no more than before and the entries by
+-- which tablets close that wait for their side segments.
+use Rattle.std.proofs.Common.{not, map, List, ◌&&◌, ◌≡◌, ◌≤◌, ◌+◌, ◌*◌, ℕ, Bool, true, false, cond, length, max, nat_lt, All, [], ◌∷◌, Option, None, Some, refl, sym, ap, subst, ◌∙◌, ⊎_elim, arith}
 use Rattle.std.proofs.lemmas.Bool.{cases_eq, cond_both}
+use Rattle.std.proofs.lemmas.List.{length-map}
 use Rattle.std.proofs.lemmas.List.Elements.{All-head, All-tail, All-weaker}
 use Rattle.std.proofs.lemmas.List.Sums.{sum-map}
 use Rattle.rk_types.proofs.NumberMaps.{in_order_insert}
-use Rattle.rk_types.specs.NumberMap.{IsInOrder, NumberMap, get, insert}
+use Rattle.rk_types.specs.NumberMap.{IsInOrder, NumberMap, get}
 use Rattle.rk_types.specs.declared.call.Call.{Call}
 use Rattle.rk_entry.specs.declared.entry.Entry.TheVariants as entries
-use Rattle.rk_transfer.specs.Handover.{frozen}
+use Rattle.rk_transfer.specs.Handover.{frozen, joined}
 use Rattle.rk_transfer.specs.declared.handover.Handover.{Handover}
 use Rattle.rk_transfer.specs.declared.role.Role.{Role}
 use Rattle.rk_transfer.specs.declared.role.Role.TheVariants as roles
@@ -18,18 +18,29 @@ use Rattle.rk_world.specs.Gather.{next_reading}
 use Rattle.rk_world.specs.Master.{Master, is_settled, log_bytes, tablet_at, unsealed_bytes, with_tablet}
 use Rattle.rk_world.specs.MasterStep.{order}
 use Rattle.rk_world.specs.MasterTurn.{duties, master_turn, reading_duty, tablet_duty, with_outstanding}
-use Rattle.rk_world.specs.Tablet.{Tablet, no_tablet, with_handover}
+use Rattle.rk_world.specs.Tablet.{Tablet, with_handover}
 use Rattle.rk_world.specs.Waiting.{freezing, tablet_frozen}
 use Rattle.rk_world.specs.Worked.{Worked, changed}
-use Rattle.rk_laws_formed.proofs.LogBytes.{pulls_none, size_found, sum_inserted}
+use Rattle.rk_laws_formed.proofs.LogBytes.{bytes_appended, bytes_put, mark_few}
+use Rattle.rk_laws_formed.proofs.Sealing.{items_spelled}
+use Rattle.rk_laws_formed.proofs.Sizes.{side_bytes}
+use Rattle.rk_laws_formed.proofs.Commits.{noted_waits}
 use Rattle.rk_laws_formed.proofs.Maps.{All_pairs}
 use Rattle.rk_laws_formed.proofs.Tablets.{tablet_found, tablet_with_other, tablet_with_same}
 use Rattle.std.specs.List.{sum_by}
 use Rattle.std.proofs.lemmas.List.Sums.{sum_by-cons}
-use Rattle.std.proofs.lemmas.List.Elements.{All-map}
 use Rattle.rk_types.proofs.NumberMaps.{in_order_changed}
 use Rattle.rk_types.specs.declared.call.Ended.{Ended}
 use Rattle.rk_entry.specs.declared.entry.Entry.{Entry}
+use Rattle.rk_types.specs.Held.{spelled_of}
+use Rattle.rk_types.specs.declared.held.Held.{Held}
+use Rattle.rk_entry.proofs.Sizes.{spelled_count}
+use Rattle.rk_entry.specs.Entries.{spelled_all}
+use Rattle.rk_entry.specs.Kinds.{kind_of}
+use Rattle.rk_entry.specs.Spelling.{spelled}
+use Rattle.rk_world.specs.Formed.{IsFormedMaster, IsFormedSide, side_waits, side_waits_in, side_waits_of}
+use Rattle.rk_world.specs.Limits.{Limits}
+use Rattle.rk_world.specs.Material.{as_entries}
 use Rattle.rk_log.specs.declared.overreach.Overreach.{Overreach}
 use Rattle.rk_done.specs.Completions.{noted}
 use Rattle.rk_message.specs.declared.replication.Stored.{Stored}
@@ -38,18 +49,9 @@ use Rattle.rk_world.specs.Ends.{told_by}
 use Rattle.rk_world.specs.Master.{with_known}
 use Rattle.rk_world.specs.Ranges.{has_key}
 use Rattle.rk_world.specs.RoleTests.{is_absent}
-use Rattle.rk_world.specs.Waiting.{all_going_on, going_on_in}
-use Rattle.rk_laws_formed.specs.Plain.{IsNotWaiting, NoneWaits}
+use Rattle.rk_world.specs.Waiting.{all_going_on, closing_entry, going_on_in, is_sealed_stored, joined_entry}
 
 -- ---- a turn
-
--- a tablet that is not there has no bytes
-size_at : (master : Master) (id : ℕ) → size_found unsealed_bytes (get master.tablets id) ≡ unsealed_bytes (tablet_at master id)
-size_at master id = go (get master.tablets id)
-  where
-    go : (found : Option Tablet) → size_found unsealed_bytes found ≡ unsealed_bytes (unwrap_or found no_tablet)
-    go None = sym (pulls_none no_tablet 0 refl)
-    go (Some tablet) = refl
 
 -- during a turn: the tablets that are left are there as they were
 record TurnKeeps (bytes : ℕ) (left : NumberMap Tablet) (master : Master) : Type 0 where
@@ -69,16 +71,7 @@ put_keeps : (bytes id : ℕ) (tablet new : Tablet) (others : NumberMap Tablet) (
 put_keeps bytes id tablet new others master equal keeps = record {
   order = in_order_insert master.tablets id new keeps.order;
   fits =
-      omega (
-        arith,
-        keeps.fits,
-        here,
-        equal,
-        size_at master id,
-        sum_inserted unsealed_bytes master.tablets id new keeps.order,
-        sum-map (λ (entry : ℕ × Tablet). unsealed_bytes entry.1) master.tablets,
-        sum-map (λ (entry : ℕ × Tablet). unsealed_bytes entry.1) (insert master.tablets id new),
-      );
+      omega (arith, keeps.fits, here, equal, bytes_put master id new keeps.order);
   same =
       All-weaker (λ entry. unsealed_bytes entry.1 ≡ unsealed_bytes (tablet_at master entry.0))
       (λ entry. unsealed_bytes entry.1 ≡ unsealed_bytes (tablet_at (with_tablet master id new) entry.0))
@@ -148,23 +141,17 @@ turn_bytes master order = duties_bytes (log_bytes master) master.tablets master 
 
 -- ---- what a backup tells
 
--- while entries are applied
-record ApplyKeeps (bytes : ℕ) (master : Master) : Type 0 where
+-- while entries are applied: the tablets wait for so many side segments
+record ApplyKeeps (bytes count : ℕ) (master : Master) : Type 0 where
   order : IsInOrder master.tablets
   fits : log_bytes master ≤ bytes
-  none : NoneWaits master
+  waited : side_waits master.tablets ≤ count
 
 noting_same : (call : Call) (end : Ended) (tablet : Tablet) → unsealed_bytes (noting call end tablet) ≡ unsealed_bytes tablet
 noting_same call end tablet =
     cond_both (not (is_absent tablet.handover.role) && has_key tablet.handover.range call.table call.key)
     (record tablet { completions = noted tablet.completions end }) tablet (λ (now : Tablet). unsealed_bytes now ≡ unsealed_bytes tablet)
     (λ notes. refl) (λ other. refl)
-
-noting_waits : (call : Call) (end : Ended) (tablet : Tablet) → IsNotWaiting tablet.handover.role → IsNotWaiting (noting call end tablet).handover.role
-noting_waits call end tablet none =
-    cond_both (not (is_absent tablet.handover.role) && has_key tablet.handover.range call.table call.key)
-    (record tablet { completions = noted tablet.completions end }) tablet (λ (now : Tablet). IsNotWaiting now.handover.role)
-    (λ notes. none) (λ other. none)
 
 noted_sum : (call : Call) (end : Ended) (tablets : NumberMap Tablet) → sum_by (λ (entry : ℕ × Tablet). unsealed_bytes entry.1) (map (λ (entry : ℕ × Tablet). (entry.0, noting call end entry.1)) tablets) ≡ sum_by (λ (entry : ℕ × Tablet). unsealed_bytes entry.1) tablets
 noted_sum call end [] = refl
@@ -178,8 +165,8 @@ noted_sum call end (here ∷ rest) =
       sum_by-cons (λ (entry : ℕ × Tablet). unsealed_bytes entry.1) now (map (λ (entry : ℕ × Tablet). (entry.0, noting call end entry.1)) rest),
     )
 
-noted_keeps : (bytes : ℕ) (master : Master) (call : Call) (end : Ended) → ApplyKeeps bytes master → ApplyKeeps bytes (with_noted master call end)
-noted_keeps bytes master call end keeps = record {
+noted_keeps : (bytes count : ℕ) (master : Master) (call : Call) (end : Ended) → ApplyKeeps bytes count master → ApplyKeeps bytes count (with_noted master call end)
+noted_keeps bytes count master call end keeps = record {
   order = in_order_changed (λ number tablet. noting call end tablet) master.tablets keeps.order;
   fits =
       omega (
@@ -189,32 +176,29 @@ noted_keeps bytes master call end keeps = record {
         sum-map (λ (entry : ℕ × Tablet). unsealed_bytes entry.1) master.tablets,
         sum-map (λ (entry : ℕ × Tablet). unsealed_bytes entry.1) (with_noted master call end).tablets,
       );
-  none =
-      All-map (λ (entry : ℕ × Tablet). IsNotWaiting entry.1.handover.role) (λ (entry : ℕ × Tablet). (entry.0, noting call end entry.1)) master.tablets
-      (All-weaker (λ entry. IsNotWaiting entry.1.handover.role) (λ entry. IsNotWaiting (noting call end entry.1).handover.role)
-      (λ entry is. noting_waits call end entry.1 is) master.tablets keeps.none);
+  waited = omega (arith, keeps.waited, noted_waits call end master.tablets);
 }
 
-ended_keeps_bytes : (bytes : ℕ) (master : Master) (place : ℕ) (call : Option Call) (ends : List Ended) → ApplyKeeps bytes master → ApplyKeeps bytes (with_ended master place call ends).master
-ended_keeps_bytes bytes master place (Some call) (end ∷ ends) keeps =
-    let now = noted_keeps bytes master call end keeps in
-    record { order = now.order; fits = now.fits; none = now.none }
-ended_keeps_bytes bytes master place (Some call) [] keeps = keeps
-ended_keeps_bytes bytes master place None [] keeps = keeps
-ended_keeps_bytes bytes master place None (end ∷ ends) keeps = keeps
+ended_keeps_bytes : (bytes count : ℕ) (master : Master) (place : ℕ) (call : Option Call) (ends : List Ended) → ApplyKeeps bytes count master → ApplyKeeps bytes count (with_ended master place call ends).master
+ended_keeps_bytes bytes count master place (Some call) (end ∷ ends) keeps =
+    let now = noted_keeps bytes count master call end keeps in
+    record { order = now.order; fits = now.fits; waited = now.waited }
+ended_keeps_bytes bytes count master place (Some call) [] keeps = keeps
+ended_keeps_bytes bytes count master place None [] keeps = keeps
+ended_keeps_bytes bytes count master place None (end ∷ ends) keeps = keeps
 
-entry_keeps : (bytes : ℕ) (master : Master) (entry : Entry) → ApplyKeeps bytes master → ApplyKeeps bytes (with_applied (with_entry_item master entry))
-entry_keeps bytes master (entries.Held held) keeps = record { order = keeps.order; fits = keeps.fits; none = keeps.none }
-entry_keeps bytes master (entries.Refused refused) keeps = record { order = keeps.order; fits = keeps.fits; none = keeps.none }
-entry_keeps bytes master (entries.Carried carried) keeps = record { order = keeps.order; fits = keeps.fits; none = keeps.none }
-entry_keeps bytes master (entries.Joined joined) keeps = record { order = keeps.order; fits = keeps.fits; none = keeps.none }
+entry_keeps : (bytes count : ℕ) (master : Master) (entry : Entry) → ApplyKeeps bytes count master → ApplyKeeps bytes count (with_applied (with_entry_item master entry))
+entry_keeps bytes count master (entries.Held held) keeps = record { order = keeps.order; fits = keeps.fits; waited = keeps.waited }
+entry_keeps bytes count master (entries.Refused refused) keeps = record { order = keeps.order; fits = keeps.fits; waited = keeps.waited }
+entry_keeps bytes count master (entries.Carried carried) keeps = record { order = keeps.order; fits = keeps.fits; waited = keeps.waited }
+entry_keeps bytes count master (entries.Joined joined) keeps = record { order = keeps.order; fits = keeps.fits; waited = keeps.waited }
 
-applied_keeps : (bytes : ℕ) (list : List Entry) (master : Master) → ApplyKeeps bytes master → ApplyKeeps bytes (apply_entries master list).master
-applied_keeps bytes [] master keeps = keeps
-applied_keeps bytes (entry ∷ list) master keeps =
-    applied_keeps bytes list (apply_entry master entry).master
-    (ended_keeps_bytes bytes (with_applied (with_entry_item master entry)) master.applied (get master.calls master.applied) (told_by entry)
-    (entry_keeps bytes master entry keeps))
+applied_keeps : (bytes count : ℕ) (list : List Entry) (master : Master) → ApplyKeeps bytes count master → ApplyKeeps bytes count (apply_entries master list).master
+applied_keeps bytes count [] master keeps = keeps
+applied_keeps bytes count (entry ∷ list) master keeps =
+    applied_keeps bytes count list (apply_entry master entry).master
+    (ended_keeps_bytes bytes count (with_applied (with_entry_item master entry)) master.applied (get master.calls master.applied) (told_by entry)
+    (entry_keeps bytes count master entry keeps))
 
 freezing_keeps : (bytes id : ℕ) (tablet : Tablet) (others : NumberMap Tablet) (master : Master) (moved : Option Handover) → TurnKeeps bytes ((id, tablet) ∷ others) master → TurnKeeps bytes others (freezing master id tablet moved)
 freezing_keeps bytes id tablet others master None keeps = turn_behind bytes id tablet others master keeps
@@ -223,31 +207,141 @@ freezing_keeps bytes id tablet others master (Some handover) keeps =
     (λ settled. put_keeps bytes id tablet (with_handover tablet handover) others master refl keeps)
     (λ staged. turn_behind bytes id tablet others master keeps)
 
-going_on_keeps : (bytes id : ℕ) (tablet : Tablet) (others : NumberMap Tablet) (master : Master) (role : Role) → IsNotWaiting role → TurnKeeps bytes ((id, tablet) ∷ others) master → TurnKeeps bytes others (going_on_in master id tablet role)
-going_on_keeps bytes id tablet others master roles.Closing none keeps =
-    freezing_keeps bytes id tablet others master (frozen tablet.handover tablet.handover.term) keeps
-going_on_keeps bytes id tablet others master (roles.Joining None) none keeps = absurd none
-going_on_keeps bytes id tablet others master (roles.Joining (Some entry)) none keeps = turn_behind bytes id tablet others master keeps
-going_on_keeps bytes id tablet others master (roles.Rebuilding from entry) none keeps = turn_behind bytes id tablet others master keeps
-going_on_keeps bytes id tablet others master roles.Receiving none keeps = turn_behind bytes id tablet others master keeps
-going_on_keeps bytes id tablet others master roles.Absent none keeps = turn_behind bytes id tablet others master keeps
-going_on_keeps bytes id tablet others master roles.Serving none keeps = turn_behind bytes id tablet others master keeps
-going_on_keeps bytes id tablet others master roles.Frozen none keeps = turn_behind bytes id tablet others master keeps
-going_on_keeps bytes id tablet others master (roles.Wanting from) none keeps = turn_behind bytes id tablet others master keeps
+-- the bytes that a closing entry has for each side segment that is waited for, at most
+abbrev pub CLOSING_BYTES : ℕ
+CLOSING_BYTES = 46
 
-going_on_bytes : (bytes : ℕ) (tablets : NumberMap Tablet) (master : Master) → All (λ entry. IsNotWaiting entry.1.handover.role) tablets → TurnKeeps bytes tablets master → log_bytes (all_going_on master tablets) ≤ bytes
-going_on_bytes bytes [] master none keeps = keeps.fits
-going_on_bytes bytes (entry ∷ others) master none keeps =
-    going_on_bytes bytes others (going_on_in master entry.0 entry.1 entry.1.handover.role)
-    (All-tail (λ (entry : ℕ × Tablet). IsNotWaiting entry.1.handover.role) entry others none)
-    (going_on_keeps bytes entry.0 entry.1 others master entry.1.handover.role
-    (All-head (λ (entry : ℕ × Tablet). IsNotWaiting entry.1.handover.role) entry others none) keeps)
+-- an entry that closes the role of a target has no more for each side segment that it names, and one at least
+pub joined_short : (tablet : Tablet) → length (spelled (joined_entry tablet)) ≤ CLOSING_BYTES * max 1 (length tablet.pulling.sealed)
+joined_short tablet =
+    omega (arith, spelled_count (joined_entry tablet), mark_few (kind_of (joined_entry tablet)))
 
--- where no tablet waits a master has no more bytes after what a backup told
-pub stored_bytes : (master : Master) (backup : ℕ) (stored : Stored) (over : Option Overreach) → IsInOrder master.tablets → NoneWaits master → log_bytes (stored_taken master backup stored over).master ≤ log_bytes master
-stored_bytes master backup stored (Some beyond) order none = omega arith
-stored_bytes master backup stored None order none =
+-- more bytes are no fewer
+more_bytes : (bytes more : ℕ) (left : NumberMap Tablet) (master : Master) → bytes ≤ more → TurnKeeps bytes left master → TurnKeeps more left master
+more_bytes bytes more left master no_fewer keeps =
+    record { order = keeps.order; fits = omega (arith, no_fewer, keeps.fits); same = keeps.same }
+
+closing_keeps : (bytes id : ℕ) (tablet : Tablet) (others : NumberMap Tablet) (master : Master) (moved : Option Handover) → TurnKeeps bytes ((id, tablet) ∷ others) master
+    → TurnKeeps (bytes + CLOSING_BYTES * max 1 (length tablet.pulling.sealed)) others (closing_entry master id tablet moved)
+closing_keeps bytes id tablet others master None keeps =
+    more_bytes bytes (bytes + CLOSING_BYTES * max 1 (length tablet.pulling.sealed)) others master (omega arith)
+    (turn_behind bytes id tablet others master keeps)
+closing_keeps bytes id tablet others master (Some handover) keeps =
+    let put = put_keeps bytes id tablet (with_handover tablet handover) others master refl keeps in
+    record {
+      order = put.order;
+      fits =
+          omega (
+            arith,
+            put.fits,
+            bytes_appended (with_tablet master id (with_handover tablet handover)) (joined_entry tablet),
+            joined_short tablet,
+          );
+      same = put.same;
+    }
+
+-- a tablet for which nothing goes on
+idle_keeps : (bytes id : ℕ) (tablet : Tablet) (others : NumberMap Tablet) (master : Master) → TurnKeeps bytes ((id, tablet) ∷ others) master → TurnKeeps (bytes + CLOSING_BYTES * 0) others master
+idle_keeps bytes id tablet others master keeps =
+    more_bytes bytes (bytes + CLOSING_BYTES * 0) others master (omega arith) (turn_behind bytes id tablet others master keeps)
+
+-- what was waited for at a tablet goes on
+going_on_keeps : (bytes id : ℕ) (tablet : Tablet) (others : NumberMap Tablet) (master : Master) (role : Role) → TurnKeeps bytes ((id, tablet) ∷ others) master
+    → TurnKeeps (bytes + CLOSING_BYTES * side_waits_in role tablet.pulling.sealed) others (going_on_in master id tablet role)
+going_on_keeps bytes id tablet others master roles.Closing keeps =
+    more_bytes bytes (bytes + CLOSING_BYTES * 0) others _ (omega arith)
+    (freezing_keeps bytes id tablet others master (frozen tablet.handover tablet.handover.term) keeps)
+going_on_keeps bytes id tablet others master (roles.Joining None) keeps =
+    let more = bytes + CLOSING_BYTES * max 1 (length tablet.pulling.sealed) in
+    let moved = joined tablet.handover tablet.handover.term (Some (length master.log.entries)) in
+    cond_both (is_sealed_stored master tablet) (closing_entry master id tablet moved) master (TurnKeeps more others)
+    (λ stored. closing_keeps bytes id tablet others master moved keeps)
+    (λ missing. more_bytes bytes more others master (omega arith) (turn_behind bytes id tablet others master keeps))
+going_on_keeps bytes id tablet others master (roles.Joining (Some entry)) keeps = idle_keeps bytes id tablet others master keeps
+going_on_keeps bytes id tablet others master (roles.Rebuilding from entry) keeps = idle_keeps bytes id tablet others master keeps
+going_on_keeps bytes id tablet others master roles.Receiving keeps = idle_keeps bytes id tablet others master keeps
+going_on_keeps bytes id tablet others master roles.Absent keeps = idle_keeps bytes id tablet others master keeps
+going_on_keeps bytes id tablet others master roles.Serving keeps = idle_keeps bytes id tablet others master keeps
+going_on_keeps bytes id tablet others master roles.Frozen keeps = idle_keeps bytes id tablet others master keeps
+going_on_keeps bytes id tablet others master (roles.Wanting from) keeps = idle_keeps bytes id tablet others master keeps
+
+-- at each of these tablets a closing entry has its bytes for what is waited for
+going_on_bytes : (bytes : ℕ) (tablets : NumberMap Tablet) (master : Master) → TurnKeeps bytes tablets master → log_bytes (all_going_on master tablets) ≤ bytes + CLOSING_BYTES * side_waits tablets
+going_on_bytes bytes [] master keeps = omega (arith, keeps.fits)
+going_on_bytes bytes ((id, tablet) ∷ others) master keeps =
+    omega (
+      arith,
+      going_on_bytes (bytes + CLOSING_BYTES * side_waits_of tablet) others (going_on_in master id tablet tablet.handover.role)
+          (going_on_keeps bytes id tablet others master tablet.handover.role keeps),
+      sum_by-cons (λ (entry : ℕ × Tablet). side_waits_of entry.1) (id, tablet) others,
+    )
+
+-- after what a backup told a master has no more bytes than before, and the closing entries of its tablets that wait
+stored_bytes : (master : Master) (backup : ℕ) (stored : Stored) (over : Option Overreach) → IsInOrder master.tablets
+    → log_bytes (stored_taken master backup stored over).master ≤ log_bytes master + CLOSING_BYTES * side_waits master.tablets
+stored_bytes master backup stored (Some beyond) order = omega arith
+stored_bytes master backup stored None order =
     let known = with_known master backup stored.segment stored.length in
     let now = (apply_entries known (newly_held known)).master in
-    let applied = applied_keeps (log_bytes master) (newly_held known) known (record { order = order; fits = omega arith; none = none }) in
-    omega (arith, applied.fits, going_on_bytes (log_bytes now) now.tablets now applied.none (begins_so now applied.order))
+    let applied = applied_keeps (log_bytes master) (side_waits master.tablets) (newly_held known) known
+    (record { order = order; fits = omega arith; waited = omega arith }) in
+    omega (arith, applied.fits, applied.waited, going_on_bytes (log_bytes now) now.tablets now (begins_so now applied.order))
+
+-- ---- how long side segments are
+
+-- an item has no fewer bytes than this
+abbrev pub SHORTEST_ITEM : ℕ
+SHORTEST_ITEM = 34
+
+item_long : (item : Held) → SHORTEST_ITEM ≤ spelled_of item
+unfolding spelled_of
+item_long item = omega arith
+
+-- items that have a byte have those of an item
+items_long : (items : List Held) → 1 ≤ length (spelled_all (as_entries items)) → SHORTEST_ITEM ≤ length (spelled_all (as_entries items))
+items_long [] some = omega (arith, some, items_spelled [], sum-map spelled_of [])
+items_long (item ∷ items) some =
+    omega (
+      arith,
+      items_spelled (item ∷ items),
+      item_long item,
+      sum-map spelled_of (item ∷ items),
+      sum_by-cons spelled_of item items,
+    )
+
+-- side segments that have bytes have those of an item each
+sides_long : (sides : List (List Held)) → All IsFormedSide (map (λ items. spelled_all (as_entries items)) sides)
+    → SHORTEST_ITEM * length sides ≤ sum_by (λ (b : List ℕ). length b) (map (λ items. spelled_all (as_entries items)) sides)
+sides_long [] all = omega arith
+sides_long (items ∷ sides) all =
+    let rest = map (λ items. spelled_all (as_entries items)) sides in
+    omega (
+      arith,
+      items_long items (All-head IsFormedSide (spelled_all (as_entries items)) rest all).some,
+      sides_long sides (All-tail IsFormedSide (spelled_all (as_entries items)) rest all),
+      sum_by-cons (λ (b : List ℕ). length b) (spelled_all (as_entries items)) rest,
+    )
+
+-- a master has those bytes for each of its side segments
+side_segments_long : (limits : Limits) (number : ℕ) (master : Master) → IsFormedMaster limits number master → SHORTEST_ITEM * length master.log.sides ≤ log_bytes master
+side_segments_long limits number master formed =
+    let long = sides_long master.sides (subst (All IsFormedSide) formed.spelled formed.sides) in
+    omega (
+      arith,
+      long,
+      side_bytes master,
+      length-map master.sides (λ (items : List Held). spelled_all (as_entries items)),
+      ap (λ (sides : List (List ℕ)). length sides) formed.spelled,
+      ap (λ (sides : List (List ℕ)). sum_by (λ (b : List ℕ). length b) sides) formed.spelled,
+    )
+
+-- so what a backup told lets a well formed master have at most three times the bytes that it had
+pub stored_thrice : (limits : Limits) (number : ℕ) (master : Master) (backup : ℕ) (stored : Stored) (over : Option Overreach) → IsFormedMaster limits number master
+    → log_bytes (stored_taken master backup stored over).master ≤ 3 * log_bytes master
+stored_thrice limits number master backup stored over formed =
+    omega (
+      arith,
+      formed.waited,
+      side_segments_long limits number master formed,
+      stored_bytes master backup stored over formed.tablets_order,
+    )

@@ -38,6 +38,7 @@ use Rattle.rk_laws_formed.proofs.Changes.{formed_with_tablet}
 use Rattle.rk_laws_formed.proofs.Maps.{All_pairs}
 use Rattle.rk_laws_formed.proofs.Messages.{formed_from, tenure_fits}
 use Rattle.rk_laws_formed.proofs.Segments.{IsTold, IsToldPiece, pending_told, segments_told}
+use Rattle.rk_laws_formed.proofs.SideWaits.{none_waits_in}
 use Rattle.rk_laws_formed.proofs.Tablets.{formed_with_outstanding}
 use Rattle.rk_laws_formed.proofs.Waiting.{FitsSegment}
 use Rattle.rk_laws_formed.proofs.Work.{AreLimits, HasRoomFor, IsFormedWork, formed_changed, formed_sending, formed_then}
@@ -179,14 +180,16 @@ want_formed limits number master id tablet (hash ∷ more) are there formed held
     (All-nil (IsFormedMessage limits))
 
 -- a target asks for what it lacks
-receiving_formed : (limits : Limits) (number : ℕ) (master : Master) (id : ℕ) (tablet : Tablet) → AreLimits limits → IsMaster limits.masters number
-    → IsFormedMaster limits number master → IsFormedTablet limits id tablet → IsMaster limits.masters tablet.pulling.source
+receiving_formed : (limits : Limits) (number : ℕ) (master : Master) (id : ℕ) (tablet : Tablet) → tablet.handover.role ≡ roles.Receiving
+    → AreLimits limits → IsMaster limits.masters number → IsFormedMaster limits number master → IsFormedTablet limits id tablet → IsMaster limits.masters tablet.pulling.source
     → IsFormedWork limits number (receiving_duty master id tablet)
-receiving_formed limits number master id tablet are there formed held source =
+receiving_formed limits number master id tablet is are there formed held source =
     let now = with_outstanding tablet in
     let asks = formed_with_outstanding limits id tablet held in
     record {
-      master = formed_with_tablet limits number master id now formed asks;
+      master =
+          formed_with_tablet limits number master id now formed asks
+          (none_waits_in tablet.handover.role roles.Receiving _ _ is (λ sealed. refl));
       sends =
           All-append (IsFormedMessage limits) (want_of master id now now.pulling.hashes.outstanding) (pull_of master id now ∷ [])
           (want_formed limits number master id now now.pulling.hashes.outstanding are there formed asks source asks.pulled.outstanding)
@@ -245,24 +248,24 @@ reading_duty_formed limits number master id tablet (Some reading) are there form
     (tenure_formed limits id tablet held, reads.master))
 
 -- what a master does for a tablet, by its role
-duty_formed : (limits : Limits) (number : ℕ) (master : Master) (id : ℕ) (tablet : Tablet) (role : Role) → AreLimits limits
-    → IsMaster limits.masters number → IsFormedMaster limits number master → IsFormedTablet limits id tablet → IsNumber w64 0 (place_in role)
+duty_formed : (limits : Limits) (number : ℕ) (master : Master) (id : ℕ) (tablet : Tablet) (role : Role) → tablet.handover.role ≡ role
+    → AreLimits limits → IsMaster limits.masters number → IsFormedMaster limits number master → IsFormedTablet limits id tablet → IsNumber w64 0 (place_in role)
     → (is_receiving role ≡ true → IsMaster limits.masters tablet.pulling.source) → IsFormedWork limits number (tablet_duty master id tablet role)
-duty_formed limits number master id tablet roles.Receiving are there formed held place source =
-    receiving_formed limits number master id tablet are there formed held (source refl)
-duty_formed limits number master id tablet (roles.Joining (Some entry)) are there formed held place source =
+duty_formed limits number master id tablet roles.Receiving is are there formed held place source =
+    receiving_formed limits number master id tablet is are there formed held (source refl)
+duty_formed limits number master id tablet (roles.Joining (Some entry)) is are there formed held place source =
     joined_formed limits number master id tablet entry are there formed held
-duty_formed limits number master id tablet (roles.Joining None) are there formed held place source = formed_changed limits number master formed
-duty_formed limits number master id tablet (roles.Rebuilding from None) are there formed held place source =
+duty_formed limits number master id tablet (roles.Joining None) is are there formed held place source = formed_changed limits number master formed
+duty_formed limits number master id tablet (roles.Rebuilding from None) is are there formed held place source =
     reading_duty_formed limits number master id tablet (next_reading tablet.gather) are there formed held
     (next_formed limits tablet.gather.range tablet.gather.members held.gathered)
-duty_formed limits number master id tablet (roles.Rebuilding from (Some entry)) are there formed held place source =
+duty_formed limits number master id tablet (roles.Rebuilding from (Some entry)) is are there formed held place source =
     rebuilt_formed limits number master id tablet from entry are there formed held place
-duty_formed limits number master id tablet roles.Absent are there formed held place source = formed_changed limits number master formed
-duty_formed limits number master id tablet roles.Serving are there formed held place source = formed_changed limits number master formed
-duty_formed limits number master id tablet roles.Closing are there formed held place source = formed_changed limits number master formed
-duty_formed limits number master id tablet roles.Frozen are there formed held place source = formed_changed limits number master formed
-duty_formed limits number master id tablet (roles.Wanting from) are there formed held place source = formed_changed limits number master formed
+duty_formed limits number master id tablet roles.Absent is are there formed held place source = formed_changed limits number master formed
+duty_formed limits number master id tablet roles.Serving is are there formed held place source = formed_changed limits number master formed
+duty_formed limits number master id tablet roles.Closing is are there formed held place source = formed_changed limits number master formed
+duty_formed limits number master id tablet roles.Frozen is are there formed held place source = formed_changed limits number master formed
+duty_formed limits number master id tablet (roles.Wanting from) is are there formed held place source = formed_changed limits number master formed
 
 -- what a master does for these tablets
 pub duties_formed : (limits : Limits) (number : ℕ) (tablets : NumberMap Tablet) (master : Master) → AreLimits limits → IsMaster limits.masters number
@@ -271,7 +274,7 @@ pub duties_formed : (limits : Limits) (number : ℕ) (tablets : NumberMap Tablet
 duties_formed limits number [] master are there formed each = formed_changed limits number master formed
 duties_formed limits number ((id, tablet) ∷ others) master are there formed each =
     let held = All-head (λ entry. IsFormedTablet limits entry.0 entry.1) (id, tablet) others each in
-    let first = duty_formed limits number master id tablet tablet.handover.role are there formed held held.place held.source in
+    let first = duty_formed limits number master id tablet tablet.handover.role refl are there formed held held.place held.source in
     formed_then limits number (tablet_duty master id tablet tablet.handover.role) (λ next. duties next others) first
     (duties_formed limits number others (tablet_duty master id tablet tablet.handover.role).master are there first.master
     (All-tail (λ entry. IsFormedTablet limits entry.0 entry.1) (id, tablet) others each))

@@ -24,6 +24,7 @@ use Rattle.rk_world.specs.Waiting.{all_going_on, closing_entry, freezing, going_
 use Rattle.rk_laws_formed.proofs.Lists.{all_front, all_last}
 use Rattle.rk_laws_formed.proofs.Changes.{formed_with_appended, formed_with_tablet}
 use Rattle.rk_laws_formed.proofs.Messages.{counted_fits}
+use Rattle.rk_laws_formed.proofs.SideWaits.{WaitsForNone, none_waits}
 use Rattle.rk_laws_formed.proofs.Tablets.{IsFormedHandover, formed_with_handover, handover_of}
 use Rattle.rk_laws_formed.proofs.Work.{AreLimits}
 
@@ -95,6 +96,54 @@ joined_plain (Some place) (roles.Wanting from) now is = absurd (cc is)
 joined_plain None (roles.Rebuilding from old) now is = absurd (cc is)
 joined_plain (Some place) (roles.Rebuilding from old) now is = absurd (cc is)
 
+-- in the role that a freeze leaves no side segment is waited for, and none in that of a join with its closing entry
+frozen_role : (role now : Role) → role_frozen role ≡ Some now → WaitsForNone now
+frozen_role roles.Closing now is =
+    let same : roles.Frozen ≡ now = cc is in subst WaitsForNone same (λ sealed. refl)
+frozen_role roles.Absent now is = absurd (cc is)
+frozen_role roles.Serving now is = absurd (cc is)
+frozen_role roles.Frozen now is = absurd (cc is)
+frozen_role (roles.Wanting from) now is = absurd (cc is)
+frozen_role roles.Receiving now is = absurd (cc is)
+frozen_role (roles.Joining entry) now is = absurd (cc is)
+frozen_role (roles.Rebuilding from entry) now is = absurd (cc is)
+
+joining_role : (place : ℕ) (now : Role) → Some (roles.Joining (Some place)) ≡ Some now → WaitsForNone now
+joining_role place now is =
+    let same : roles.Joining (Some place) ≡ now = cc is in subst WaitsForNone same (λ sealed. refl)
+
+joined_role : (place : ℕ) (role now : Role) → role_joined (Some place) role ≡ Some now → WaitsForNone now
+joined_role place roles.Receiving now is = joining_role place now is
+joined_role place (roles.Joining None) now is = joining_role place now is
+joined_role place (roles.Joining (Some old)) now is = absurd (cc is)
+joined_role place roles.Closing now is = absurd (cc is)
+joined_role place roles.Absent now is = absurd (cc is)
+joined_role place roles.Serving now is = absurd (cc is)
+joined_role place roles.Frozen now is = absurd (cc is)
+joined_role place (roles.Wanting from) now is = absurd (cc is)
+joined_role place (roles.Rebuilding from old) now is = absurd (cc is)
+
+-- a handover in whose role no side segment is waited for
+abbrev pub MovesOn : Handover → Type 0
+MovesOn handover = WaitsForNone handover.role
+
+on_in_role : (handover : Handover) (role : Option Role) → ((r : Role) → role ≡ Some r → WaitsForNone r) → EachMoved MovesOn (in_role handover role)
+on_in_role handover None none now is = absurd (cc is)
+on_in_role handover (Some role) none now is =
+    let same : record handover { role = role } ≡ now = cc is in
+    subst MovesOn same (none role refl)
+
+pub frozen_on : (handover : Handover) (term : ℕ) → EachMoved MovesOn (frozen handover term)
+frozen_on handover term =
+    cond_both (handover.term == term) (in_role handover (role_frozen handover.role)) None (EachMoved MovesOn)
+    (λ own. on_in_role handover (role_frozen handover.role) (frozen_role handover.role)) (λ other now is. absurd (cc is))
+
+pub joined_on : (handover : Handover) (term place : ℕ) → EachMoved MovesOn (joined handover term (Some place))
+joined_on handover term place =
+    cond_both (handover.term == term) (in_role handover (role_joined (Some place) handover.role)) None (EachMoved MovesOn)
+    (λ own. on_in_role handover (role_joined (Some place) handover.role) (joined_role place handover.role))
+    (λ other now is. absurd (cc is))
+
 -- a handover that froze
 pub formed_frozen : (limits : Limits) (source : ℕ) (handover : Handover) (term : ℕ) → IsFormedHandover limits source handover
     → EachMoved (IsFormedHandover limits source) (frozen handover term)
@@ -130,24 +179,27 @@ formed_joined_entry limits number tablet are formed fits = record {
 -- a target appends its closing entry, where that fits
 pub formed_closing_entry : (limits : Limits) (number : ℕ) (master : Master) (id : ℕ) (tablet : Tablet) (moved : Option Handover) → AreLimits limits
     → IsFormedMaster limits number master → IsFormedTablet limits id tablet → EachMoved (IsFormedHandover limits tablet.pulling.source) moved
-    → All FitsSegment (closing_entry master id tablet moved).log.entries → IsFormedMaster limits number (closing_entry master id tablet moved)
-formed_closing_entry limits number master id tablet None are formed there moves fits = formed
-formed_closing_entry limits number master id tablet (Some handover) are formed there moves fits =
+    → EachMoved MovesOn moved → All FitsSegment (closing_entry master id tablet moved).log.entries
+    → IsFormedMaster limits number (closing_entry master id tablet moved)
+formed_closing_entry limits number master id tablet None are formed there moves on fits = formed
+formed_closing_entry limits number master id tablet (Some handover) are formed there moves on fits =
     formed_with_appended limits number (with_tablet master id (with_handover tablet handover)) (joined_entry tablet)
     (formed_with_tablet limits number master id (with_handover tablet handover) formed
-    (formed_with_handover limits id tablet handover there (moves handover refl)))
+    (formed_with_handover limits id tablet handover there (moves handover refl))
+    (none_waits handover.role _ _ (on handover refl)))
     (formed_joined_entry limits id tablet are there (all_last FitsSegment master.log.entries (joined_entry tablet) fits))
 
 -- a tablet that closes freezes
 pub formed_freezing : (limits : Limits) (number : ℕ) (master : Master) (id : ℕ) (tablet : Tablet) (moved : Option Handover)
     → IsFormedMaster limits number master → IsFormedTablet limits id tablet → EachMoved (IsFormedHandover limits tablet.pulling.source) moved
-    → IsFormedMaster limits number (freezing master id tablet moved)
-formed_freezing limits number master id tablet None formed there moves = formed
-formed_freezing limits number master id tablet (Some handover) formed there moves =
+    → EachMoved MovesOn moved → IsFormedMaster limits number (freezing master id tablet moved)
+formed_freezing limits number master id tablet None formed there moves on = formed
+formed_freezing limits number master id tablet (Some handover) formed there moves on =
     cond_both (is_settled master tablet.handover.range) (tablet_frozen master id tablet handover) master (IsFormedMaster limits number)
     (λ settled.
     formed_with_tablet limits number master id (with_handover tablet handover) formed
-    (formed_with_handover limits id tablet handover there (moves handover refl)))
+    (formed_with_handover limits id tablet handover there (moves handover refl))
+    (none_waits handover.role _ _ (on handover refl)))
     (λ staged. formed)
 
 -- ---- one tablet after the other
@@ -200,6 +252,7 @@ formed_going_on_in : (limits : Limits) (number : ℕ) (master : Master) (id : �
 formed_going_on_in limits number master id tablet roles.Closing are formed there fits =
     formed_freezing limits number master id tablet (frozen tablet.handover tablet.handover.term) formed there
     (formed_frozen limits tablet.pulling.source tablet.handover tablet.handover.term (handover_of limits id tablet there))
+    (frozen_on tablet.handover tablet.handover.term)
 formed_going_on_in limits number master id tablet (roles.Joining None) are formed there fits = go (is_sealed_stored master tablet) fits
   where
     go : (b : Bool)
@@ -207,7 +260,8 @@ formed_going_on_in limits number master id tablet (roles.Joining None) are forme
         → IsFormedMaster limits number (cond b (closing_entry master id tablet (joined tablet.handover tablet.handover.term (Some (length master.log.entries)))) master)
     go true all =
         formed_closing_entry limits number master id tablet (joined tablet.handover tablet.handover.term (Some (length master.log.entries))) are formed there
-        (formed_joined limits tablet.pulling.source tablet.handover tablet.handover.term (Some (length master.log.entries)) (handover_of limits id tablet there)) all
+        (formed_joined limits tablet.pulling.source tablet.handover tablet.handover.term (Some (length master.log.entries)) (handover_of limits id tablet there))
+        (joined_on tablet.handover tablet.handover.term (length master.log.entries)) all
     go false all = formed
 formed_going_on_in limits number master id tablet (roles.Joining (Some place)) are formed there fits = formed
 formed_going_on_in limits number master id tablet roles.Absent are formed there fits = formed

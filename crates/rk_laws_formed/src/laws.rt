@@ -26,8 +26,8 @@ pub fn new_lanes_are_well_formed()
 {}
 
 /// A well formed lane stays so at each event that may happen there, is not refused and leaves another master alive, where the
-/// lane has room before and after it. The greatest number fits by itself then, and so do the bytes of all logs where at most
-/// an entry is appended.
+/// lane has room before and after it. The greatest number fits by itself then, and so do the bytes of all logs where a
+/// master appends entries of its own alone.
 pub fn events_keep_lanes_well_formed()
     ensures number { (w : World) (event : Event) (called : Called)
         → IsWellFormed w → HasRoom w → refusal w event ≡ None → IsCalmEvent w event → MayCome called → MayHappen w event

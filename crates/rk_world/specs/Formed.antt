@@ -1,12 +1,12 @@
 -- Well formed: what the code of a lane needs of its world, below soundness. Maps are in order, what is named is there, no number is
 -- greater than the greatest that has stood, and what stands in logs, messages and sessions can be spelled. Nothing here reads
 -- what a backup stores.
-use Rattle.std.specs.Prelude.{◌≡◌, ◌≤◌, ◌<◌, ℕ, true, false, List, [], ◌∷◌, ◌++◌, length, map, All, IfSome, unwrap_or}
+use Rattle.std.specs.Prelude.{◌≡◌, ◌≤◌, ◌<◌, ℕ, true, false, List, [], ◌∷◌, ◌++◌, length, map, max, All, IfSome, None, unwrap_or}
 use Rattle.std.specs.Int.{w32, w64}
-use Rattle.std.specs.List.{IsDistinct, flat_map, range_with_len}
+use Rattle.std.specs.List.{IsDistinct, flat_map, range_with_len, sum_by}
 use Rattle.std.specs.Prelude.{nat_eq}
 use Rattle.rk_types.specs.Hashing.{hash_of}
-use Rattle.rk_types.specs.NumberMap.{EachIn, IsInOrder, numbers}
+use Rattle.rk_types.specs.NumberMap.{EachIn, IsInOrder, NumberMap, numbers}
 use Rattle.rk_types.specs.declared.call.Call.{Call}
 use Rattle.rk_types.specs.declared.lineage.Member.{Member}
 use Rattle.rk_entry.specs.Ends.{IsLawfulRange}
@@ -63,6 +63,19 @@ place_in (roles.Wanting from) = from
 place_in (roles.Rebuilding from entry) = from
 place_in role = 0
 
+-- how many side segments a target waits for that sealed these: one at least
+abbrev pub side_waits_in : Role → List ℕ → ℕ
+side_waits_in (roles.Joining None) sealed = max 1 (length sealed)
+side_waits_in role sealed = 0
+
+-- how many side segments a tablet waits for
+abbrev pub side_waits_of : Tablet → ℕ
+side_waits_of tablet = side_waits_in tablet.handover.role tablet.pulling.sealed
+
+-- how many side segments tablets wait for
+abbrev pub side_waits : NumberMap Tablet → ℕ
+side_waits tablets = sum_by (λ entry. side_waits_of entry.1) tablets
+
 -- what a target has while it pulls: its token and its hashes can be spelled, and it has a list of items for each of four workers
 pub record IsFormedPulling (limits : Limits) (pulling : Pulling) : Type 0 where
   pub token : IsLawfulToken pulling.token
@@ -99,7 +112,8 @@ pub record IsFormedSide (bytes : List ℕ) : Type 0 where
   pub some : 1 ≤ length bytes
   pub few : length bytes ≤ SEGMENT_BYTES
 
--- a master: it has its number and knows of each backup; its maps are in order; its entries, items and calls are well formed
+-- a master: it has its number and knows of each backup; its maps are in order; its entries, items and calls are well formed; and its
+-- tablets wait for no more side segments than it has
 pub record IsFormedMaster (limits : Limits) (number : ℕ) (master : Master) : Type 0 where
   pub number_is : master.number ≡ number
   pub known : length master.log.known ≡ limits.backups
@@ -115,6 +129,7 @@ pub record IsFormedMaster (limits : Limits) (number : ℕ) (master : Master) : T
   pub calls : EachIn (IsFormedCall limits (length master.log.entries)) master.calls
   pub tablets_order : IsInOrder master.tablets
   pub tablets : EachIn (IsFormedTablet limits) master.tablets
+  pub waited : side_waits master.tablets ≤ length master.log.sides
 
 -- ---- the coordinator
 
