@@ -1,7 +1,6 @@
--- The bytes of all logs of a lane fit after each event but those by which a master may append more than an entry: where it is told
--- Pulled, Got, Rebuild or Copy.
+-- The bytes of all logs of a lane fit after each event that brings few bytes.
 use Rattle.std.proofs.Common.{◌≡◌, ◌≤◌, ◌<◌, ◌+◌, ℕ, false, Option, None, Some, [], refl, subst, arith}
-use Rattle.std.specs.Prelude.{IfSome, unwrap_or}
+use Rattle.std.specs.Prelude.{unwrap_or}
 use Rattle.std.proofs.lemmas.Bool.{cond_both}
 use Rattle.rk_types.specs.NumberMap.{get}
 use Rattle.rk_types.specs.declared.node.Node.{Node}
@@ -34,7 +33,7 @@ use Rattle.rk_laws_formed.proofs.Events.{comes_fresh}
 use Rattle.rk_laws_formed.proofs.LogBytes.{bytes_with_tablet, unsealed_at_most}
 use Rattle.rk_laws_formed.proofs.MapSums.{inserted_most}
 use Rattle.rk_laws_formed.proofs.Rooms.{room_again, room_come, room_crashed, room_forgotten}
-use Rattle.rk_laws_formed.specs.Plain.{IsPlainBody, IsPlainEvent, IsPlainFor}
+use Rattle.rk_laws_formed.specs.Brought.{MOST_BROUGHT, brought, brought_by, brought_in, brought_to}
 use Rattle.rk_laws_formed.proofs.StepBytes.{BytesFit, split_bytes, told_bytes}
 use Rattle.rk_laws_formed.proofs.TurnBytes.{turn_bytes}
 use Rattle.rk_laws_formed.proofs.Worlds.{formed_limits, master_of}
@@ -55,15 +54,16 @@ logs_fit w number master fresh fits = omega (arith, fresh, fits, inserted_most l
 -- ---- a message and a turn
 
 master_bytes : (w : World) (number : ℕ) (message : Message) → bytes_of_logs w < WORN_BYTES → IsMaster w.coordinator.masters number → IsFormedMessage (limits_of w) message
-    → IsPlainBody message.body → IsWellFormed w → HasRoom w → bytes_of_logs (to_master w number message).world < MOST_BYTES
-master_bytes w number message fresh there told plain formed room =
+    → brought_by (master_at w number) message.body ≤ MOST_BROUGHT → IsWellFormed w → HasRoom w
+    → bytes_of_logs (to_master w number message).world < MOST_BYTES
+master_bytes w number message fresh there told few formed room =
     cond_both (has_crashed w number) (losing w) (worked_at w number (seen_in message.body) (master_step (master_at w number) message))
     (λ (stepped : Stepped). bytes_of_logs stepped.world < MOST_BYTES)
     (λ crashed. room.bytes)
     (λ living.
     logs_fit w number (master_step (master_at w number) message).master fresh
     (told_bytes (master_at w number) (omega (arith, fresh, master_below w number)) (limits_of w) number message.from message.body
-    (formed_limits w formed room) (master_of w number there formed) told.says plain))
+    (formed_limits w formed room) (master_of w number there formed) told.says few))
 
 stored_logs : (w : World) (backup : ℕ) (store : Segments → Segments) (found : Option Segments) → bytes_of_logs (with_stored_by w backup store found) ≡ bytes_of_logs w
 stored_logs w backup store None = refl
@@ -87,18 +87,22 @@ backup_bytes w backup sender body called room =
     fits =
         omega (arith, room.bytes, stored_logs w backup (λ segments. stored_after segments sender body called) (get w.backups backup))
 
-received_bytes : (w : World) (message : Message) (to : Node) (called : Called) → message.to ≡ to → bytes_of_logs w < WORN_BYTES → IsFormedMessage (limits_of w) message → IsPlainFor to message.body → IsWellFormed w → HasRoom w → bytes_of_logs (delivered_to w message to called).world < MOST_BYTES
-received_bytes w message (nodes.Client client) called is fresh told plain formed room = room.bytes
-received_bytes w message nodes.Coordinator called is fresh told plain formed room = room.bytes
-received_bytes w message (nodes.Master master) called is fresh told plain formed room =
-    master_bytes w master message fresh (subst (λ to. IsThere (limits_of w) to) is told.to) told plain formed room
-received_bytes w message (nodes.Backup backup) called is fresh told plain formed room =
+received_bytes : (w : World) (message : Message) (to : Node) (called : Called) → message.to ≡ to → bytes_of_logs w < WORN_BYTES
+    → IsFormedMessage (limits_of w) message → brought_to w to message.body ≤ MOST_BROUGHT → IsWellFormed w → HasRoom w
+    → bytes_of_logs (delivered_to w message to called).world < MOST_BYTES
+received_bytes w message (nodes.Client client) called is fresh told few formed room = room.bytes
+received_bytes w message nodes.Coordinator called is fresh told few formed room = room.bytes
+received_bytes w message (nodes.Master master) called is fresh told few formed room =
+    master_bytes w master message fresh (subst (λ to. IsThere (limits_of w) to) is told.to) told few formed room
+received_bytes w message (nodes.Backup backup) called is fresh told few formed room =
     backup_bytes w backup message.from message.body called room
 
-delivered_bytes : (w : World) (number : ℕ) (called : Called) → bytes_of_logs w < WORN_BYTES → IsPlainEvent w (events.Deliver number) → IsWellFormed w → HasRoom w → bytes_of_logs (happened w (events.Deliver number) called).world < MOST_BYTES
-delivered_bytes w number called fresh plain formed room = go (get w.wire.messages number) refl plain
+delivered_bytes : (w : World) (number : ℕ) (called : Called) → bytes_of_logs w < WORN_BYTES → brought w (events.Deliver number) ≤ MOST_BROUGHT
+    → IsWellFormed w → HasRoom w → bytes_of_logs (happened w (events.Deliver number) called).world < MOST_BYTES
+delivered_bytes w number called fresh few formed room = go (get w.wire.messages number) refl few
   where
-    go : (found : Option Message) → get w.wire.messages number ≡ found → IfSome found (λ message. IsPlainFor message.to message.body) → bytes_of_logs (delivered w found called).world < MOST_BYTES
+    go : (found : Option Message) → get w.wire.messages number ≡ found → brought_in w found ≤ MOST_BROUGHT
+        → bytes_of_logs (delivered w found called).world < MOST_BYTES
     go None is it = room.bytes
     go (Some message) is it =
         received_bytes w message message.to called refl fresh (formed.wire.each number message is) it formed room
@@ -145,24 +149,26 @@ row_bytes w (Some row) at new fresh = owner_bytes w row.tablet row.phase at new 
 
 -- ---- every event
 
--- the bytes of all logs fit after an event that is not refused and appends at most an entry
-pub bytes_event : (w : World) (event : Event) (called : Called) → MayHappen w event → refusal w event ≡ None → IsPlainEvent w event → IsWellFormed w → HasRoom w → bytes_of_logs (happened w event called).world < MOST_BYTES
-bytes_event w event called may none plain formed room = go event may none plain
+-- the bytes of all logs fit after an event that is not refused and brings few
+pub bytes_event : (w : World) (event : Event) (called : Called) → MayHappen w event → refusal w event ≡ None → brought w event ≤ MOST_BROUGHT
+    → IsWellFormed w → HasRoom w → bytes_of_logs (happened w event called).world < MOST_BYTES
+bytes_event w event called may none few formed room = go event may none few
   where
     fresh : (event : Event) → comes_anyway event ≡ false → refusal w event ≡ None → bytes_of_logs w < WORN_BYTES
     fresh event careful none = (comes_fresh w event careful none).bytes
 
-    go : (event : Event) → MayHappen w event → refusal w event ≡ None → IsPlainEvent w event → bytes_of_logs (happened w event called).world < MOST_BYTES
-    go (events.AddTablet tablet range master) may none plain =
+    go : (event : Event) → MayHappen w event → refusal w event ≡ None → brought w event ≤ MOST_BROUGHT
+        → bytes_of_logs (happened w event called).world < MOST_BYTES
+    go (events.AddTablet tablet range master) may none few =
         added_bytes w tablet range master (fresh (events.AddTablet tablet range master) refl none)
-    go (events.AddClient client) may none plain = (room_come w client called formed room).bytes
-    go (events.Deliver number) may none plain =
-        delivered_bytes w number called (fresh (events.Deliver number) refl none) plain formed room
-    go (events.Forget number) may none plain = (room_forgotten w number called formed room).bytes
-    go (events.Turn node) may none plain = turned_bytes w node may (fresh (events.Turn node) refl none) formed room
-    go (events.Again client) may none plain = (room_again w client called none formed room).bytes
-    go (events.Migrate tablet to) may none plain = room.bytes
-    go (events.Split tablet at new) may none plain =
+    go (events.AddClient client) may none few = (room_come w client called formed room).bytes
+    go (events.Deliver number) may none few =
+        delivered_bytes w number called (fresh (events.Deliver number) refl none) few formed room
+    go (events.Forget number) may none few = (room_forgotten w number called formed room).bytes
+    go (events.Turn node) may none few = turned_bytes w node may (fresh (events.Turn node) refl none) formed room
+    go (events.Again client) may none few = (room_again w client called none formed room).bytes
+    go (events.Migrate tablet to) may none few = room.bytes
+    go (events.Split tablet at new) may none few =
         row_bytes w (row_of w.coordinator.rows tablet) at new (fresh (events.Split tablet at new) refl none)
-    go (events.Crash master) may none plain = (room_crashed w master called formed room).bytes
-    go (events.Notice master) may none plain = room.bytes
+    go (events.Crash master) may none few = (room_crashed w master called formed room).bytes
+    go (events.Notice master) may none few = room.bytes

@@ -149,7 +149,8 @@ noting_waits call end tablet =
     (λ notes. as_many (side_waits_of tablet)) (λ other. as_many (side_waits_of tablet))
 
 -- and so do all tablets
-pub noted_waits : (call : Call) (end : Ended) (tablets : NumberMap Tablet) → side_waits (changed_each (λ number tablet. noting call end tablet) tablets) ≤ side_waits tablets
+pub noted_waits : (call : Call) (end : Ended) (tablets : NumberMap Tablet)
+    → side_waits (changed_each (λ number tablet. noting call end tablet) tablets) ≤ side_waits tablets
 noted_waits call end tablets =
     waits_changed (λ number tablet. noting call end tablet) (λ number tablet. noting_waits call end tablet) tablets
 

@@ -83,7 +83,8 @@ formed_begun limits source handover term range role counter new lawful place sti
     ] is
 
 -- in the role that is asked for anew no side segment is waited for, where that is such a role
-pub begun_on : (handover : Handover) (term : ℕ) (range : Range) (role : Role) → WaitsForNone role → EachMoved MovesOn (begun handover term range role)
+pub begun_on : (handover : Handover) (term : ℕ) (range : Range) (role : Role) → WaitsForNone role
+    → EachMoved MovesOn (begun handover term range role)
 begun_on handover term range role none after is =
     elim (nat_lt handover.term term) as (λ b. cond b (Some (record handover { role = role; term = term; range = range })) None ≡ Some after → MovesOn after) [
       | true ↦ λ same.

@@ -52,6 +52,9 @@ pub mod StepsFew
 pub mod RoomEvents
 pub mod LogBytes
 pub mod TurnBytes
+pub mod PullBytes
+pub mod CopyBytes
+pub mod RebuildBytes
 pub mod StepBytes
 pub mod ByteEvents
 pub mod RoomRuns

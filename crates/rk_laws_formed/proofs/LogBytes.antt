@@ -38,7 +38,8 @@ use Rattle.rk_laws_formed.proofs.Sizes.{bytes_spelled}
 -- ---- a tablet
 
 -- workers that have pulled nothing have no bytes
-pub none_pulled : (none : List Held) → none ≡ [] → sum (map (λ items. length (spelled_all (as_entries items))) (none ∷ none ∷ none ∷ none ∷ [])) ≡ 0
+pub none_pulled : (none : List Held) → none ≡ []
+    → sum (map (λ items. length (spelled_all (as_entries items))) (none ∷ none ∷ none ∷ none ∷ [])) ≡ 0
 none_pulled none is =
     let bytes : length (spelled_all (as_entries none)) ≡ 0 =
     ap (λ (items : List Held). length (spelled_all (as_entries items))) is ∙ ap (λ (l : List ℕ). length l) none_spelled in

@@ -15,14 +15,16 @@ size_found size None = 0
 size_found size (Some thing) = size thing
 
 -- nothing is under a number that is below all
-none_below : {X : Type 0} (size : X → ℕ) (n : ℕ) (things : NumberMap X) → T (below_all nat_cmp n things) → (q : ℕ) → q ≤ n → (found : Option X) → get things q ≡ found → size_found size found ≡ 0
+none_below : {X : Type 0} (size : X → ℕ) (n : ℕ) (things : NumberMap X) → T (below_all nat_cmp n things) → (q : ℕ) → q ≤ n → (found : Option X)
+    → get things q ≡ found → size_found size found ≡ 0
 none_below size n things below q up None is = refl
 none_below size n things below q up (Some thing) is =
     let above = above_all n things q thing below is in
     absurd (omega arith)
 
 -- a thing under a number counts in place of what was there
-pub sum_inserted : {X : Type 0} (size : X → ℕ) (things : NumberMap X) (number : ℕ) (thing : X) → IsInOrder things → sum_by (λ entry. size entry.1) (insert things number thing) + size_found size (get things number) ≡ sum_by (λ entry. size entry.1) things + size thing
+pub sum_inserted : {X : Type 0} (size : X → ℕ) (things : NumberMap X) (number : ℕ) (thing : X) → IsInOrder things
+    → sum_by (λ entry. size entry.1) (insert things number thing) + size_found size (get things number) ≡ sum_by (λ entry. size entry.1) things + size thing
 sum_inserted {X} size [] number thing order =
     omega (arith, sum_by-cons (λ (entry : ℕ × X). size entry.1) (number, thing) [])
 sum_inserted {X} size (here ∷ things) number thing order =
@@ -42,7 +44,8 @@ sum_inserted {X} size (here ∷ things) number thing order =
     refl
 
 -- and in any map no more than beside all that is there
-sum_inserted_most : {X : Type 0} (size : X → ℕ) (things : NumberMap X) (number : ℕ) (thing : X) → sum_by (λ entry. size entry.1) (insert things number thing) ≤ sum_by (λ entry. size entry.1) things + size thing
+sum_inserted_most : {X : Type 0} (size : X → ℕ) (things : NumberMap X) (number : ℕ) (thing : X)
+    → sum_by (λ entry. size entry.1) (insert things number thing) ≤ sum_by (λ entry. size entry.1) things + size thing
 sum_inserted_most {X} size [] number thing =
     omega (arith, sum_by-cons (λ (entry : ℕ × X). size entry.1) (number, thing) [])
 sum_inserted_most {X} size (here ∷ things) number thing =
@@ -54,7 +57,8 @@ sum_inserted_most {X} size (here ∷ things) number thing =
       | Greater ↦ omega (arith, whole, rest, sum_by-cons (λ (entry : ℕ × X). size entry.1) here (insert things number thing))
     ]
 
-pub inserted_most : {X : Type 0} (size : X → ℕ) (things : NumberMap X) (number : ℕ) (thing : X) → sum (map (λ entry. size entry.1) (insert things number thing)) ≤ sum (map (λ entry. size entry.1) things) + size thing
+pub inserted_most : {X : Type 0} (size : X → ℕ) (things : NumberMap X) (number : ℕ) (thing : X)
+    → sum (map (λ entry. size entry.1) (insert things number thing)) ≤ sum (map (λ entry. size entry.1) things) + size thing
 inserted_most size things number thing =
     omega (
       arith,

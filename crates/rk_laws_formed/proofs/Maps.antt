@@ -112,7 +112,8 @@ module _ {X : Type 0} where
 -- ---- each thing changed
 
 -- what is found in a map where each thing was changed
-pub found_changed : {X Y : Type 0} (change : ℕ → X → Y) (things : NumberMap X) (q : ℕ) → get (changed_each change things) q ≡ option_map (change q) (get things q)
+pub found_changed : {X Y : Type 0} (change : ℕ → X → Y) (things : NumberMap X) (q : ℕ)
+    → get (changed_each change things) q ≡ option_map (change q) (get things q)
 found_changed change [] q = refl
 found_changed {X = X} {Y = Y} change (first ∷ rest) q =
     elim (eq_by_cmp nat_cmp q first.0) as (λ b. eq_by_cmp nat_cmp q first.0 ≡ b → cond b (Some (change first.0 first.1)) (get (changed_each change rest) q) ≡ option_map (change q) (cond b (Some first.1) (get rest q))) [

@@ -80,7 +80,8 @@ few_ends limits list are told =
           (All-weaker (IsFormedEnd limits) (λ end. IsClient limits end.client) (λ end fits. fits.client) _ each),
     )
 
-pub merge_formed : (limits : Limits) (number : ℕ) (master : Master) (id : ℕ) → 1 ≤ limits.top → IsFormedMaster limits number master → IsFormedMerge limits (merge (rebuilds.own_material master (tablet_at master id)) (by_member (tablet_at master id).gather (rebuilds.own_material master (tablet_at master id))))
+pub merge_formed : (limits : Limits) (number : ℕ) (master : Master) (id : ℕ) → 1 ≤ limits.top → IsFormedMaster limits number master
+    → IsFormedMerge limits (merge (rebuilds.own_material master (tablet_at master id)) (by_member (tablet_at master id).gather (rebuilds.own_material master (tablet_at master id))))
 merge_formed limits number master id some formed =
     let it = tablet_at master id in
     let own = rebuilds.own_material master it in

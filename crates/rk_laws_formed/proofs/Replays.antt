@@ -42,7 +42,8 @@ pub record IsFormedAt (limits : Limits) (number id : ℕ) (master : Master) : Ty
   pub waits : WaitsForNone (tablet_at master id).handover.role
 
 -- a master with another state of a tablet
-pub formed_put : (limits : Limits) (number id : ℕ) (master : Master) (tablet : Tablet) → IsFormedMaster limits number master → IsFormedTablet limits id tablet
+pub formed_put : (limits : Limits) (number id : ℕ) (master : Master) (tablet : Tablet) → IsFormedMaster limits number master
+    → IsFormedTablet limits id tablet
     → WaitsForNone tablet.handover.role → IsFormedAt limits number id (with_tablet master id tablet)
 formed_put limits number id master tablet formed new none = record {
   master_is = formed_with_tablet limits number master id tablet formed new (none_waits tablet.handover.role _ _ none);

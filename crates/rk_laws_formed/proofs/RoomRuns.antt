@@ -1,5 +1,5 @@
 -- The numbers of a lane fit in every calm run: there only the bytes of logs and what each master has are left to be bounded.
-use Rattle.std.proofs.Common.{◌≡◌, ◌<◌, List, [], ◌∷◌, Option, None, Some, refl}
+use Rattle.std.proofs.Common.{◌≡◌, ◌≤◌, ◌<◌, ℕ, List, [], ◌∷◌, Option, None, Some, refl}
 use Rattle.rk_world.specs.declared.error.StepError.{StepError}
 use Rattle.rk_world.specs.Formed.{IsWellFormed}
 use Rattle.rk_world.specs.Refusals.{refusal}
@@ -7,9 +7,8 @@ use Rattle.rk_world.specs.Room.{HasRoom, MOST_BYTES, MOST_NUMBER}
 use Rattle.rk_world.specs.Runs.{Accepts, AllHaveRoom, Asks, Happening, Happens, IsCalm, IsCalmHappening, MayAllOccur, MayOccur, after, run, world_stepped}
 use Rattle.rk_world.specs.Step.{stepped_by}
 use Rattle.rk_world.specs.World.{World, bytes_of_logs}
-use Rattle.std.specs.Prelude.{⊤}
 use Rattle.rk_laws_formed.specs.Fitting.{AllLogsFit, LogsFit}
-use Rattle.rk_laws_formed.specs.Plain.{IsPlainEvent}
+use Rattle.rk_laws_formed.specs.Brought.{MOST_BROUGHT, brought}
 use Rattle.rk_laws_formed.proofs.ByteEvents.{bytes_event}
 use Rattle.rk_laws_formed.proofs.Happenings.{formed_accepts, formed_asks}
 use Rattle.rk_laws_formed.proofs.RoomEvents.{room_event}
@@ -49,19 +48,20 @@ formed_run_fitting w list may calm number fits formed =
 
 -- ---- the bytes
 
--- by what happens at most an entry is appended
-abbrev pub IsPlainHappening : World → Happening → Type 0
-IsPlainHappening w (Happens event called) = IsPlainEvent w event
-IsPlainHappening w (Asks session) = ⊤
-IsPlainHappening w (Accepts number session) = ⊤
+-- how many bytes what happens brings
+abbrev pub brought_then : World → Happening → ℕ
+brought_then w (Happens event called) = brought w event
+brought_then w (Asks session) = 0
+brought_then w (Accepts number session) = 0
 
--- then the bytes of all logs fit after it
-pub bytes_after : (w : World) (happening : Happening) → MayOccur w happening → IsPlainHappening w happening → IsWellFormed w → HasRoom w → bytes_of_logs (after w happening) < MOST_BYTES
-bytes_after w (Happens event called) may plain formed room = go (refusal w event) refl
+-- where that is little the bytes of all logs fit after it
+pub bytes_after : (w : World) (happening : Happening) → MayOccur w happening → brought_then w happening ≤ MOST_BROUGHT → IsWellFormed w
+    → HasRoom w → bytes_of_logs (after w happening) < MOST_BYTES
+bytes_after w (Happens event called) may few formed room = go (refusal w event) refl
   where
     go : (refused : Option StepError) → refusal w event ≡ refused → bytes_of_logs (world_stepped w (stepped_by w event called refused)) < MOST_BYTES
-    go None none = bytes_event w event called may.0 none plain formed room
+    go None none = bytes_event w event called may.0 none few formed room
     go (Some error) none = room.bytes
-bytes_after w (Asks session) may plain formed room = (formed_asks w session may (record { formed = formed; room = room })).room.bytes
-bytes_after w (Accepts number session) may plain formed room =
+bytes_after w (Asks session) may few formed room = (formed_asks w session may (record { formed = formed; room = room })).room.bytes
+bytes_after w (Accepts number session) may few formed room =
     (formed_accepts w number session may (record { formed = formed; room = room })).room.bytes

@@ -253,7 +253,8 @@ joined_sides master id tablet [] = closing_sides master id tablet _
 joined_sides master id tablet (number ∷ numbers) = joining_sides master id tablet _
 
 -- a target joins, where there are side segments enough for what it waits for then
-formed_joining : (limits : Limits) (number id : ℕ) (master : Master) (tablet : Tablet) (numbers : List ℕ) → AreLimits limits → IsFormedMaster limits number master → IsFormedTablet limits id tablet
+formed_joining : (limits : Limits) (number id : ℕ) (master : Master) (tablet : Tablet) (numbers : List ℕ) → AreLimits limits
+    → IsFormedMaster limits number master → IsFormedTablet limits id tablet
     → tablet.pulling.sealed ≡ numbers → side_waits master.tablets + length numbers ≤ length master.log.sides
     → HasRoomFor limits (joining_by master id tablet numbers) → IsFormedMaster limits number (joining_by master id tablet numbers)
 formed_joining limits number id master tablet [] are formed it is few room =
@@ -311,7 +312,8 @@ module _ (limits : Limits) (number id : ℕ) (master : Master) where
       }
 
   -- the side segments that it waits for then are new ones
-  sealed_few : IsFormedAt limits number id master → side_waits sealed.tablets + length (tablet_at sealed id).pulling.sealed ≤ length sealed.log.sides
+  sealed_few : IsFormedAt limits number id master
+      → side_waits sealed.tablets + length (tablet_at sealed id).pulling.sealed ≤ length sealed.log.sides
   sealed_few formed =
       let new = with_pulling it (sealed_pulling it.pulling numbers) in
       omega (

@@ -63,12 +63,14 @@ waits_found master id = go (get master.tablets id)
     go (Some tablet) = refl
 
 -- a tablet counts in place of what was there
-pub waits_inserted : (master : Master) (id : ℕ) (tablet : Tablet) → IsInOrder master.tablets → side_waits (insert master.tablets id tablet) + side_waits_of (tablet_at master id) ≡ side_waits master.tablets + side_waits_of tablet
+pub waits_inserted : (master : Master) (id : ℕ) (tablet : Tablet) → IsInOrder master.tablets
+    → side_waits (insert master.tablets id tablet) + side_waits_of (tablet_at master id) ≡ side_waits master.tablets + side_waits_of tablet
 waits_inserted master id tablet order =
     omega (arith, sum_inserted side_waits_of master.tablets id tablet order, waits_found master id)
 
 -- where no tablet waits for more, all of them do not
-pub waits_changed : (change : ℕ → Tablet → Tablet) → ((number : ℕ) (tablet : Tablet) → side_waits_of (change number tablet) ≤ side_waits_of tablet)
+pub waits_changed : (change : ℕ → Tablet → Tablet)
+    → ((number : ℕ) (tablet : Tablet) → side_waits_of (change number tablet) ≤ side_waits_of tablet)
     → (tablets : NumberMap Tablet) → side_waits (changed_each change tablets) ≤ side_waits tablets
 waits_changed change less [] = omega arith
 waits_changed change less (here ∷ rest) =

@@ -1,5 +1,5 @@
--- How many bytes a master has after a message or its turn, where no side log and no copy is appended: for a request and a grant an entry
--- more, and at most as many again for each tablet that changes.
+-- How many bytes a master has after a message that brings few: for a request, a grant and a rebuild an entry more, what the message
+-- brings, and at most as many again as before for each tablet that changes.
 use Rattle.std.proofs.Common.{◌≤◌, ◌<◌, ◌+◌, ◌*◌, ◌==◌, ℕ, Bool, true, false, cond, [], length, Option, None, Some, refl, ap, arith}
 use Rattle.std.proofs.lemmas.Bool.{cond_both}
 use Rattle.std.proofs.lemmas.List.Elements.{All-weaker}
@@ -40,7 +40,11 @@ use Rattle.rk_laws_formed.proofs.Rising.{rising_within}
 use Rattle.rk_laws_formed.proofs.Tablets.{tablet_with_same}
 use Rattle.rk_laws_formed.proofs.Work.{AreLimits}
 use Rattle.rk_log.specs.Log.{overreach}
-use Rattle.rk_laws_formed.specs.Plain.{IsPlainBody}
+use Rattle.rk_laws_formed.specs.Brought.{MOST_BROUGHT, brought_by}
+use Rattle.rk_laws_formed.proofs.PullBytes.{got_bytes, pulled_bytes}
+use Rattle.rk_laws_formed.proofs.RebuildBytes.{copy_bytes, rebuild_bytes}
+use Rattle.rk_laws_formed.proofs.Sizes.{below_fits, entries_few}
+use Rattle.rk_types.specs.NumberMap.{IsInOrder}
 use Rattle.rk_laws_formed.proofs.TurnBytes.{stored_thrice}
 
 -- what a master of a lane that is not worn may have after a step, so that the lane's logs fit
@@ -196,39 +200,54 @@ module _ (master : Master) (below : log_bytes master < WORN_BYTES) where
       (choice_formed limits number master (call_of client request) formed says.call)
   client_fits limits number client _ formed says = kept
 
-  order_fits : (limits : Limits) (body : Body) → AreLimits limits → IsFormedBody limits nodes.Coordinator body → IsPlainBody body → BytesFit (order master body).master
-  order_fits limits (bodies.Prepare prepare) are says plain = prepare_fits prepare
-  order_fits limits (bodies.Close tenure) are says plain = close_fits tenure
-  order_fits limits (bodies.Grant grant) are says plain =
+  order_fits : (limits : Limits) (number : ℕ) (body : Body) → AreLimits limits → IsFormedMaster limits number master
+      → IsFormedBody limits nodes.Coordinator body → BytesFit (order master body).master
+  order_fits limits number (bodies.Prepare prepare) are formed says = prepare_fits prepare
+  order_fits limits number (bodies.Close tenure) are formed says = close_fits tenure
+  order_fits limits number (bodies.Grant grant) are formed says =
       granting_fits limits grant (granted (tablet_at master grant.tenure.tablet).handover grant.tenure.term grant.floor) are says
-  order_fits limits (bodies.Own tenure) are says plain =
+  order_fits limits number (bodies.Own tenure) are formed says =
       owning_fits tenure.tablet (owned (tablet_at master tenure.tablet).handover tenure.term master.applied)
-  order_fits limits (bodies.Release tenure) are says plain =
+  order_fits limits number (bodies.Release tenure) are formed says =
       releasing_fits tenure.tablet (released (tablet_at master tenure.tablet).handover tenure.term)
-  order_fits limits (bodies.Rebuild rebuild) are says plain = absurd plain
-  order_fits limits _ are says plain = kept
+  order_fits limits number (bodies.Rebuild rebuild) are formed says =
+      omega (
+        arith,
+        below,
+        rebuild_bytes limits number master rebuild are says
+            (below_fits (length master.log.entries) (log_bytes master) (entries_few master) (omega (arith, below))) formed,
+      )
+  order_fits limits number _ are formed says = kept
 
-  peer_fits : (sender : ℕ) (body : Body) → IsPlainBody body → BytesFit (peer_message master (nodes.Master sender) body).master
-  peer_fits sender (bodies.Pull pull) plain =
+  peer_fits : (sender : ℕ) (body : Body) → IsInOrder master.tablets → brought_by master body ≤ MOST_BROUGHT
+      → BytesFit (peer_message master (nodes.Master sender) body).master
+  peer_fits sender (bodies.Pull pull) ordered few =
       tested (is_frozen_at (tablet_at master pull.tenure.tablet) pull.tenure.term) _ (changed master) kept kept
-  peer_fits sender (bodies.Want want) plain =
+  peer_fits sender (bodies.Want want) ordered few =
       tested (is_frozen_at (tablet_at master want.tenure.tablet) want.tenure.term) _ (changed master) kept kept
-  peer_fits sender (bodies.Pulled pulled) plain = absurd plain
-  peer_fits sender (bodies.Got message) plain = absurd plain
-  peer_fits sender _ plain = kept
+  peer_fits sender (bodies.Pulled pulled) ordered few =
+      omega (arith, below, few, pulled_bytes master pulled ordered)
+  peer_fits sender (bodies.Got message) ordered few =
+      omega (arith, below, few, got_bytes master message ordered)
+  peer_fits sender _ ordered few = kept
 
-  backup_fits : (limits : Limits) (number backup : ℕ) (body : Body) → IsFormedMaster limits number master → IsPlainBody body → BytesFit (backup_message master backup body).master
-  backup_fits limits number backup (bodies.Stored stored) formed plain =
+  backup_fits : (limits : Limits) (number backup : ℕ) (body : Body) → AreLimits limits → IsFormedMaster limits number master
+      → IsFormedBody limits (nodes.Backup backup) body
+      → brought_by master body ≤ MOST_BROUGHT → BytesFit (backup_message master backup body).master
+  backup_fits limits number backup (bodies.Stored stored) are formed says few =
       omega (arith, below, stored_thrice limits number master backup stored (overreach master.log stored.segment stored.length) formed)
-  backup_fits limits number backup (bodies.Copy copy) formed plain = absurd plain
-  backup_fits limits number backup _ formed plain = kept
+  backup_fits limits number backup (bodies.Copy copy) are formed says few =
+      omega (arith, below, few, copy_bytes limits number master copy are says formed)
+  backup_fits limits number backup _ are formed says few = kept
 
-  -- a message that appends at most an entry
-  pub told_bytes : (limits : Limits) (number : ℕ) (sender : Node) (body : Body) → AreLimits limits → IsFormedMaster limits number master → IsFormedBody limits sender body → IsPlainBody body → BytesFit (told_master master sender body).master
-  told_bytes limits number (nodes.Client client) body are formed says plain = client_fits limits number client body formed says
-  told_bytes limits number nodes.Coordinator body are formed says plain = order_fits limits body are says plain
-  told_bytes limits number (nodes.Master sender) body are formed says plain = peer_fits sender body plain
-  told_bytes limits number (nodes.Backup backup) body are formed says plain = backup_fits limits number backup body formed plain
+  -- a message that brings few bytes
+  pub told_bytes : (limits : Limits) (number : ℕ) (sender : Node) (body : Body) → AreLimits limits → IsFormedMaster limits number master
+      → IsFormedBody limits sender body
+      → brought_by master body ≤ MOST_BROUGHT → BytesFit (told_master master sender body).master
+  told_bytes limits number (nodes.Client client) body are formed says few = client_fits limits number client body formed says
+  told_bytes limits number nodes.Coordinator body are formed says few = order_fits limits number body are formed says
+  told_bytes limits number (nodes.Master sender) body are formed says few = peer_fits sender body formed.tablets_order few
+  told_bytes limits number (nodes.Backup backup) body are formed says few = backup_fits limits number backup body are formed says few
 
 -- ---- a split
 

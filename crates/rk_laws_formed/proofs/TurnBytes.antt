@@ -59,7 +59,8 @@ record TurnKeeps (bytes : ℕ) (left : NumberMap Tablet) (master : Master) : Typ
   fits : log_bytes master ≤ bytes
   same : All (λ entry. unsealed_bytes entry.1 ≡ unsealed_bytes (tablet_at master entry.0)) left
 
-turn_behind : (bytes id : ℕ) (tablet : Tablet) (others : NumberMap Tablet) (master : Master) → TurnKeeps bytes ((id, tablet) ∷ others) master → TurnKeeps bytes others master
+turn_behind : (bytes id : ℕ) (tablet : Tablet) (others : NumberMap Tablet) (master : Master) → TurnKeeps bytes ((id, tablet) ∷ others) master
+    → TurnKeeps bytes others master
 turn_behind bytes id tablet others master keeps = record {
   order = keeps.order;
   fits = keeps.fits;
@@ -67,7 +68,8 @@ turn_behind bytes id tablet others master keeps = record {
 }
 
 -- one of them changes, and has the bytes that it had
-put_keeps : (bytes id : ℕ) (tablet new : Tablet) (others : NumberMap Tablet) (master : Master) → unsealed_bytes new ≡ unsealed_bytes tablet → TurnKeeps bytes ((id, tablet) ∷ others) master → TurnKeeps bytes others (with_tablet master id new)
+put_keeps : (bytes id : ℕ) (tablet new : Tablet) (others : NumberMap Tablet) (master : Master) → unsealed_bytes new ≡ unsealed_bytes tablet
+    → TurnKeeps bytes ((id, tablet) ∷ others) master → TurnKeeps bytes others (with_tablet master id new)
 put_keeps bytes id tablet new others master equal keeps = record {
   order = in_order_insert master.tablets id new keeps.order;
   fits =
@@ -82,7 +84,8 @@ put_keeps bytes id tablet new others master equal keeps = record {
     here : unsealed_bytes tablet ≡ unsealed_bytes (tablet_at master id)
     here = All-head (λ (entry : ℕ × Tablet). unsealed_bytes entry.1 ≡ unsealed_bytes (tablet_at master entry.0)) (id, tablet) others keeps.same
 
-    still : (q : ℕ) (other : Tablet) → unsealed_bytes other ≡ unsealed_bytes (tablet_at master q) → unsealed_bytes other ≡ unsealed_bytes (tablet_at (with_tablet master id new) q)
+    still : (q : ℕ) (other : Tablet) → unsealed_bytes other ≡ unsealed_bytes (tablet_at master q)
+        → unsealed_bytes other ≡ unsealed_bytes (tablet_at (with_tablet master id new) q)
     still q other is =
         ⊎_elim
         (λ (same : q ≡ id).
@@ -92,15 +95,18 @@ put_keeps bytes id tablet new others master equal keeps = record {
         (λ (apart : q ≡ id → ⊥). is ∙ sym (ap unsealed_bytes (tablet_with_other master id new q apart)))
         (cases_eq q id)
 
-tested_keeps : (bytes : ℕ) (left : NumberMap Tablet) (b : Bool) (x y : Worked) → TurnKeeps bytes left x.master → TurnKeeps bytes left y.master → TurnKeeps bytes left (cond b x y).master
+tested_keeps : (bytes : ℕ) (left : NumberMap Tablet) (b : Bool) (x y : Worked) → TurnKeeps bytes left x.master → TurnKeeps bytes left y.master
+    → TurnKeeps bytes left (cond b x y).master
 tested_keeps bytes left true x y a b = a
 tested_keeps bytes left false x y a b = b
 
-reading_keeps : (bytes : ℕ) (left : NumberMap Tablet) (master : Master) (id : ℕ) (tablet : Tablet) (reading : Option Reading) → TurnKeeps bytes left master → TurnKeeps bytes left (reading_duty master id tablet reading).master
+reading_keeps : (bytes : ℕ) (left : NumberMap Tablet) (master : Master) (id : ℕ) (tablet : Tablet) (reading : Option Reading)
+    → TurnKeeps bytes left master → TurnKeeps bytes left (reading_duty master id tablet reading).master
 reading_keeps bytes left master id tablet None keeps = keeps
 reading_keeps bytes left master id tablet (Some reading) keeps = keeps
 
-duty_keeps : (bytes id : ℕ) (tablet : Tablet) (others : NumberMap Tablet) (master : Master) (role : Role) → TurnKeeps bytes ((id, tablet) ∷ others) master → TurnKeeps bytes others (tablet_duty master id tablet role).master
+duty_keeps : (bytes id : ℕ) (tablet : Tablet) (others : NumberMap Tablet) (master : Master) (role : Role)
+    → TurnKeeps bytes ((id, tablet) ∷ others) master → TurnKeeps bytes others (tablet_duty master id tablet role).master
 duty_keeps bytes id tablet others master roles.Receiving keeps =
     put_keeps bytes id tablet (with_outstanding tablet) others master refl keeps
 duty_keeps bytes id tablet others master (roles.Joining (Some entry)) keeps =
@@ -118,7 +124,8 @@ duty_keeps bytes id tablet others master roles.Closing keeps = turn_behind bytes
 duty_keeps bytes id tablet others master roles.Frozen keeps = turn_behind bytes id tablet others master keeps
 duty_keeps bytes id tablet others master (roles.Wanting from) keeps = turn_behind bytes id tablet others master keeps
 
-duties_bytes : (bytes : ℕ) (tablets : NumberMap Tablet) (master : Master) → TurnKeeps bytes tablets master → log_bytes (duties master tablets).master ≤ bytes
+duties_bytes : (bytes : ℕ) (tablets : NumberMap Tablet) (master : Master) → TurnKeeps bytes tablets master
+    → log_bytes (duties master tablets).master ≤ bytes
 duties_bytes bytes [] master keeps = keeps.fits
 duties_bytes bytes ((id, tablet) ∷ others) master keeps =
     duties_bytes bytes others (tablet_duty master id tablet tablet.handover.role).master
@@ -153,7 +160,8 @@ noting_same call end tablet =
     (record tablet { completions = noted tablet.completions end }) tablet (λ (now : Tablet). unsealed_bytes now ≡ unsealed_bytes tablet)
     (λ notes. refl) (λ other. refl)
 
-noted_sum : (call : Call) (end : Ended) (tablets : NumberMap Tablet) → sum_by (λ (entry : ℕ × Tablet). unsealed_bytes entry.1) (map (λ (entry : ℕ × Tablet). (entry.0, noting call end entry.1)) tablets) ≡ sum_by (λ (entry : ℕ × Tablet). unsealed_bytes entry.1) tablets
+noted_sum : (call : Call) (end : Ended) (tablets : NumberMap Tablet)
+    → sum_by (λ (entry : ℕ × Tablet). unsealed_bytes entry.1) (map (λ (entry : ℕ × Tablet). (entry.0, noting call end entry.1)) tablets) ≡ sum_by (λ (entry : ℕ × Tablet). unsealed_bytes entry.1) tablets
 noted_sum call end [] = refl
 noted_sum call end (here ∷ rest) =
     let now : ℕ × Tablet = (here.0, noting call end here.1) in
@@ -165,7 +173,8 @@ noted_sum call end (here ∷ rest) =
       sum_by-cons (λ (entry : ℕ × Tablet). unsealed_bytes entry.1) now (map (λ (entry : ℕ × Tablet). (entry.0, noting call end entry.1)) rest),
     )
 
-noted_keeps : (bytes count : ℕ) (master : Master) (call : Call) (end : Ended) → ApplyKeeps bytes count master → ApplyKeeps bytes count (with_noted master call end)
+noted_keeps : (bytes count : ℕ) (master : Master) (call : Call) (end : Ended) → ApplyKeeps bytes count master
+    → ApplyKeeps bytes count (with_noted master call end)
 noted_keeps bytes count master call end keeps = record {
   order = in_order_changed (λ number tablet. noting call end tablet) master.tablets keeps.order;
   fits =
@@ -179,7 +188,8 @@ noted_keeps bytes count master call end keeps = record {
   waited = omega (arith, keeps.waited, noted_waits call end master.tablets);
 }
 
-ended_keeps_bytes : (bytes count : ℕ) (master : Master) (place : ℕ) (call : Option Call) (ends : List Ended) → ApplyKeeps bytes count master → ApplyKeeps bytes count (with_ended master place call ends).master
+ended_keeps_bytes : (bytes count : ℕ) (master : Master) (place : ℕ) (call : Option Call) (ends : List Ended) → ApplyKeeps bytes count master
+    → ApplyKeeps bytes count (with_ended master place call ends).master
 ended_keeps_bytes bytes count master place (Some call) (end ∷ ends) keeps =
     let now = noted_keeps bytes count master call end keeps in
     record { order = now.order; fits = now.fits; waited = now.waited }
@@ -187,20 +197,23 @@ ended_keeps_bytes bytes count master place (Some call) [] keeps = keeps
 ended_keeps_bytes bytes count master place None [] keeps = keeps
 ended_keeps_bytes bytes count master place None (end ∷ ends) keeps = keeps
 
-entry_keeps : (bytes count : ℕ) (master : Master) (entry : Entry) → ApplyKeeps bytes count master → ApplyKeeps bytes count (with_applied (with_entry_item master entry))
+entry_keeps : (bytes count : ℕ) (master : Master) (entry : Entry) → ApplyKeeps bytes count master
+    → ApplyKeeps bytes count (with_applied (with_entry_item master entry))
 entry_keeps bytes count master (entries.Held held) keeps = record { order = keeps.order; fits = keeps.fits; waited = keeps.waited }
 entry_keeps bytes count master (entries.Refused refused) keeps = record { order = keeps.order; fits = keeps.fits; waited = keeps.waited }
 entry_keeps bytes count master (entries.Carried carried) keeps = record { order = keeps.order; fits = keeps.fits; waited = keeps.waited }
 entry_keeps bytes count master (entries.Joined joined) keeps = record { order = keeps.order; fits = keeps.fits; waited = keeps.waited }
 
-applied_keeps : (bytes count : ℕ) (list : List Entry) (master : Master) → ApplyKeeps bytes count master → ApplyKeeps bytes count (apply_entries master list).master
+applied_keeps : (bytes count : ℕ) (list : List Entry) (master : Master) → ApplyKeeps bytes count master
+    → ApplyKeeps bytes count (apply_entries master list).master
 applied_keeps bytes count [] master keeps = keeps
 applied_keeps bytes count (entry ∷ list) master keeps =
     applied_keeps bytes count list (apply_entry master entry).master
     (ended_keeps_bytes bytes count (with_applied (with_entry_item master entry)) master.applied (get master.calls master.applied) (told_by entry)
     (entry_keeps bytes count master entry keeps))
 
-freezing_keeps : (bytes id : ℕ) (tablet : Tablet) (others : NumberMap Tablet) (master : Master) (moved : Option Handover) → TurnKeeps bytes ((id, tablet) ∷ others) master → TurnKeeps bytes others (freezing master id tablet moved)
+freezing_keeps : (bytes id : ℕ) (tablet : Tablet) (others : NumberMap Tablet) (master : Master) (moved : Option Handover)
+    → TurnKeeps bytes ((id, tablet) ∷ others) master → TurnKeeps bytes others (freezing master id tablet moved)
 freezing_keeps bytes id tablet others master None keeps = turn_behind bytes id tablet others master keeps
 freezing_keeps bytes id tablet others master (Some handover) keeps =
     cond_both (is_settled master tablet.handover.range) (tablet_frozen master id tablet handover) master (TurnKeeps bytes others)
@@ -217,11 +230,13 @@ joined_short tablet =
     omega (arith, spelled_count (joined_entry tablet), mark_few (kind_of (joined_entry tablet)))
 
 -- more bytes are no fewer
-more_bytes : (bytes more : ℕ) (left : NumberMap Tablet) (master : Master) → bytes ≤ more → TurnKeeps bytes left master → TurnKeeps more left master
+more_bytes : (bytes more : ℕ) (left : NumberMap Tablet) (master : Master) → bytes ≤ more → TurnKeeps bytes left master
+    → TurnKeeps more left master
 more_bytes bytes more left master no_fewer keeps =
     record { order = keeps.order; fits = omega (arith, no_fewer, keeps.fits); same = keeps.same }
 
-closing_keeps : (bytes id : ℕ) (tablet : Tablet) (others : NumberMap Tablet) (master : Master) (moved : Option Handover) → TurnKeeps bytes ((id, tablet) ∷ others) master
+closing_keeps : (bytes id : ℕ) (tablet : Tablet) (others : NumberMap Tablet) (master : Master) (moved : Option Handover)
+    → TurnKeeps bytes ((id, tablet) ∷ others) master
     → TurnKeeps (bytes + CLOSING_BYTES * max 1 (length tablet.pulling.sealed)) others (closing_entry master id tablet moved)
 closing_keeps bytes id tablet others master None keeps =
     more_bytes bytes (bytes + CLOSING_BYTES * max 1 (length tablet.pulling.sealed)) others master (omega arith)
@@ -241,12 +256,14 @@ closing_keeps bytes id tablet others master (Some handover) keeps =
     }
 
 -- a tablet for which nothing goes on
-idle_keeps : (bytes id : ℕ) (tablet : Tablet) (others : NumberMap Tablet) (master : Master) → TurnKeeps bytes ((id, tablet) ∷ others) master → TurnKeeps (bytes + CLOSING_BYTES * 0) others master
+idle_keeps : (bytes id : ℕ) (tablet : Tablet) (others : NumberMap Tablet) (master : Master) → TurnKeeps bytes ((id, tablet) ∷ others) master
+    → TurnKeeps (bytes + CLOSING_BYTES * 0) others master
 idle_keeps bytes id tablet others master keeps =
     more_bytes bytes (bytes + CLOSING_BYTES * 0) others master (omega arith) (turn_behind bytes id tablet others master keeps)
 
 -- what was waited for at a tablet goes on
-going_on_keeps : (bytes id : ℕ) (tablet : Tablet) (others : NumberMap Tablet) (master : Master) (role : Role) → TurnKeeps bytes ((id, tablet) ∷ others) master
+going_on_keeps : (bytes id : ℕ) (tablet : Tablet) (others : NumberMap Tablet) (master : Master) (role : Role)
+    → TurnKeeps bytes ((id, tablet) ∷ others) master
     → TurnKeeps (bytes + CLOSING_BYTES * side_waits_in role tablet.pulling.sealed) others (going_on_in master id tablet role)
 going_on_keeps bytes id tablet others master roles.Closing keeps =
     more_bytes bytes (bytes + CLOSING_BYTES * 0) others _ (omega arith)
@@ -266,7 +283,8 @@ going_on_keeps bytes id tablet others master roles.Frozen keeps = idle_keeps byt
 going_on_keeps bytes id tablet others master (roles.Wanting from) keeps = idle_keeps bytes id tablet others master keeps
 
 -- at each of these tablets a closing entry has its bytes for what is waited for
-going_on_bytes : (bytes : ℕ) (tablets : NumberMap Tablet) (master : Master) → TurnKeeps bytes tablets master → log_bytes (all_going_on master tablets) ≤ bytes + CLOSING_BYTES * side_waits tablets
+going_on_bytes : (bytes : ℕ) (tablets : NumberMap Tablet) (master : Master) → TurnKeeps bytes tablets master
+    → log_bytes (all_going_on master tablets) ≤ bytes + CLOSING_BYTES * side_waits tablets
 going_on_bytes bytes [] master keeps = omega (arith, keeps.fits)
 going_on_bytes bytes ((id, tablet) ∷ others) master keeps =
     omega (
@@ -323,7 +341,8 @@ sides_long (items ∷ sides) all =
     )
 
 -- a master has those bytes for each of its side segments
-side_segments_long : (limits : Limits) (number : ℕ) (master : Master) → IsFormedMaster limits number master → SHORTEST_ITEM * length master.log.sides ≤ log_bytes master
+side_segments_long : (limits : Limits) (number : ℕ) (master : Master) → IsFormedMaster limits number master
+    → SHORTEST_ITEM * length master.log.sides ≤ log_bytes master
 side_segments_long limits number master formed =
     let long = sides_long master.sides (subst (All IsFormedSide) formed.spelled formed.sides) in
     omega (
@@ -336,7 +355,8 @@ side_segments_long limits number master formed =
     )
 
 -- so what a backup told lets a well formed master have at most three times the bytes that it had
-pub stored_thrice : (limits : Limits) (number : ℕ) (master : Master) (backup : ℕ) (stored : Stored) (over : Option Overreach) → IsFormedMaster limits number master
+pub stored_thrice : (limits : Limits) (number : ℕ) (master : Master) (backup : ℕ) (stored : Stored) (over : Option Overreach)
+    → IsFormedMaster limits number master
     → log_bytes (stored_taken master backup stored over).master ≤ 3 * log_bytes master
 stored_thrice limits number master backup stored over formed =
     omega (

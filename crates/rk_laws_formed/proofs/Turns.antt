@@ -181,7 +181,8 @@ want_formed limits number master id tablet (hash ∷ more) are there formed held
 
 -- a target asks for what it lacks
 receiving_formed : (limits : Limits) (number : ℕ) (master : Master) (id : ℕ) (tablet : Tablet) → tablet.handover.role ≡ roles.Receiving
-    → AreLimits limits → IsMaster limits.masters number → IsFormedMaster limits number master → IsFormedTablet limits id tablet → IsMaster limits.masters tablet.pulling.source
+    → AreLimits limits → IsMaster limits.masters number → IsFormedMaster limits number master → IsFormedTablet limits id tablet
+    → IsMaster limits.masters tablet.pulling.source
     → IsFormedWork limits number (receiving_duty master id tablet)
 receiving_formed limits number master id tablet is are there formed held source =
     let now = with_outstanding tablet in
@@ -249,7 +250,8 @@ reading_duty_formed limits number master id tablet (Some reading) are there form
 
 -- what a master does for a tablet, by its role
 duty_formed : (limits : Limits) (number : ℕ) (master : Master) (id : ℕ) (tablet : Tablet) (role : Role) → tablet.handover.role ≡ role
-    → AreLimits limits → IsMaster limits.masters number → IsFormedMaster limits number master → IsFormedTablet limits id tablet → IsNumber w64 0 (place_in role)
+    → AreLimits limits → IsMaster limits.masters number → IsFormedMaster limits number master → IsFormedTablet limits id tablet
+    → IsNumber w64 0 (place_in role)
     → (is_receiving role ≡ true → IsMaster limits.masters tablet.pulling.source) → IsFormedWork limits number (tablet_duty master id tablet role)
 duty_formed limits number master id tablet roles.Receiving is are there formed held place source =
     receiving_formed limits number master id tablet is are there formed held (source refl)

@@ -127,7 +127,8 @@ joined_role place (roles.Rebuilding from old) now is = absurd (cc is)
 abbrev pub MovesOn : Handover → Type 0
 MovesOn handover = WaitsForNone handover.role
 
-on_in_role : (handover : Handover) (role : Option Role) → ((r : Role) → role ≡ Some r → WaitsForNone r) → EachMoved MovesOn (in_role handover role)
+on_in_role : (handover : Handover) (role : Option Role) → ((r : Role) → role ≡ Some r → WaitsForNone r)
+    → EachMoved MovesOn (in_role handover role)
 on_in_role handover None none now is = absurd (cc is)
 on_in_role handover (Some role) none now is =
     let same : record handover { role = role } ≡ now = cc is in

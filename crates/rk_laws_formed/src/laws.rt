@@ -17,7 +17,7 @@ ghost use Rattle.rk_world.specs.Runs as runs;
 ghost use Rattle.rk_world.specs.Step.{happened};
 ghost use Rattle.rk_world.specs.World.{World, bytes_of_logs, new_world};
 ghost use Rattle.rk_laws_formed.specs.Fitting.{AllLogsFit};
-ghost use Rattle.rk_laws_formed.specs.Plain.{IsPlainEvent};
+ghost use Rattle.rk_laws_formed.specs.Brought.{MOST_BROUGHT, brought};
 
 /// A lane where nothing has happened is well formed, with at most eight masters and one to four backups.
 pub fn new_lanes_are_well_formed()
@@ -26,14 +26,14 @@ pub fn new_lanes_are_well_formed()
 {}
 
 /// A well formed lane stays so at each event that may happen there, is not refused and leaves another master alive, where the
-/// lane has room before and after it. The greatest number fits by itself then, and so do the bytes of all logs where a
-/// master appends entries of its own alone.
+/// lane has room before and after it. The greatest number fits by itself then, and so do the bytes of all logs where the event
+/// brings few from elsewhere: what a target pulled, and what a rebuild read.
 pub fn events_keep_lanes_well_formed()
     ensures number { (w : World) (event : Event) (called : Called)
         → IsWellFormed w → HasRoom w → refusal w event ≡ None → IsCalmEvent w event → MayCome called → MayHappen w event
         → (happened w event called).world.top < MOST_NUMBER }
     ensures bytes { (w : World) (event : Event) (called : Called)
-        → IsWellFormed w → HasRoom w → MayHappen w event → refusal w event ≡ None → IsPlainEvent w event
+        → IsWellFormed w → HasRoom w → MayHappen w event → refusal w event ≡ None → brought w event ≤ MOST_BROUGHT
         → bytes_of_logs (happened w event called).world < MOST_BYTES }
     ensures event { (w : World) (event : Event) (called : Called)
         → MayHappen w event → MayCome called → IsCalmEvent w event → refusal w event ≡ None
