@@ -1,5 +1,6 @@
 -- What closes the roles of tablets can be spelled, also after one of them changed.
-use Rattle.std.proofs.Common.{◌≡◌, ℕ, zero, suc, ◌<◌, Bool, true, false, cond, eqb, not, ◌&&◌, List, [], ◌∷◌, length, get_or, set, sym, subst, arith}
+use Rattle.std.proofs.Common.{◌≡◌, ℕ, zero, suc, ◌<◌, Bool, true, false, cond, eqb, not, ◌&&◌, List, [], ◌∷◌, length, get_or, set, Option, Some, None, refl, sym, subst, arith}
+use Rattle.std.specs.Int.{w64}
 use Rattle.std.specs.Ordering.{nat_cmp}
 use Rattle.std.specs.declared.cmp.Ordering.{Ordering}
 use Rattle.std.specs.declared.cmp.Ordering.TheVariants.{Less, Equal, Greater}
@@ -10,15 +11,47 @@ use Rattle.rk_types.specs.declared.call.Ended.{Ended}
 use Rattle.rk_types.specs.Range.{meets}
 use Rattle.rk_types.specs.declared.range.Range.{Range}
 use Rattle.rk_done.specs.Completions.{noted}
+use Rattle.rk_entry.specs.Ends.{IsLawfulRange}
+use Rattle.rk_entry.specs.Numbers.{IsNumber}
+use Rattle.rk_entry.specs.declared.entry.Joined.{Joined}
+use Rattle.rk_transfer.specs.declared.role.Role.{Role}
+use Rattle.rk_transfer.specs.declared.role.Role.TheVariants as roles
 use Rattle.rk_world.specs.Handovers.{given_up}
 use Rattle.rk_world.specs.Commits.{noting}
 use Rattle.rk_world.specs.Ranges.{has_key}
 use Rattle.rk_world.specs.RoleTests.{is_absent}
 use Rattle.rk_world.specs.Tablet.{Tablet}
-use Rattle.rk_master.specs.Parts.{AreTablets, given_up_but, IsClosable, AreClosable, tablet_of, tablets_of}
+use Rattle.rk_master.specs.Parts.{AreTablets, given_up_but, can_close, IsClosable, AreClosable, tablet_of, tablets_of}
 use Rattle.rk_master.specs.declared.tablet_lane.TabletLane.{TabletLane}
 use Rattle.rk_master.specs.Places.{Row}
 use Rattle.rk_master.proofs.Places.{at_itself, order_there}
+
+-- what the entry that closes the role of a tablet tells
+abbrev pub closing_joined : Tablet → Joined
+closing_joined tablet = record { range = tablet.handover.range; term = tablet.handover.term; segments = tablet.pulling.sealed }
+
+-- it can in a role for which nothing is needed
+pub closable_in : (tablet : Tablet) (role : Role) → tablet.handover.role ≡ role → ((joined : Joined) → can_close role joined) → IsClosable tablet
+closable_in tablet role is can = subst (λ (r : Role). can_close r (closing_joined tablet)) (sym is) (can (closing_joined tablet))
+
+-- it can in the role of a target that pulls, where its range and its term can be spelled
+pub closable_as : (tablet : Tablet) → tablet.handover.role ≡ roles.Receiving → IsLawfulRange tablet.handover.range × IsNumber w64 1 tablet.handover.term → IsClosable tablet
+closable_as tablet is can = subst (λ (r : Role). can_close r (closing_joined tablet)) (sym is) can
+
+-- and in any other role than that of a target
+pub closable_else : (tablet : Tablet) → (tablet.handover.role ≡ roles.Receiving → ⊥) → (tablet.handover.role ≡ roles.Joining None → ⊥) → IsClosable tablet
+closable_else tablet not_receiving not_joining = go tablet.handover.role refl
+  where
+    go : (role : Role) → tablet.handover.role ≡ role → can_close role (closing_joined tablet)
+    go roles.Absent is = tt
+    go roles.Serving is = tt
+    go roles.Closing is = tt
+    go roles.Frozen is = tt
+    go (roles.Wanting from) is = tt
+    go roles.Receiving is = absurd (not_receiving is)
+    go (roles.Joining None) is = absurd (not_joining is)
+    go (roles.Joining (Some place)) is = tt
+    go (roles.Rebuilding from entry) is = tt
 
 -- it can at each place
 pub closable_at : (rows : List Row) (i : ℕ) (d : Row) → i < length rows → AreClosable (tablets_of rows) → IsClosable (tablet_of (get_or rows i d).1)
@@ -57,7 +90,7 @@ pub given_up_closable : (kept : ℕ) (range : Range) (number : ℕ) (tablet : Ta
 given_up_closable kept range number tablet lawful = go (not (eqb number kept) && meets tablet.handover.range range)
   where
     go : (b : Bool) → IsClosable (cond b (given_up tablet) tablet)
-    go true = λ role. cc role
+    go true = tt
     go false = lawful
 
 -- ---- the tablets of a master

@@ -1,6 +1,7 @@
 -- What the coordinator's orders do, at the place of their tablet.
 use Rattle.std.proofs.Common.{◌≡◌, ℕ, ◌<◌, Bool, true, false, cond, not, ◌&&◌, eqb, ltb, map, subst, List, [], ◌∷◌, length, get_or, set, slice_get, Option, Some, None, is_some, unwrap_or, refl, sym, ap, ◌∙◌, arith}
 use Rattle.std.specs.Prelude.{IfSome}
+use Rattle.std.specs.Int.{w64}
 use Rattle.std.specs.List.{list_all}
 use Rattle.std.specs.Option.{option_map}
 use Rattle.std.specs.Ordering.{nat_cmp, is_eq}
@@ -18,7 +19,9 @@ use Rattle.rk_transfer.specs.Handover.{closed, frozen, granted, role_granted, ow
 use Rattle.rk_transfer.specs.declared.handover.Handover.{Handover}
 use Rattle.rk_transfer.specs.declared.role.Role.{Role}
 use Rattle.rk_transfer.specs.declared.role.Role.TheVariants as roles
+use Rattle.rk_entry.specs.Ends.{IsLawfulRange}
 use Rattle.rk_entry.specs.Lawful.{IsLawfulEntry}
+use Rattle.rk_entry.specs.Numbers.{IsNumber}
 use Rattle.rk_log.specs.Log.{Log, with_entry}
 use Rattle.rk_done.specs.Completions.{completions_from}
 use Rattle.rk_message.specs.declared.handover.Grant.{Grant}
@@ -33,8 +36,10 @@ use Rattle.rk_world.specs.Waiting.{freezing}
 use Rattle.rk_world.specs.Worked.{Worked, changed, sending}
 use Rattle.rk_master.specs.declared.tablet_lane.TabletLane.{TabletLane}
 use Rattle.rk_master.specs.declared.work.Worked.{Worked as Work}
-use Rattle.rk_master.specs.Parts.{IsGrantable, changing, given_up_but, tablet_in, tablet_of, tablets_of, worked_of}
+use Rattle.rk_master.specs.Parts.{IsClosable, IsGrantable, changing, given_up_but, tablet_in, tablet_of, tablets_of, worked_of}
 use Rattle.rk_master.specs.Places.{Row, IsAt, IsBetween}
+use Rattle.rk_master.specs.Sides.{items_of_sides}
+use Rattle.rk_master.proofs.Closable.{closable_as}
 use Rattle.rk_master.proofs.Places.{changed_there, get_tablet, none_there, tablet_there}
 
 -- ---- a move
@@ -165,27 +170,29 @@ same_set rows i read handover same is =
     ap (λ (h : Handover). set rows i (read.0, moved_lane read.1 h)) same ∙ ap (set rows i) is ∙ set-get_or rows i read
 
 -- a tablet that moved at its place
-pub move_made : (master : Master) (rows : List Row) (number i : ℕ) (read : Row) (handover : Handover) → IsInOrder rows → IsAt number rows i → read ≡ get_or rows i read
-    → with_rows master (set rows i (read.0, moved_lane read.1 handover)) ≡ with_move (with_rows master rows) number (Some handover)
-move_made master rows number i read handover order at is =
-    ap (λ (tablets : NumberMap Tablet). record master { tablets = tablets }) (changed_read rows number i read (moved_lane read.1 handover) order at is)
+pub move_made : (master : Master) (rows : List Row) (number i : ℕ) (read : Row) (handover : Handover) (lane : TabletLane) → IsInOrder rows → IsAt number rows i → read ≡ get_or rows i read
+    → tablet_of lane ≡ without_merged (tablet_of (moved_lane read.1 handover))
+    → with_rows master (set rows i (read.0, lane)) ≡ with_move (with_rows master rows) number (Some handover)
+move_made master rows number i read handover lane order at is lane_is =
+    ap (λ (tablets : NumberMap Tablet). record master { tablets = tablets }) (changed_read rows number i read lane order at is ∙ ap (insert (tablets_of rows) number) lane_is)
     ∙ ap (λ (tablet : Tablet). record master { tablets = insert (tablets_of rows) number (without_merged (with_handover tablet handover)) }) (sym (tablet_read rows number i read order at is))
 
 -- ---- a Close
 
 -- a tablet that closed, and was frozen where nothing of it is staged
-pub closing_so : (master after : Master) (rows : List Row) (number i : ℕ) (read : Row) (handover : Handover) (moved : Option Handover) → IsInOrder rows → IsAt number rows i → read ≡ get_or rows i read
-    → moved ≡ Some handover
-    → after ≡ freezing (with_rows master (set rows i (read.0, moved_lane read.1 handover))) read.0 (tablet_of (moved_lane read.1 handover)) (frozen handover handover.term)
+pub closing_so : (master after : Master) (rows : List Row) (number i : ℕ) (read : Row) (handover : Handover) (moved : Option Handover) (lane : TabletLane)
+    → IsInOrder rows → IsAt number rows i → read ≡ get_or rows i read
+    → moved ≡ Some handover → tablet_of lane ≡ without_merged (tablet_of (moved_lane read.1 handover))
+    → after ≡ freezing (with_rows master (set rows i (read.0, lane))) read.0 (tablet_of lane) (frozen lane.handover lane.handover.term)
     → after ≡ closing (with_rows master rows) number moved
-closing_so master after rows number i read handover moved order at is moved_is after_is =
-    let lane : TabletLane = moved_lane read.1 handover in
+closing_so master after rows number i read handover moved lane order at is moved_is lane_is after_is =
     let now : Master = with_rows master (set rows i (read.0, lane)) in
     let named : read.0 ≡ number = ap (λ (r : Row). r.0) is ∙ at.same read in
     after_is
+    ∙ ap (λ (t : Tablet). freezing now read.0 (tablet_of lane) (frozen t.handover t.handover.term)) lane_is
     ∙ ap (λ (n : ℕ). freezing now n (tablet_of lane) (frozen handover handover.term)) named
     ∙ ap (λ (tablet : Tablet). freezing now number tablet (frozen handover handover.term)) (sym (tablet_set rows number i read lane order at is))
-    ∙ ap (λ (m : Master). freezing m number (tablet_at m number) (frozen handover handover.term)) (move_made master rows number i read handover order at is)
+    ∙ ap (λ (m : Master). freezing m number (tablet_at m number) (frozen handover handover.term)) (move_made master rows number i read handover lane order at is lane_is)
     ∙ sym (ap (closing (with_rows master rows) number) moved_is)
 
 -- what is told of a tablet
@@ -215,7 +222,7 @@ own_failed master tenure tablet there none =
 -- a tablet that is owned
 pub own_made : (master : Master) (rows : List Row) (i : ℕ) (read : Row) (handover : Handover) (lane : TabletLane) (tenure : Tenure)
     → IsInOrder rows → IsAt tenure.tablet rows i → read ≡ get_or rows i read → owned read.1.handover tenure.term master.applied ≡ Some handover
-    → tablet_of lane ≡ record (tablet_of (moved_lane read.1 handover)) { pulling = pulling_from 0 }
+    → tablet_of lane ≡ record (without_merged (tablet_of (moved_lane read.1 handover))) { pulling = pulling_from 0 }
     → changed (with_rows master (set rows i (read.0, lane))) ≡ own_taken (with_rows master rows) tenure
 own_made master rows i read handover lane tenure order at is moved lane_is =
     let tablet = tablet_read rows tenure.tablet i read order at is in
@@ -232,13 +239,14 @@ release_failed master tenure tablet there none =
     sym (ap (releasing master tenure.tablet) (ap (λ (t : Tablet). released t.handover tenure.term) there ∙ none))
 
 -- a tablet that is released
-pub release_made : (master : Master) (records : List Held) (rows : List Row) (i : ℕ) (read : Row) (handover : Handover) (tenure : Tenure)
-    → IsInOrder rows → IsAt tenure.tablet rows i → read ≡ get_or rows i read → released read.1.handover tenure.term ≡ Some handover → records ≡ without handover.range master.records
-    → changed (with_rows (record master { records = records }) (set rows i (read.0, moved_lane read.1 handover))) ≡ release_taken (with_rows master rows) tenure
-release_made master records rows i read handover tenure order at is moved dropped =
+pub release_made : (master : Master) (records : List Held) (rows : List Row) (i : ℕ) (read : Row) (handover : Handover) (lane : TabletLane) (tenure : Tenure)
+    → IsInOrder rows → IsAt tenure.tablet rows i → read ≡ get_or rows i read → released read.1.handover tenure.term ≡ Some handover
+    → tablet_of lane ≡ without_merged (tablet_of (moved_lane read.1 handover)) → records ≡ without handover.range master.records
+    → changed (with_rows (record master { records = records }) (set rows i (read.0, lane))) ≡ release_taken (with_rows master rows) tenure
+release_made master records rows i read handover lane tenure order at is moved lane_is dropped =
     let tablet = tablet_read rows tenure.tablet i read order at is in
-    ap (λ (items : List Held). changed (with_rows (record master { records = items }) (set rows i (read.0, moved_lane read.1 handover)))) dropped
-    ∙ ap changed (move_made (without_items master handover.range) rows tenure.tablet i read handover order at is)
+    ap (λ (items : List Held). changed (with_rows (record master { records = items }) (set rows i (read.0, lane)))) dropped
+    ∙ ap changed (move_made (without_items master handover.range) rows tenure.tablet i read handover lane order at is lane_is)
     ∙ sym (ap (releasing (with_rows master rows) tenure.tablet) (ap (λ (t : Tablet). released t.handover tenure.term) tablet ∙ moved))
 
 -- ---- a Prepare
@@ -272,23 +280,12 @@ stays_itself : (number : ℕ) (range : Range) (tablet : Tablet) → given_up_but
 stays_itself number range tablet =
     ap (λ (b : Bool). cond (not b && meets tablet.handover.range range) (given_up tablet) tablet) (eq-eqb number number refl)
 
--- nothing is merged in a tablet of a lane
-none_merged : (rows : List Row) (number : ℕ) → without_merged (tablet_in rows number) ≡ tablet_in rows number
-none_merged rows number =
-    ap (λ (o : Option Tablet). without_merged (unwrap_or o no_tablet)) (get_tablet rows number)
-    ∙ go (get rows number)
-    ∙ sym (ap (λ (o : Option Tablet). unwrap_or o no_tablet) (get_tablet rows number))
-  where
-    go : (o : Option TabletLane) → without_merged (unwrap_or (option_map tablet_of o) no_tablet) ≡ unwrap_or (option_map tablet_of o) no_tablet
-    go None = refl
-    go (Some lane) = refl
-
 -- a master that made ready for a tablet
 pub prepared_so : (master : Master) (rows others after : List Row) (records : List Held) (prepare : Prepare) (before handover : Handover)
     → before ≡ (tablet_in rows prepare.tenure.tablet).handover → prepared before prepare.tenure.term prepare.range (length master.log.entries) ≡ Some handover
     → records ≡ without prepare.range master.records
     → tablets_of others ≡ map (changing (given_up_but prepare.tenure.tablet prepare.range)) (tablets_of rows)
-    → tablets_of after ≡ insert (tablets_of others) prepare.tenure.tablet (with_handover (tablet_in others prepare.tenure.tablet) handover)
+    → tablets_of after ≡ insert (tablets_of others) prepare.tenure.tablet (without_merged (with_handover (tablet_in others prepare.tenure.tablet) handover))
     → with_rows (record master { records = records }) after ≡ tablet_prepared (with_rows master rows) prepare
 prepared_so master rows others after records prepare before handover before_is moved dropped others_are after_is =
     let number : ℕ = prepare.tenure.tablet in
@@ -300,7 +297,7 @@ prepared_so master rows others after records prepare before handover before_is m
     ap (λ (h : Handover). prepared h prepare.tenure.term range (length master.log.entries)) kept ∙ moved in
     (λ i. record master {
       records = dropped i;
-      tablets = (after_is ∙ ap (λ (t : Tablet). insert (tablets_of others) number (with_handover t handover)) (sym (none_merged others number))) i;
+      tablets = after_is i;
     })
     ∙ ap (λ (tablets : NumberMap Tablet). with_move (record master { records = without range master.records; tablets = tablets }) number (Some handover)) others_are
     ∙ sym (ap (with_move now number) moved_now)
@@ -354,17 +351,25 @@ grant_failed master grant tablet there none =
 
 -- a target that is granted its tablet
 pub grant_made : (master : Master) (log : Log) (rows : List Row) (i : ℕ) (read : Row) (handover : Handover) (lane : TabletLane) (grant : Grant)
-    → IsInOrder rows → IsAt grant.tenure.tablet rows i → read ≡ get_or rows i read → granted read.1.handover grant.tenure.term grant.floor ≡ Some handover
+    → master.sides ≡ items_of_sides master.log.sides → IsInOrder rows → IsAt grant.tenure.tablet rows i → read ≡ get_or rows i read → granted read.1.handover grant.tenure.term grant.floor ≡ Some handover
     → log ≡ with_entry master.log (carried_entry handover grant)
-    → tablet_of lane ≡ record (tablet_of (moved_lane read.1 handover)) { completions = completions_from [] grant.ends; pulling = pulling_from grant.source }
-    → changed (with_rows (record master { log = log }) (set rows i (read.0, lane))) ≡ grant_taken (with_rows master rows) grant
-grant_made master log rows i read handover lane grant order at is moved log_is lane_is =
+    → tablet_of lane ≡ record (without_merged (tablet_of (moved_lane read.1 handover))) { completions = completions_from [] grant.ends; pulling = pulling_from grant.source }
+    → changed (with_rows (record master { log = log; sides = items_of_sides log.sides }) (set rows i (read.0, lane))) ≡ grant_taken (with_rows master rows) grant
+grant_made master log rows i read handover lane grant here order at is moved log_is lane_is =
     let number : ℕ = grant.tenure.tablet in
     let tablet = tablet_read rows number i read order at is in
     let tablets = changed_read rows number i read lane order at is ∙ ap (insert (tablets_of rows) number) lane_is
     ∙ ap (λ (t : Tablet). insert (tablets_of rows) number (record (without_merged t) { handover = handover; completions = completions_from [] grant.ends; pulling = pulling_from grant.source })) (sym tablet) in
-    (λ i. changed (record master { log = log_is i; tablets = tablets i }))
+    let sides = ap (λ (l : Log). items_of_sides l.sides) log_is ∙ sym here in
+    (λ i. changed (record master { log = log_is i; sides = sides i; tablets = tablets i }))
     ∙ sym (ap (granting (with_rows master rows) grant) (ap (λ (t : Tablet). granted t.handover grant.tenure.term grant.floor) tablet ∙ moved))
+
+-- the role that it has then can be closed
+pub grant_closable : (lane : TabletLane) (handover : Handover) (grant : Grant) → lane.handover ≡ handover → handover.role ≡ roles.Receiving → IsLawfulEntry (carried_entry handover grant)
+    → IsClosable (tablet_of lane)
+grant_closable lane handover grant same role lawful =
+    let is : (tablet_of lane).handover.role ≡ roles.Receiving = ap (λ (h : Handover). h.role) same ∙ role in
+    closable_as (tablet_of lane) is (subst (λ (h : Handover). IsLawfulRange h.range × IsNumber w64 1 h.term) (sym same) (lawful.range, lawful.term))
 
 -- its entry can be spelled
 pub grant_lawful : (rows : List Row) (i : ℕ) (read : Row) (master : Master) (handover : Handover) (grant : Grant)

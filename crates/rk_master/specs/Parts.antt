@@ -1,5 +1,6 @@
 -- What the parts of a master in code stand for.
-use Rattle.std.specs.Prelude.{◌≡◌, IfSome, ℕ, ◌==◌, ◌&&◌, not, if◌then◌else◌, List, [], ◌++◌, Option, Some, None, is_some, map}
+use Rattle.std.specs.Prelude.{◌≡◌, IfSome, ⊤, ℕ, ◌==◌, ◌&&◌, not, if◌then◌else◌, List, [], ◌++◌, Option, Some, None, is_some, map, unwrap_or}
+use Rattle.std.specs.Int.{w64}
 use Rattle.std.specs.List.{AllByRecursion}
 use Rattle.rk_types.specs.declared.held.Held.{Held}
 use Rattle.rk_types.specs.Range.{meets}
@@ -7,27 +8,40 @@ use Rattle.rk_types.specs.declared.range.Range.{Range}
 use Rattle.rk_types.specs.NumberMap.{NumberMap, IsInOrder, get_or}
 use Rattle.rk_entry.specs.declared.entry.Entry.{Entry}
 use Rattle.rk_entry.specs.declared.entry.Entry.TheVariants as entries
-use Rattle.rk_entry.specs.Lawful.{IsLawfulEntry}
+use Rattle.rk_entry.specs.declared.entry.Joined.{Joined}
+use Rattle.rk_entry.specs.Ends.{IsLawfulRange}
+use Rattle.rk_entry.specs.Lawful.{IsLawfulEntry, IsLawfulJoined}
+use Rattle.rk_entry.specs.Numbers.{IsNumber}
 use Rattle.rk_table.specs.Items.{with_newer}
 use Rattle.rk_transfer.specs.Handover.{granted}
 use Rattle.rk_transfer.specs.declared.handover.Handover.{Handover}
+use Rattle.rk_transfer.specs.declared.role.Role.{Role}
 use Rattle.rk_transfer.specs.declared.role.Role.TheVariants as roles
 use Rattle.rk_message.specs.declared.handover.Grant.{Grant}
-use Rattle.rk_world.specs.Tablet.{Tablet, no_tablet, pulling_from}
+use Rattle.rk_world.specs.Gather.{no_gather}
+use Rattle.rk_world.specs.Tablet.{Tablet, no_tablet}
 use Rattle.rk_world.specs.Master.{Master, tablet_at}
 use Rattle.rk_world.specs.Handovers.{carried_entry, given_up}
 use Rattle.rk_world.specs.Worked.{Worked}
-use Rattle.rk_world.specs.Waiting.{joined_entry}
 use Rattle.rk_master.specs.declared.work.Worked.{Worked as Work}
 use Rattle.rk_master.specs.declared.choice.Seen.{Seen}
 use Rattle.rk_master.specs.declared.tablet_lane.TabletLane.{TabletLane}
 
--- the tablet, with nothing pulled, gathered or merged
+-- the tablet
 abbrev pub tablet_of : TabletLane → Tablet
-tablet_of lane = record no_tablet {
+tablet_of lane = record {
   handover = lane.handover;
   completions = lane.completions.completions;
-  pulling = record (pulling_from lane.source) { token = lane.token; hashes = lane.wanted; sealed = lane.sealed };
+  pulling = record {
+    source = lane.source;
+    token = lane.token;
+    batches = lane.batches;
+    hashes = lane.wanted;
+    sides = lane.sides;
+    sealed = lane.sealed;
+  };
+  gather = unwrap_or lane.gather no_gather;
+  merged_ends = lane.merged_ends;
 }
 
 -- the tablets by number
@@ -61,11 +75,22 @@ abbrev pub with_items_of : Entry → List Held → List Held
 with_items_of (entries.Held held) records = with_newer held records
 with_items_of entry records = records
 
--- a target that has all can spell the entry that closes its role
-abbrev pub IsClosable : Tablet → Type 0
-IsClosable tablet = tablet.handover.role ≡ roles.Joining None → IsLawfulEntry (joined_entry tablet)
+-- the entry that closes the role of a target can be spelled: of one that pulls its range and its term can, and of one that
+-- has all the entry
+abbrev pub can_close : Role → Joined → Type 0
+can_close roles.Receiving joined = IsLawfulRange joined.range × IsNumber w64 1 joined.term
+can_close (roles.Joining None) joined = IsLawfulJoined joined
+can_close role joined = ⊤
 
--- so can each of them
+-- the role of a tablet can be closed, where it is that of a target
+abbrev pub IsClosable : Tablet → Type 0
+IsClosable tablet = can_close tablet.handover.role (record {
+  range = tablet.handover.range;
+  term = tablet.handover.term;
+  segments = tablet.pulling.sealed;
+})
+
+-- so can that of each of them
 abbrev pub AreClosable : NumberMap Tablet → Type 0
 AreClosable tablets = AllByRecursion (λ entry. IsClosable entry.1) tablets
 

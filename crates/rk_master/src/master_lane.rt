@@ -21,8 +21,8 @@ use rk_types::{NoMemory, Range};
 use std::alloc::Global;
 use std::marker::Model;
 
-/// A master in one lane. Contracts see the master that the definitions speak of, with nothing pulled, gathered or
-/// merged; or none where it is spent: it ran out of memory within a change, and answers `NoMemory` from then on.
+/// A master in one lane. Contracts see the master that the definitions speak of, or none where it is spent: it ran out
+/// of memory within a change, and answers `NoMemory` from then on.
 #[derive(Drop)]
 pub struct MasterLane {
     state: MasterState,

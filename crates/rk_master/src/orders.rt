@@ -93,6 +93,7 @@ fn release(state: &mut MasterState, at: usize, tenure: Tenure)
         return;
     }
     let range = tablet.handover.range;
+    tablet.forget_merged();
     state.records.drop_range(&range);
 }
 
@@ -240,6 +241,7 @@ fn close(state: &mut MasterState, at: usize, tenure: Tenure)
     if !tablet.handover.close(tenure.term) {
         return;
     }
+    tablet.forget_merged();
     freeze_at(state, at);
 }
 

@@ -9,7 +9,7 @@ ghost use Rattle.rk_world.specs.Handovers.{given_up, transfer as transfer_lem};
 ghost use Rattle.rk_world.specs.RoleTests.{is_absent as is_absent_lem, is_frozen_at as is_frozen_at_lem};
 ghost use Rattle.rk_world.specs.Requests.{counted_up, is_known as is_known_lem, with_wanted};
 ghost use Rattle.rk_transfer.specs.Handover.{frozen, joined};
-ghost use Rattle.rk_world.specs.Tablet.{no_tablet, pulling_from, with_handover};
+ghost use Rattle.rk_world.specs.Tablet.{no_tablet, pulling_from, with_handover, without_merged};
 ghost use Rattle.rk_world.specs.Waiting.{joined_entry};
 ghost use Rattle.rk_master.specs.Parts.{tablet_of};
 
@@ -18,15 +18,17 @@ use rk_done::Completions;
 use rk_entry::{Entry, Joined};
 use rk_message::{Body, Message, Tenure, Transfer};
 use rk_priority::Wanted;
+use rk_rebuild::Gather;
+use rk_side_log::SideLogs;
 use rk_table::FIRST;
 use rk_transfer::{Handover, Role};
-use rk_types::{Key, Listed, NoMemory, Node, Token, bucket_of, hash};
+use rk_types::{Ended, Key, Listed, NoMemory, Node, Token, bucket_of, hash};
 use std::alloc::Global;
 
 /// Versions count from 1, and this one and those above it are never given.
 pub const MOST_VERSIONS: u64 = 1 << 60;
 
-/// What a master has of a tablet, as far as calls need it.
+/// What a master has of a tablet.
 #[derive(Drop)]
 pub struct TabletLane {
     pub handover: Handover,
@@ -35,8 +37,16 @@ pub struct TabletLane {
     pub source: u8,
     pub wanted: Wanted,
     pub token: Token,
+    /// How many batches were pulled.
+    pub batches: u64,
+    /// What was pulled and is not sealed.
+    pub sides: SideLogs,
     /// The numbers of the side segments that were sealed.
     pub sealed: Listed<u32>,
+    /// What a rebuild gathers; none where nothing is to be gathered.
+    pub gather: Option<Gather>,
+    /// The last end of each client, as a rebuild merged it.
+    pub merged_ends: Listed<Ended>,
 }
 
 impl TabletLane {
@@ -105,7 +115,11 @@ impl TabletLane {
             source: 0,
             wanted: Wanted::new(alloc),
             token: FIRST,
+            batches: 0,
+            sides: SideLogs::new(alloc),
             sealed: Listed::new(alloc),
+            gather: None,
+            merged_ends: Listed::new(alloc),
         }
     }
 
@@ -144,17 +158,38 @@ impl TabletLane {
         })
     }
 
-    /// Forgets what was pulled; from now on the tablet is pulled from this source.
-    pub(crate) fn pull_from(&mut self, source: u8)
-        ensures { tablet_of self.new ≡ (record (tablet_of self.old) { pulling = pulling_from source }) }
+    /// Forgets what was gathered and merged.
+    pub(crate) fn forget_merged(&mut self)
+        ensures { tablet_of self.new ≡ without_merged (tablet_of self.old) }
     {
+        self.gather = None;
+        self.merged_ends = self.merged_ends.empty_like();
+    }
+
+    /// The tablet has this handover from now on, and what was gathered and merged is forgotten.
+    pub(crate) fn hand(&mut self, handover: Handover)
+        ensures { tablet_of self.new ≡ without_merged (with_handover (tablet_of self.old) handover) }
+    {
+        self.handover = handover;
+        self.forget_merged();
+    }
+
+    /// Forgets what was pulled, gathered and merged; from now on the tablet is pulled from this source. A step for each
+    /// segment that was not sealed.
+    pub(crate) fn pull_from(&mut self, source: u8)
+        ensures { tablet_of self.new ≡ (record (without_merged (tablet_of self.old)) { pulling = pulling_from source }) }
+    {
+        self.forget_merged();
         self.source = source;
         self.wanted.clear();
         self.token = FIRST;
+        self.batches = 0;
+        self.sides.clear();
         self.sealed = self.sealed.empty_like();
     }
 
-    /// The tablet is given up: it is absent, what was pulled is forgotten, and its term and range stay.
+    /// The tablet is given up: it is absent, what was pulled, gathered and merged is forgotten, and its term and range
+    /// stay.
     pub(crate) fn give_up(&mut self)
         ensures { tablet_of self.new ≡ given_up (tablet_of self.old) }
     {

@@ -4,7 +4,7 @@ ghost use Rattle.std.specs.Int.{w64};
 ghost use Rattle.std.specs.List.{list_all};
 ghost use Rattle.rk_types.specs.NumberMap.{IsInOrder, get, insert};
 ghost use Rattle.rk_entry.specs.Numbers.{IsNumber};
-ghost use Rattle.rk_world.specs.Tablet.{with_handover};
+ghost use Rattle.rk_world.specs.Tablet.{no_tablet, with_handover, without_merged};
 ghost use Rattle.rk_world.specs.Handovers.{is_above};
 ghost use Rattle.rk_world.specs.Requests.{counted_up, with_wanted};
 ghost use Rattle.rk_master.specs.Parts.{AreTablets, changing, given_up_but, served, tablet_in, tablet_of, tablets_of};
@@ -142,32 +142,62 @@ pub(crate) fn serve(
         range,
         counter: 1,
     };
-    hand(tablets, number, handover)
-}
-
-/// The tablet of this number has this handover from now on. After `NoMemory` nothing has changed. One binary search, and
-/// what an insertion takes.
-pub(crate) fn hand(
-    tablets: &mut Vec<(u32, TabletLane)>,
-    number: u32,
-    handover: Handover,
-) -> Result<(), NoMemory>
-    requires tablets { AreTablets tablets.old.items }
-    requires role { handover.role ≢ Role.Joining None }
-    ensures ok { OnOk result (tablets_of tablets.new.items ≡ insert (tablets_of tablets.old.items) number
-        (with_handover (tablet_in tablets.old.items number) handover)) }
-    ensures tablets { AreTablets tablets.new.items }
-    ensures err { OnErr result (tablets.new.items ≡ tablets.old.items) }
-{
     match search(tablets.as_slice(), number) {
         Ok(at) => {
             tablets[at].1.handover = handover;
             Ok(())
         }
         Err(at) => {
-            let tablet = TabletLane::new(*tablets.allocator(), handover);
-            tablets.insert(at, (number, tablet))?;
+            insert_new(tablets, at, number, handover)?;
             Ok(())
         }
     }
+}
+
+/// The tablet of this number has this handover from now on, and what was gathered and merged is forgotten. After
+/// `NoMemory` nothing has changed. One binary search, and what an insertion takes.
+pub(crate) fn hand(
+    tablets: &mut Vec<(u32, TabletLane)>,
+    number: u32,
+    handover: Handover,
+) -> Result<(), NoMemory>
+    requires tablets { AreTablets tablets.old.items }
+    requires receiving { handover.role ≢ Role.Receiving }
+    requires joining { handover.role ≢ Role.Joining None }
+    ensures ok { OnOk result (tablets_of tablets.new.items ≡ insert (tablets_of tablets.old.items) number
+        (without_merged (with_handover (tablet_in tablets.old.items number) handover))) }
+    ensures tablets { AreTablets tablets.new.items }
+    ensures err { OnErr result (tablets.new.items ≡ tablets.old.items) }
+{
+    match search(tablets.as_slice(), number) {
+        Ok(at) => {
+            tablets[at].1.hand(handover);
+            Ok(())
+        }
+        Err(at) => {
+            insert_new(tablets, at, number, handover)?;
+            Ok(())
+        }
+    }
+}
+
+// A tablet that the master does not know is put with this handover where it would stand. After `NoMemory` nothing has
+// changed. What an insertion takes.
+fn insert_new(
+    tablets: &mut Vec<(u32, TabletLane)>,
+    at: usize,
+    number: u32,
+    handover: Handover,
+) -> Result<(), NoMemory>
+    requires tablets { AreTablets tablets.old.items }
+    requires place { IsBetween number tablets.old.items at }
+    requires receiving { handover.role ≢ Role.Receiving }
+    requires joining { handover.role ≢ Role.Joining None }
+    ensures ok { OnOk result (tablets_of tablets.new.items ≡ insert (tablets_of tablets.old.items) number (with_handover no_tablet handover)) }
+    ensures tablets { AreTablets tablets.new.items }
+    ensures err { OnErr result (tablets.new.items ≡ tablets.old.items) }
+{
+    let tablet = TabletLane::new(*tablets.allocator(), handover);
+    tablets.insert(at, (number, tablet))?;
+    Ok(())
 }

@@ -3,7 +3,7 @@ use Rattle.std.proofs.Common.{◌≡◌, ℕ, zero, suc, ◌+◌, ◌<◌, ◌�
 use Rattle.std.specs.List.{All, flat_map}
 use Rattle.std.proofs.lemmas.Bool.{cond_both, leb-true, leb-false}
 use Rattle.std.proofs.lemmas.List.{append-nil}
-use Rattle.std.proofs.lemmas.List.Elements.{All-nil, All-cons, All-head, All-tail}
+use Rattle.std.proofs.lemmas.List.Elements.{All-nil, All-cons, All-head, All-tail, All-append, All-push}
 use Rattle.rk_types.specs.Held.{spelled_of}
 use Rattle.rk_types.specs.declared.held.Held.{Held}
 use Rattle.rk_types.specs.declared.held.TheConstants.{SEGMENT_BYTES}
@@ -11,7 +11,7 @@ use Rattle.rk_entry.specs.Lawful.{IsLawfulHeld}
 use Rattle.rk_entry.specs.declared.entry.Entry.TheVariants as entries
 use Rattle.rk_entry.specs.Spelling.{spelled}
 use Rattle.rk_entry.proofs.Sizes.{held_spelled}
-use Rattle.rk_world.specs.SideLogs.{with_side_item, cut_items}
+use Rattle.rk_world.specs.SideLogs.{with_side_item, cut_items, sealed_sides}
 use Rattle.rk_side_log.specs.Spelled.{spelled_items}
 use Rattle.rk_side_log.proofs.Cutting.{length-spelled, spelled_push, spelled_one}
 use Rattle.rk_side_log.proofs.Filled.{spelled_most}
@@ -66,6 +66,24 @@ within_after lists (x ∷ items) lawful all =
 
 pub cut_within : (items : List Held) → All IsLawfulHeld items → All (λ (s : List Held). length (spelled_items s) ≤ SEGMENT_BYTES) (cut_items items)
 cut_within items lawful = within_after [] items lawful (All-nil (λ (s : List Held). size s ≤ SEGMENT_BYTES))
+
+-- each has lawful items
+lawful_after : (lists : List (List Held)) (items : List Held) → All IsLawfulHeld items → All (All IsLawfulHeld) lists → All (All IsLawfulHeld) (fold with_side_item lists items)
+lawful_after lists [] lawful all = all
+lawful_after lists (x ∷ items) lawful all =
+    let first : IsLawfulHeld x = All-head IsLawfulHeld x items lawful in
+    lawful_after (with_side_item lists x) items (All-tail IsLawfulHeld x items lawful)
+    (each_with (All IsLawfulHeld) x (All-cons IsLawfulHeld x [] first (All-nil IsLawfulHeld)) (λ s h e. All-push IsLawfulHeld s x h first) lists all)
+
+pub cut_lawful : (items : List Held) → All IsLawfulHeld items → All (All IsLawfulHeld) (cut_items items)
+cut_lawful items lawful = lawful_after [] items lawful (All-nil (All IsLawfulHeld))
+
+-- so have those of all workers
+pub sealed_lawful : (sides : List (List Held)) → All (All IsLawfulHeld) sides → All (All IsLawfulHeld) (sealed_sides sides)
+sealed_lawful [] lawful = All-nil (All IsLawfulHeld)
+sealed_lawful (items ∷ sides) lawful =
+    All-append (All IsLawfulHeld) (cut_items items) (sealed_sides sides) (cut_lawful items (All-head (All IsLawfulHeld) items sides lawful))
+    (sealed_lawful sides (All-tail (All IsLawfulHeld) items sides lawful))
 
 -- ---- two that follow one another
 

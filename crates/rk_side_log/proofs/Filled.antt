@@ -17,6 +17,7 @@ use Rattle.rk_entry.specs.Entries.{entries_of, entries_within}
 use Rattle.rk_entry.specs.Lawful.{IsLawfulHeld, IsLawfulEntry}
 use Rattle.rk_entry.specs.Spelling.{spelled}
 use Rattle.rk_entry.proofs.Sizes.{held_spelled}
+use Rattle.rk_entry.proofs.StandLaws.{all_again}
 use Rattle.rk_entry.proofs.TextLaws.{text_within}
 use Rattle.rk_log.specs.Cut.{last_of, has_room, in_last, with_bytes, cut}
 use Rattle.rk_log.specs.Stored.{spelled_in}
@@ -45,7 +46,17 @@ read_none : entries_of [] ≡ []
 unfolding entries_of entries_within
 read_none = refl
 
--- nor from empty segments
+-- the entries of items are read from their spelling
+pub entries_spelled : (items : List Held) → All IsLawfulHeld items → entries_of (spelled_items items) ≡ as_entries items
+entries_spelled items lawful =
+    ap entries_of (sym (append-nil (spelled_items items))) ∙ all_again (as_entries items) [] (lawful_entries items lawful)
+    ∙ ap (λ (l : List Entry). as_entries items ++ l) read_none ∙ append-nil (as_entries items)
+
+-- and so are the items
+pub items_spelled : (items : List Held) → All IsLawfulHeld items → items_of (entries_of (spelled_items items)) ≡ items
+items_spelled items lawful = ap items_of (entries_spelled items lawful) ∙ items-as_entries items
+
+-- no entry is read from empty segments
 read_empty : (count : ℕ) → spelled_in (replicate count []) ≡ []
 read_empty zero = refl
 read_empty (suc count) = (λ i. read_none i ++ read_empty count i)

@@ -23,7 +23,7 @@ module _ {X : Type 0} where
       (cases_eq q number))
 
   -- the last thing that is put stays
-  insert_twice : (things : NumberMap X) (number : ℕ) (first last : X) → IsInOrder things → insert (insert things number first) number last ≡ insert things number last
+  pub insert_twice : (things : NumberMap X) (number : ℕ) (first last : X) → IsInOrder things → insert (insert things number first) number last ≡ insert things number last
   insert_twice things number first last order =
       same_map (insert (insert things number first) number last) (insert things number last)
       (in_order_insert (insert things number first) number last (in_order_insert things number first order)) (in_order_insert things number last order)

@@ -1,4 +1,5 @@
 ghost use Rattle.std.specs.Prelude.{◌≡◌, ◌+◌, ◌-◌, ◌<◌, ◌≤◌, ◌^◌, ◌++◌, ◌∷◌, [], length, map, take, replicate, vec_len, vec_capacity, OnOk};
+ghost use Rattle.std.specs.List.{All};
 ghost use Rattle.rk_types.specs.declared.held.Held.{Held as Item};
 ghost use Rattle.rk_entry.specs.Lawful.{IsLawfulHeld};
 ghost use Rattle.rk_entry.specs.Spelling.{spelled};
@@ -84,11 +85,12 @@ impl SideLog {
         self.used = place + 1;
     }
 
-    /// Moves the segments that spell the items to the end of these, which have room for them, and leaves none. It takes no
-    /// memory.
+    /// Moves the segments that spell the items to the end of these, which have room for them, and leaves none. The items
+    /// are lawful. It takes no memory.
     pub(crate) fn seal_into(&mut self, sealed: &mut Vec<Segment>)
         requires { vec_len sealed.old + self.old.made ≤ vec_capacity sealed.old }
         ensures bytes { bytes_in sealed.new.items ≡ bytes_in sealed.old.items ++ map spelled_items (cut_items self.old.items) }
+        ensures lawful { All IsLawfulHeld self.old.items }
         ensures few { vec_len sealed.new ≤ vec_len sealed.old + self.old.made }
         ensures room { vec_capacity sealed.old ≤ vec_capacity sealed.new }
         ensures empty { self.new ≡ no_side }

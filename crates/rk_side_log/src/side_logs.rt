@@ -110,16 +110,24 @@ impl SideLogs {
         Ok(tally.items)
     }
 
-    /// Hands out the segments that spell all items, those of the first worker first, and leaves no items. The numbers that
-    /// they were made with say nothing. It takes no memory, and a step for each segment.
+    /// Hands out the segments that spell all items, those of the first worker first, and leaves no items. The items are
+    /// lawful. The numbers that the segments were made with say nothing. It takes no memory, and a step for each segment.
     pub fn seal(&mut self) -> Vec<Segment>
         ensures bytes { bytes_in result.items ≡ map spelled_items (sealed_sides self.old) }
+        ensures lawful { All (All IsLawfulHeld) self.old }
         ensures empty { self.new ≡ [] ∷ [] ∷ [] ∷ [] ∷ [] }
     {
         let alloc = *self.sealed.allocator();
         seal_all(&mut self.workers, &mut self.sealed);
         self.bytes = 0;
         mem::replace(&mut self.sealed, Vec::new(alloc))
+    }
+
+    /// Forgets all items. A step for each segment.
+    pub fn clear(&mut self)
+        ensures { self.new ≡ [] ∷ [] ∷ [] ∷ [] ∷ [] }
+    {
+        let _ = self.seal();
     }
 }
 
@@ -161,6 +169,7 @@ fn seal_all(sides: &mut [SideLog], sealed: &mut Vec<Segment>)
     requires { vec_len sealed.old + made_in sides.old ≤ vec_capacity sealed.old }
     ensures bytes { bytes_in sealed.new.items
         ≡ bytes_in sealed.old.items ++ map spelled_items (sealed_sides (items_of_each sides.old)) }
+    ensures lawful { All (λ side. All IsLawfulHeld side.items) sides.old }
     ensures empty { sides.new ≡ replicate (length sides.old) no_side }
 {
     for side in sides.iter_mut() {

@@ -2,14 +2,16 @@ use Rattle.std.proofs.Common.{◌≡◌, List, set, Option, sym, ap, ◌∙◌}
 use Rattle.std.proofs.lemmas.List.{get_or-set_same}
 use Rattle.rk_transfer.specs.Handover.{closed}
 use Rattle.rk_transfer.specs.declared.handover.Handover.{Handover}
+use Rattle.rk_transfer.specs.declared.role.Role.TheVariants as roles
 use Rattle.rk_world.specs.Handovers.{closing}
 use Rattle.rk_world.specs.Master.{Master}
 use Rattle.rk_world.specs.Tablet.{Tablet}
 use Rattle.rk_master.specs.declared.tablet_lane.TabletLane.{TabletLane}
+use Rattle.rk_master.specs.Parts.{tablet_of}
 use Rattle.rk_master.specs.Places.{Row}
 use Rattle.rk_master.specs.State.{master_of}
-use Rattle.rk_master.proofs.Closable.{lawful_read}
-use Rattle.rk_master.proofs.Handovers.{has_moved, not_moved, stays_so, closed_role, moved_lane, with_rows, at_set, tablet_read, same_set, set_there, closing_so}
+use Rattle.rk_master.proofs.Closable.{closable_in, lawful_read}
+use Rattle.rk_master.proofs.Handovers.{has_moved, not_moved, stays_so, closed_role, with_rows, at_set, tablet_read, same_set, set_there, closing_so}
 use Rattle.rk_master.proofs.Places.{row_there}
 use Rattle.rk_master.proofs.orders.close.Goals as goal
 
@@ -28,29 +30,32 @@ returns-then-not-close-clause-ok c =
 pub freeze_at-requires-clause-state : goal.freeze_at-requires-clause-state
 freeze_at-requires-clause-state c =
     let read : Row = c.index_mut.result.now in
+    let lane : TabletLane = c.forget_merged.new.self in
     let moved = has_moved (closed read.1.handover c.args.tenure.term) read.1.handover c.close.new.self (sym c.close.ensures.answer ∙ c.if-not-close.false) c.close.ensures.after in
+    let role = ap (λ (t : Tablet). t.handover.role) c.forget_merged.ensures ∙ closed_role read.1.handover c.close.new.self c.args.tenure.term moved in
     record {
       within = c.requires.state.within;
       kept = c.requires.state.kept;
       backups = c.requires.state.backups;
-      tablets = lawful_read c.args.state.now.tablets.items c.args.at read (moved_lane read.1 c.close.new.self) c.requires.place.within c.index_mut.ensures.value c.requires.state.tablets
-          (λ role. cc (role, closed_role read.1.handover c.close.new.self c.args.tenure.term moved));
+      sides = c.requires.state.sides;
+      tablets = lawful_read c.args.state.now.tablets.items c.args.at read lane c.requires.place.within c.index_mut.ensures.value c.requires.state.tablets
+          (closable_in (tablet_of lane) roles.Closing role (λ it. tt));
     }
 
 pub freeze_at-requires-clause-role : goal.freeze_at-requires-clause-role
 freeze_at-requires-clause-role c = λ row at.
     let rows : List Row = c.args.state.now.tablets.items in
     let read : Row = c.index_mut.result.now in
-    let lane : TabletLane = moved_lane read.1 c.close.new.self in
+    let lane : TabletLane = c.forget_merged.new.self in
     let moved = has_moved (closed read.1.handover c.args.tenure.term) read.1.handover c.close.new.self (sym c.close.ensures.answer ∙ c.if-not-close.false) c.close.ensures.after in
     let there = at_set rows c.args.tenure.tablet c.args.at read lane c.requires.place c.index_mut.ensures.value in
     let is : (read.0, lane) ≡ row = sym (get_or-set_same rows c.args.at (read.0, lane) row c.requires.place.within) ∙ row_there (set rows c.args.at (read.0, lane)) c.args.at row row there.within at in
-    ap (λ (r : Row). r.1.handover.role) (sym is) ∙ closed_role read.1.handover c.close.new.self c.args.tenure.term moved
+    ap (λ (r : Row). r.1.handover.role) (sym is) ∙ ap (λ (t : Tablet). t.handover.role) c.forget_merged.ensures ∙ closed_role read.1.handover c.close.new.self c.args.tenure.term moved
 
 pub returns-clause-place : goal.returns-clause-place
 returns-clause-place c =
     c.freeze_at.ensures.place c.args.tenure.tablet
-    (at_set c.args.state.now.tablets.items c.args.tenure.tablet c.args.at c.index_mut.result.now (moved_lane c.index_mut.result.now.1 c.close.new.self) c.requires.place c.index_mut.ensures.value)
+    (at_set c.args.state.now.tablets.items c.args.tenure.tablet c.args.at c.index_mut.result.now c.forget_merged.new.self c.requires.place c.index_mut.ensures.value)
 
 pub returns-clause-ok : goal.returns-clause-ok
 returns-clause-ok c =
@@ -58,10 +63,10 @@ returns-clause-ok c =
     let rows : List Row = c.args.state.now.tablets.items in
     let read : Row = c.index_mut.result.now in
     let handover : Handover = c.close.new.self in
-    let lane : TabletLane = moved_lane read.1 handover in
+    let lane : TabletLane = c.forget_merged.new.self in
     let moved = has_moved (closed read.1.handover c.args.tenure.term) read.1.handover handover (sym c.close.ensures.answer ∙ c.if-not-close.false) c.close.ensures.after in
     let tablet = tablet_read rows c.args.tenure.tablet c.args.at read c.requires.state.tablets.order c.requires.place c.index_mut.ensures.value in
     let there = set_there rows c.args.at (read.0, lane) c.requires.place.within in
-    closing_so master (master_of c.freeze_at.new.state) rows c.args.tenure.tablet c.args.at read handover (closed read.1.handover c.args.tenure.term)
-    c.requires.state.tablets.order c.requires.place c.index_mut.ensures.value moved (c.freeze_at.ensures.ok (read.0, lane) there)
+    closing_so master (master_of c.freeze_at.new.state) rows c.args.tenure.tablet c.args.at read handover (closed read.1.handover c.args.tenure.term) lane
+    c.requires.state.tablets.order c.requires.place c.index_mut.ensures.value moved c.forget_merged.ensures (c.freeze_at.ensures.ok (read.0, lane) there)
     ∙ ap (λ (t : Tablet). closing master c.args.tenure.tablet (closed t.handover c.args.tenure.term)) (sym tablet)

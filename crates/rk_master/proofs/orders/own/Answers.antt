@@ -8,7 +8,7 @@ use Rattle.rk_world.specs.Worked.{changed}
 use Rattle.rk_master.specs.Parts.{tablet_of}
 use Rattle.rk_master.specs.Places.{Row}
 use Rattle.rk_master.specs.State.{master_of}
-use Rattle.rk_master.proofs.Closable.{lawful_read}
+use Rattle.rk_master.proofs.Closable.{closable_in, lawful_read}
 use Rattle.rk_master.proofs.Handovers.{has_moved, not_moved, stays_so, owned_role, with_rows, tablet_read, same_set, own_failed, own_made}
 use Rattle.rk_master.proofs.orders.own.Goals as goal
 
@@ -34,7 +34,9 @@ returns-clause-state c =
       within = c.requires.state.within;
       kept = c.requires.state.kept;
       backups = c.requires.state.backups;
-      tablets = lawful_read c.args.state.now.tablets.items c.args.at read c.pull_from.new.self c.requires.place.within c.index_mut.ensures.value c.requires.state.tablets (λ joins. cc (joins, role));
+      tablets = lawful_read c.args.state.now.tablets.items c.args.at read c.pull_from.new.self c.requires.place.within c.index_mut.ensures.value c.requires.state.tablets
+          (closable_in (tablet_of c.pull_from.new.self) roles.Serving role (λ it. tt));
+      sides = c.requires.state.sides;
     }
 
 pub returns-clause-ok : goal.returns-clause-ok

@@ -1,19 +1,19 @@
-use Rattle.std.proofs.Common.{◌≡◌, ◌≤◌, List, [], ◌∷◌, ◌++◌, length, length-append, arith, Option, sym, ap, ◌∙◌, subst}
+use Rattle.std.proofs.Common.{◌≡◌, ◌≤◌, List, [], ◌∷◌, ◌++◌, length, length-append, arith, Option, refl, sym, ap, ◌∙◌, subst}
 use Rattle.rk_done.specs.Completions.{Completions, completions_from}
 use Rattle.rk_entry.specs.Lawful.{IsLawfulEntry}
 use Rattle.rk_entry.specs.declared.entry.Entry.{Entry}
 use Rattle.rk_log.specs.Log.{Log, with_entry}
 use Rattle.rk_transfer.specs.Handover.{granted}
 use Rattle.rk_transfer.specs.declared.handover.Handover.{Handover}
-use Rattle.rk_transfer.specs.declared.role.Role.TheVariants as roles
 use Rattle.rk_world.specs.Master.{Master}
-use Rattle.rk_world.specs.Tablet.{Tablet, pulling_from}
+use Rattle.rk_world.specs.Tablet.{Tablet, pulling_from, without_merged}
 use Rattle.rk_world.specs.Worked.{changed}
 use Rattle.rk_master.specs.Parts.{tablet_of}
 use Rattle.rk_master.specs.Places.{Row}
+use Rattle.rk_master.specs.Sides.{AreSpelled}
 use Rattle.rk_master.specs.State.{master_of}
 use Rattle.rk_master.proofs.Closable.{lawful_read}
-use Rattle.rk_master.proofs.Handovers.{has_moved, not_moved, stays_so, granted_role, moved_lane, with_rows, tablet_read, same_set, grant_failed, grant_made, grant_lawful}
+use Rattle.rk_master.proofs.Handovers.{has_moved, not_moved, stays_so, granted_role, moved_lane, with_rows, tablet_read, same_set, grant_failed, grant_made, grant_closable, grant_lawful}
 use Rattle.rk_master.proofs.orders.receive.Goals as goal
 
 pub returns-then-not-grant-clause-ok : goal.returns-then-not-grant-clause-ok
@@ -41,8 +41,9 @@ returns-clause-state c =
     let read : Row = c.index_mut.result.now in
     let handover : Handover = c.grant.new.self in
     let moved = has_moved (granted read.1.handover c.args.grant.tenure.term c.args.grant.floor) read.1.handover handover (sym c.grant.ensures.answer ∙ c.if-not-grant.false) c.grant.ensures.after in
-    let role : c.pull_from.new.self.handover.role ≡ roles.Receiving =
-    ap (λ (t : Tablet). t.handover.role) c.pull_from.ensures ∙ granted_role read.1.handover handover c.args.grant.tenure.term c.args.grant.floor moved in
+    let same : c.pull_from.new.self.handover ≡ handover = ap (λ (t : Tablet). t.handover) c.pull_from.ensures in
+    let lawful = grant_lawful c.args.state.now.tablets.items c.args.at read (master_of c.args.state.now) handover c.args.grant c.requires.state.tablets.order c.requires.place c.index_mut.ensures.value moved c.requires.lawful in
+    let closable = grant_closable c.pull_from.new.self handover c.args.grant same (granted_role read.1.handover handover c.args.grant.tenure.term c.args.grant.floor moved) lawful in
     let entries : List Entry = c.args.state.now.log.entries in
     let entry : Entry = c.carried_entry.result in
     let before : c.args.state.now.applied ≤ length entries = c.requires.state.within in
@@ -51,7 +52,8 @@ returns-clause-state c =
       within = subst (λ (log : Log). c.args.state.now.applied ≤ length log.entries) (sym c.in_ok-append.ensures.log) longer;
       kept = c.in_ok-append.ensures.kept c.args.state.now.applied before c.requires.state.kept;
       backups = ap (λ (log : Log). length log.known) c.in_ok-append.ensures.log ∙ c.requires.state.backups;
-      tablets = lawful_read c.args.state.now.tablets.items c.args.at read c.pull_from.new.self c.requires.place.within c.index_mut.ensures.value c.requires.state.tablets (λ joins. cc (joins, role));
+      tablets = lawful_read c.args.state.now.tablets.items c.args.at read c.pull_from.new.self c.requires.place.within c.index_mut.ensures.value c.requires.state.tablets closable;
+      sides = subst (λ (log : Log). AreSpelled log.sides) (sym c.in_ok-append.ensures.log) c.requires.state.sides;
     }
 
 pub returns-clause-ok : goal.returns-clause-ok
@@ -64,5 +66,5 @@ returns-clause-ok c =
     let log = c.in_ok-append.ensures.log ∙ ap (with_entry master.log) c.carried_entry.ensures in
     let completions = c.in_ok-tablet.ensures ∙ ap (completions_from []) c.as_slice.ensures in
     let lane = c.pull_from.ensures
-    ∙ ap (λ (ends : Completions). record (tablet_of (moved_lane read.1 handover)) { completions = ends; pulling = pulling_from c.args.grant.source }) completions in
-    grant_made master c.append.new.log rows c.args.at read handover c.pull_from.new.self c.args.grant c.requires.state.tablets.order c.requires.place c.index_mut.ensures.value moved log lane
+    ∙ ap (λ (ends : Completions). record (without_merged (tablet_of (moved_lane read.1 handover))) { completions = ends; pulling = pulling_from c.args.grant.source }) completions in
+    grant_made master c.append.new.log rows c.args.at read handover c.pull_from.new.self c.args.grant refl c.requires.state.tablets.order c.requires.place c.index_mut.ensures.value moved log lane

@@ -6,10 +6,13 @@ use Rattle.rk_transfer.specs.declared.role.Role.TheVariants as roles
 use Rattle.rk_world.specs.Master.{Master}
 use Rattle.rk_world.specs.Worked.{changed}
 use Rattle.rk_master.specs.Parts.{tablet_of}
+use Rattle.rk_world.specs.Tablet.{Tablet}
+use Rattle.rk_master.specs.declared.tablet_lane.TabletLane.{TabletLane}
+use Rattle.rk_master.specs.Parts.{tablet_of}
 use Rattle.rk_master.specs.Places.{Row}
 use Rattle.rk_master.specs.State.{master_of}
-use Rattle.rk_master.proofs.Closable.{lawful_read}
-use Rattle.rk_master.proofs.Handovers.{has_moved, not_moved, stays_so, released_role, moved_lane, with_rows, tablet_read, same_set, release_failed, release_made}
+use Rattle.rk_master.proofs.Closable.{closable_in, lawful_read}
+use Rattle.rk_master.proofs.Handovers.{has_moved, not_moved, stays_so, released_role, with_rows, tablet_read, same_set, release_failed, release_made}
 use Rattle.rk_master.proofs.orders.release.Goals as goal
 
 pub returns-then-not-release-clause-ok : goal.returns-then-not-release-clause-ok
@@ -29,12 +32,15 @@ returns-clause-state c =
     let read : Row = c.index_mut.result.now in
     let handover : Handover = c.release.new.self in
     let moved = has_moved (released read.1.handover c.args.tenure.term) read.1.handover handover (sym c.release.ensures.answer ∙ c.if-not-release.false) c.release.ensures.after in
-    let role : (moved_lane read.1 handover).handover.role ≡ roles.Absent = released_role read.1.handover handover c.args.tenure.term moved in
+    let lane : TabletLane = c.forget_merged.new.self in
+    let role = ap (λ (t : Tablet). t.handover.role) c.forget_merged.ensures ∙ released_role read.1.handover handover c.args.tenure.term moved in
     record {
       within = c.requires.state.within;
       kept = c.requires.state.kept;
       backups = c.requires.state.backups;
-      tablets = lawful_read c.args.state.now.tablets.items c.args.at read (moved_lane read.1 handover) c.requires.place.within c.index_mut.ensures.value c.requires.state.tablets (λ joins. cc (joins, role));
+      tablets = lawful_read c.args.state.now.tablets.items c.args.at read lane c.requires.place.within c.index_mut.ensures.value c.requires.state.tablets
+          (closable_in (tablet_of lane) roles.Absent role (λ it. tt));
+      sides = c.requires.state.sides;
     }
 
 pub returns-clause-ok : goal.returns-clause-ok
@@ -44,4 +50,5 @@ returns-clause-ok c =
     let read : Row = c.index_mut.result.now in
     let handover : Handover = c.release.new.self in
     let moved = has_moved (released read.1.handover c.args.tenure.term) read.1.handover handover (sym c.release.ensures.answer ∙ c.if-not-release.false) c.release.ensures.after in
-    release_made master (records_of c.drop_range.new.self) rows c.args.at read handover c.args.tenure c.requires.state.tablets.order c.requires.place c.index_mut.ensures.value moved c.drop_range.ensures.dropped
+    release_made master (records_of c.drop_range.new.self) rows c.args.at read handover c.forget_merged.new.self c.args.tenure c.requires.state.tablets.order c.requires.place c.index_mut.ensures.value moved
+    c.forget_merged.ensures c.drop_range.ensures.dropped

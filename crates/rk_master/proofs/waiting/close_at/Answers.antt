@@ -4,13 +4,16 @@ use Rattle.rk_entry.specs.Lawful.{IsLawfulEntry}
 use Rattle.rk_entry.specs.declared.entry.Entry.{Entry}
 use Rattle.rk_transfer.specs.Handover.{joined}
 use Rattle.rk_transfer.specs.declared.handover.Handover.{Handover}
+use Rattle.rk_transfer.specs.declared.role.Role.{Role}
+use Rattle.rk_transfer.specs.declared.role.Role.TheVariants as roles
 use Rattle.rk_log.specs.Log.{Log, with_entry}
 use Rattle.rk_world.specs.Master.{Master}
 use Rattle.rk_world.specs.Waiting.{is_sealed_stored, joined_entry}
-use Rattle.rk_master.specs.Parts.{IsClosable, tablet_of}
+use Rattle.rk_master.specs.Parts.{can_close, IsClosable, tablet_of}
 use Rattle.rk_master.specs.Places.{Row}
+use Rattle.rk_master.specs.Sides.{AreSpelled, items_of_sides}
 use Rattle.rk_master.specs.State.{master_of}
-use Rattle.rk_master.proofs.Closable.{closable_at, lawful_read}
+use Rattle.rk_master.proofs.Closable.{closable_at, closable_in, closing_joined, lawful_read}
 use Rattle.rk_master.proofs.GoingOn.{closed_so, still_waits}
 use Rattle.rk_master.proofs.Places.{row_there, moved_there}
 use Rattle.rk_master.proofs.waiting.close_at.Goals as goal
@@ -33,7 +36,7 @@ append-requires c =
     let rows : List Row = c.args.state.now.tablets.items in
     let there = slice_get-get_or rows c.args.at c.index.result.now c.requires.within ∙ ap (λ (r : Row). Some r) (sym c.index.ensures) in
     let closable : IsClosable (tablet_of c.index.result.now.1) = subst (λ (r : Row). IsClosable (tablet_of r.1)) (sym c.index.ensures) (closable_at rows c.args.at c.index.result.now c.requires.within c.requires.state.tablets.closable) in
-    subst IsLawfulEntry (sym c.in_ok-entry.ensures) (closable (c.requires.role c.index.result.now there))
+    subst IsLawfulEntry (sym c.in_ok-entry.ensures) (subst (λ (r : Role). can_close r (closing_joined (tablet_of c.index.result.now.1))) (c.requires.role c.index.result.now there) closable)
 
 pub returns-clause-state : goal.returns-clause-state
 returns-clause-state c =
@@ -43,7 +46,9 @@ returns-clause-state c =
     record {
       within = subst (λ (log : Log). c.args.state.now.applied ≤ length log.entries) (sym c.in_ok-append.ensures.log) longer;
       kept = c.in_ok-append.ensures.kept c.args.state.now.applied before c.requires.state.kept;
-      tablets = lawful_read c.args.state.now.tablets.items c.args.at c.index_mut.result.now c.join.new.self c.requires.within c.index_mut.ensures.value c.requires.state.tablets (λ role. cc (role, c.join.ensures.role));
+      tablets = lawful_read c.args.state.now.tablets.items c.args.at c.index_mut.result.now c.join.new.self c.requires.within c.index_mut.ensures.value c.requires.state.tablets
+          (closable_in (tablet_of c.join.new.self) (roles.Joining (Some c.length-place.result)) c.join.ensures.role (λ it. tt));
+      sides = subst (λ (log : Log). AreSpelled log.sides) (sym c.in_ok-append.ensures.log) c.requires.state.sides;
       backups = ap (λ (log : Log). length log.known) c.in_ok-append.ensures.log ∙ c.requires.state.backups;
     }
 
@@ -61,5 +66,5 @@ returns-clause-ok c = λ row at.
     let stored : is_sealed_stored master (tablet_of row.1) ≡ true = subst (λ (r : Row). is_sealed_stored master (tablet_of r.1) ≡ true) first_is (sym c.is_sealed_stored.ensures ∙ c.if-not-is_sealed_stored.false) in
     let log = c.in_ok-append.ensures.log ∙ ap (with_entry master.log) (c.in_ok-entry.ensures ∙ ap (λ (r : Row). joined_entry (tablet_of r.1)) first_is) in
     let tablets = moved_there rows c.args.at read row c.join.new.self handover c.requires.state.tablets.order c.requires.within c.index_mut.ensures.value at c.join.ensures.tablet in
-    (λ i. record master { log = log i; tablets = tablets i })
+    (λ i. record master { log = log i; sides = items_of_sides (log i).sides; tablets = tablets i })
     ∙ sym (closed_so master row.0 (tablet_of row.1) handover stored moved)

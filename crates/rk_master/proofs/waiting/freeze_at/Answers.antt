@@ -2,12 +2,13 @@ use Rattle.std.proofs.Common.{◌≡◌, true, List, Some, sym, ap, ◌∙◌, s
 use Rattle.rk_types.specs.NumberMap.{NumberMap}
 use Rattle.rk_transfer.specs.Handover.{frozen}
 use Rattle.rk_transfer.specs.declared.handover.Handover.{Handover}
+use Rattle.rk_transfer.specs.declared.role.Role.TheVariants as roles
 use Rattle.rk_world.specs.Master.{Master, is_settled}
 use Rattle.rk_world.specs.Tablet.{Tablet}
 use Rattle.rk_master.specs.Parts.{tablet_of}
 use Rattle.rk_master.specs.Places.{Row}
 use Rattle.rk_master.specs.State.{master_of}
-use Rattle.rk_master.proofs.Closable.{lawful_read}
+use Rattle.rk_master.proofs.Closable.{closable_in, lawful_read}
 use Rattle.rk_master.proofs.GoingOn.{frozen_so}
 use Rattle.rk_master.proofs.Places.{row_there, moved_there}
 use Rattle.rk_master.proofs.waiting.freeze_at.Goals as goal
@@ -17,7 +18,9 @@ returns-clause-state c = record {
   within = c.requires.state.within;
   kept = c.requires.state.kept;
   backups = c.requires.state.backups;
-  tablets = lawful_read c.args.state.now.tablets.items c.args.at c.index_mut.result.now c.freeze.new.self c.requires.within c.index_mut.ensures.value c.requires.state.tablets (λ role. cc (role, c.freeze.ensures.role));
+  tablets = lawful_read c.args.state.now.tablets.items c.args.at c.index_mut.result.now c.freeze.new.self c.requires.within c.index_mut.ensures.value c.requires.state.tablets
+      (closable_in (tablet_of c.freeze.new.self) roles.Frozen c.freeze.ensures.role (λ it. tt));
+  sides = c.requires.state.sides;
 }
 
 pub returns-clause-ok : goal.returns-clause-ok

@@ -1,5 +1,8 @@
-use Rattle.std.proofs.Common.{◌≡◌, ◌∙◌, ◌++◌, ℕ, get_or, length, map, replicate, vec_len, vec_capacity, sym, ap, arith}
+use Rattle.std.proofs.Common.{◌≡◌, ◌∙◌, ◌++◌, ℕ, List, get_or, length, map, replicate, vec_len, vec_capacity, sym, ap, subst, arith}
+use Rattle.std.specs.List.{All}
 use Rattle.std.proofs.lemmas.List.{take_all}
+use Rattle.std.proofs.lemmas.List.Elements.{All-more}
+use Rattle.rk_entry.specs.Lawful.{IsLawfulHeld}
 use Rattle.rk_world.specs.SideLogs.{cut_items}
 use Rattle.rk_side_log.specs.Side.{Side, no_side}
 use Rattle.rk_side_log.specs.Spelled.{bytes_in, spelled_items}
@@ -19,9 +22,16 @@ loop-side-preserved c =
           c.loop-side-test.true c.loop-side.invariant.1 (omega (arith, c.seal_into.ensures.few, ap (λ (s : Side). s.made) there)) c.seal_into.ensures.room,
       drop_more_set c.args.sides.now c.loop-side.sides i c.seal_into.new.self c.loop-side.invariant.2,
       take_more_none c.loop-side.sides i c.seal_into.new.self (omega (arith, c.loop-side-test.true, c.loop-side.auto.sides)) c.loop-side.invariant.3 c.seal_into.ensures.empty,
+      All-more (λ (s : Side). All IsLawfulHeld s.items) c.args.sides.now i d c.loop-side-test.true c.loop-side.invariant.4
+          (subst (λ (s : Side). All IsLawfulHeld s.items) there c.seal_into.ensures.lawful),
     )
 
 pub returns-clause-empty : goal.returns-clause-empty
 returns-clause-empty c =
     let all : c.loop-side.side-index ≡ length c.args.sides.now = omega (arith, c.loop-side.auto.side-index-end, c.loop-side-test.false) in
     sym (take_all c.loop-side.side-index c.loop-side.sides (omega (arith, c.loop-side.auto.sides))) ∙ c.loop-side.invariant.3 ∙ ap (λ (n : ℕ). replicate n no_side) all
+
+pub returns-clause-lawful : goal.returns-clause-lawful
+returns-clause-lawful c =
+    subst (λ (l : List Side). All (λ (s : Side). All IsLawfulHeld s.items) l)
+    (take_all c.loop-side.side-index c.args.sides.now (omega (arith, c.loop-side.auto.side-index-end, c.loop-side-test.false))) c.loop-side.invariant.4

@@ -1,4 +1,6 @@
 use Rattle.std.proofs.Common.{◌≡◌, ◌+◌, ◌≤◌, ◌++◌, map, take, drop, replicate, vec_len, vec_capacity}
+use Rattle.std.specs.List.{All}
+use Rattle.rk_entry.specs.Lawful.{IsLawfulHeld}
 use Rattle.rk_world.specs.SideLogs.{sealed_sides}
 use Rattle.rk_side_log.specs.Side.{no_side}
 use Rattle.rk_side_log.specs.Sides.{items_of_each, made_in}
@@ -11,3 +13,4 @@ invariant-loop-side l =
     × (vec_len l.sealed + made_in (drop l.side-index l.initial.sides) ≤ vec_capacity l.sealed)
     × (drop l.side-index l.sides ≡ drop l.side-index l.initial.sides)
     × (take l.side-index l.sides ≡ replicate l.side-index no_side)
+    × All (λ side. All IsLawfulHeld side.items) (take l.side-index l.initial.sides)

@@ -1,7 +1,9 @@
-use Rattle.std.proofs.Common.{◌≡◌, ◌∙◌, ◌++◌, ℕ, List, take, map, sym, ap}
+use Rattle.std.proofs.Common.{◌≡◌, ◌∙◌, ◌++◌, ℕ, List, take, map, sym, ap, subst}
+use Rattle.std.specs.List.{All}
 use Rattle.std.specs.Prelude.{is_ok}
 use Rattle.std.proofs.lemmas.Bool.{cond-true}
 use Rattle.std.proofs.lemmas.List.{map-append, take-map}
+use Rattle.rk_entry.specs.Lawful.{IsLawfulHeld}
 use Rattle.rk_segment.specs.Segment.{NumberedBytes}
 use Rattle.rk_world.specs.SideLogs.{cut_items}
 use Rattle.rk_side_log.specs.Side.{Side}
@@ -22,3 +24,6 @@ returns-clause-bytes c =
     ∙ sym (spelled_cut (items_read bytes)) ∙ ap (λ (s : Side). map spelled_items (cut_items s.items)) c.self.view_is in
     ap bytes_in moved ∙ map-append (λ (s : NumberedBytes). s.bytes) c.args.sealed.now.items (take c.self.inside.used c.self.inside.segments.items)
     ∙ ap (λ (l : List (List ℕ)). bytes_in c.args.sealed.now.items ++ l) front
+
+pub returns-clause-lawful : goal.returns-clause-lawful
+returns-clause-lawful c = subst (λ (s : Side). All IsLawfulHeld s.items) c.self.view_is c.self.invariant.lawful

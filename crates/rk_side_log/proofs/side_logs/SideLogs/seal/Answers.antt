@@ -1,4 +1,8 @@
-use Rattle.std.proofs.Common.{◌≡◌, ◌∙◌, ℕ, List, Vec, length, replicate, sym, ap, arith}
+use Rattle.std.proofs.Common.{◌≡◌, ◌∙◌, ℕ, List, Vec, length, replicate, sym, ap, subst, arith}
+use Rattle.std.specs.List.{All}
+use Rattle.std.proofs.lemmas.List.Elements.{All-map}
+use Rattle.rk_entry.specs.Lawful.{IsLawfulHeld}
+use Rattle.rk_types.specs.declared.held.Held.{Held}
 use Rattle.std.specs.Global.{Global}
 use Rattle.rk_segment.specs.Segment.{NumberedBytes}
 use Rattle.rk_side_log.specs.Side.{Side, no_side}
@@ -18,3 +22,8 @@ pub returns-clause-empty : goal.returns-clause-empty
 returns-clause-empty c =
     let four : length c.self.inside.workers ≡ 4 = omega arith in
     ap items_of_each c.seal_all.ensures.empty ∙ ap (λ (n : ℕ). items_of_each (replicate n no_side)) four
+
+pub returns-clause-lawful : goal.returns-clause-lawful
+returns-clause-lawful c =
+    subst (λ (l : List (List Held)). All (All IsLawfulHeld) l) c.self.view_is
+    (All-map (All IsLawfulHeld) (λ (s : Side). s.items) c.self.inside.workers c.seal_all.ensures.lawful)
