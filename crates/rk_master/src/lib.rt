@@ -3,7 +3,8 @@
 //!
 //! It stands on `rk_world`, whose definitions say what a master does. What it promises: [`MasterLane::handle`] makes of a
 //! request just what the definitions do, [`MasterLane::take_stored`] of what a backup tells, and [`MasterLane::take_close`]
-//! and its like of an order: the master after it, what it sends, and which calls it served. Neither requests nor commits
+//! and its like of an order: the master after it, what it sends, and which calls it served. On its [`MasterLane::turn`] it
+//! sends each backup what that lacks, and each tablet gets what its role asks for. Neither requests nor commits nor turns
 //! walk over the log, the staged calls or the clients: tablets are looked at, and all else is found by searches. After want
 //! of memory within a change a master is spent, and answers no more.
 //!
@@ -21,6 +22,7 @@ pub use work::Worked;
 mod call_counts;
 mod choice;
 mod commit;
+mod duties;
 mod effects;
 mod master_lane;
 mod orders;
@@ -34,5 +36,6 @@ mod tablet_lane;
 mod tablets;
 #[cfg(test)]
 mod tests;
+mod turn;
 mod waiting;
 mod work;

@@ -5,6 +5,7 @@ ghost use Rattle.rk_world.specs.Premises.{IsLawfulCall};
 ghost use Rattle.rk_log.specs.Log.{IsBackup, overreach};
 ghost use Rattle.rk_world.specs.Commits.{stored_taken};
 ghost use Rattle.rk_world.specs.Handovers.{close_taken, grant_taken, own_taken, prepare_taken, release_taken};
+ghost use Rattle.rk_world.specs.MasterTurn.{master_turn};
 ghost use Rattle.rk_world.specs.Requests.{call_of, request_taken};
 ghost use Rattle.rk_world.specs.Step.{with_added};
 ghost use Rattle.rk_master.specs.Parts.{IsGrantable};
@@ -14,6 +15,7 @@ use crate::requests::take_request;
 use crate::state::MasterState;
 use crate::stored::take_stored;
 use crate::tablets::serve;
+use crate::turn::take_turn;
 use crate::work::Worked;
 use rk_log::MOST_BACKUPS;
 use rk_message::{Grant, Prepare, Request, Stored, Tenure};
@@ -176,6 +178,24 @@ impl MasterLane {
             return Err(NoMemory);
         }
         Ok(take_release(&mut self.state, tenure))
+    }
+
+    /// Takes a turn: each backup is sent what it is not known to hold, and then each tablet gets what its role asks for, by
+    /// rising number. A target asks its source for the batch from its token on, and before it for the hashes that calls
+    /// wait for, where there are some; and a target or a rebuilding master whose closing entry is applied tells the
+    /// coordinator that it has all. After `NoMemory` the master is spent. A look at each backup and each tablet, and the
+    /// time to copy what is sent: a turn with nothing to send costs nothing more.
+    pub fn turn(&mut self) -> Result<Worked, NoMemory>
+        ensures ok { IfOk result (λ work. IsSomeAnd self.old (λ master. IsWork (master_turn master) self.new work)) }
+        ensures err { OnErr result (self.new ≡ None) }
+    {
+        if self.spent {
+            return Err(NoMemory);
+        }
+        self.spent = true;
+        let work = take_turn(&mut self.state)?;
+        self.spent = false;
+        Ok(work)
     }
 
     /// Adds a tablet, which is served from now on. `NoMemory` also where the master is spent; nothing has changed then. A

@@ -10,6 +10,7 @@ ghost use Rattle.rk_world.specs.RoleTests.{is_absent as is_absent_lem, is_frozen
 ghost use Rattle.rk_world.specs.Requests.{counted_up, is_known as is_known_lem, with_wanted};
 ghost use Rattle.rk_transfer.specs.Handover.{frozen, joined};
 ghost use Rattle.rk_world.specs.Tablet.{no_tablet, pulling_from, with_handover, without_merged};
+ghost use Rattle.rk_world.specs.MasterTurn.{with_outstanding};
 ghost use Rattle.rk_world.specs.Waiting.{joined_entry};
 ghost use Rattle.rk_master.specs.Parts.{tablet_of};
 
@@ -88,6 +89,17 @@ impl TabletLane {
     {
         self.wanted.want(hash)?;
         Ok(())
+    }
+
+    /// The batch of wanted hashes to ask for: the outstanding one, or where there is none the oldest 16 or fewer of those
+    /// that are wanted, which are outstanding then. After `NoMemory` they are so too.
+    pub(crate) fn next_batch(&mut self, alloc: Global) -> Result<Listed<u64>, NoMemory>
+        ensures batch { IfOk result (λ hashes. hashes ≡ (tablet_of self.new).pulling.hashes.outstanding) }
+        ensures tablet { tablet_of self.new ≡ with_outstanding (tablet_of self.old) }
+        ensures handover { self.new.handover ≡ self.old.handover }
+    {
+        let batch = self.wanted.next_batch();
+        Ok(Listed::from_vec(Vec::from_slice(alloc, batch)?))
     }
 
     /// Gives the next version: the counter rises by one. `NoMemory` where no version is left, and then nothing has

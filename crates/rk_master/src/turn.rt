@@ -1,0 +1,68 @@
+// What a master does on its turn: it sends each backup what that lacks, and then does its duty for each tablet.
+ghost use Rattle.std.specs.Prelude.{◌≡◌, ◌++◌, IfOk, OnOk};
+ghost use Rattle.rk_log.specs.Log.{IsBackup, pending};
+ghost use Rattle.rk_world.specs.Master.{Master};
+ghost use Rattle.rk_world.specs.MasterTurn as turns;
+ghost use Rattle.rk_master.specs.Parts.{worked_of};
+ghost use Rattle.rk_master.specs.State.{IsState, master_of};
+
+use crate::duties::do_duties;
+use crate::state::MasterState;
+use crate::work::Worked;
+use rk_log::Piece;
+use rk_message::{Append, Body, Message};
+use rk_types::{Listed, NoMemory, Node};
+
+/// A master's turn: each backup is sent what it lacks, and then each tablet gets what its role asks of the master. A look
+/// at each backup and each tablet, and what is sent takes the time to copy it.
+pub(crate) fn take_turn(state: &mut MasterState) -> Result<Worked, NoMemory>
+    requires { IsState state.old }
+    ensures state { OnOk result (IsState state.new) }
+    ensures ok { IfOk result (λ work. worked_of (master_of state.new) work ≡ turns.master_turn (master_of state.old)) }
+{
+    let mut work = state.nothing();
+    send_pending(state, &mut work)?;
+    do_duties(state, &mut work)?;
+    Ok(work)
+}
+
+// Each backup is sent what it lacks, by rising number. A look at each backup, and the time to copy what is sent.
+fn send_pending(state: &MasterState, work: &mut Worked) -> Result<(), NoMemory>
+    requires { IsState state.now }
+    ensures sends { OnOk result (work.new.sends.items ≡ work.old.sends.items ++ turns.appends (master_of state.now)) }
+    ensures served { OnOk result (work.new.served.items ≡ work.old.served.items) }
+{
+    for before in 0..state.backups {
+        send_to(state, before + 1, work)?;
+    }
+    Ok(())
+}
+
+// A backup is sent what it lacks, where it lacks something. The time to copy that.
+fn send_to(state: &MasterState, backup: u8, work: &mut Worked) -> Result<(), NoMemory>
+    requires { IsBackup state.now.log backup }
+    ensures sends { OnOk result (work.new.sends.items
+        ≡ work.old.sends.items ++ turns.append_of (master_of state.now) backup (pending state.now.log backup)) }
+    ensures served { OnOk result (work.new.served.items ≡ work.old.served.items) }
+{
+    let Some(piece) = state.log.pending(backup)? else {
+        return Ok(());
+    };
+    work.send(append_to(state.number, backup, piece))?;
+    Ok(())
+}
+
+// A master of this number hands a backup bytes of a segment.
+fn append_to(number: u8, backup: u8, piece: Piece) -> Message
+    ensures { (master : Master) → master.number ≡ number → result ≡ turns.append_to master backup piece }
+{
+    Message {
+        from: Node::Master(number),
+        to: Node::Backup(backup),
+        body: Body::Append(Append {
+            segment: piece.segment,
+            at: piece.at,
+            bytes: Listed::from_vec(piece.bytes),
+        }),
+    }
+}
