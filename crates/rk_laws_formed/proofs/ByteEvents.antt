@@ -1,8 +1,10 @@
--- The bytes of all logs of a lane fit after each event that brings few bytes.
-use Rattle.std.proofs.Common.{◌≡◌, ◌≤◌, ◌<◌, ◌+◌, ℕ, false, Option, None, Some, [], refl, subst, arith}
+-- The bytes of all logs of a lane rise by each event at most threefold, by an entry, and by what the event brings; so they fit after each
+-- event that brings few.
+use Rattle.std.proofs.Common.{◌≡◌, ◌≤◌, ◌<◌, ◌+◌, ◌*◌, ℕ, false, Option, None, Some, [], refl, subst, arith}
 use Rattle.std.specs.Prelude.{unwrap_or}
 use Rattle.std.proofs.lemmas.Bool.{cond_both}
-use Rattle.rk_types.specs.NumberMap.{get}
+use Rattle.std.proofs.lemmas.List.Sums.{sum-map}
+use Rattle.rk_types.specs.NumberMap.{get, insert}
 use Rattle.rk_types.specs.declared.node.Node.{Node}
 use Rattle.rk_types.specs.declared.node.Node.TheVariants as nodes
 use Rattle.rk_types.specs.declared.range.Range.{Range}
@@ -18,23 +20,24 @@ use Rattle.rk_world.specs.declared.event.Event.{Event}
 use Rattle.rk_world.specs.declared.event.Event.TheVariants as events
 use Rattle.rk_world.specs.Backup.{Backed, Called, backup_step, stored_after}
 use Rattle.rk_world.specs.Formed.{IsWellFormed}
+use Rattle.rk_world.specs.Ledger.{is_added, with_client}
 use Rattle.rk_world.specs.Limits.{IsFormedMessage, IsThere, limits_of}
 use Rattle.rk_world.specs.Master.{Master, log_bytes, new_master, tablet_at}
 use Rattle.rk_world.specs.MasterStep.{master_step}
 use Rattle.rk_world.specs.MasterTurn.{master_turn}
 use Rattle.rk_world.specs.Premises.{IsMaster, MayHappen, MayTurn}
-use Rattle.rk_world.specs.Refusals.{WORN_BYTES, comes_anyway, refusal}
+use Rattle.rk_world.specs.Refusals.{comes_anyway, refusal}
 use Rattle.rk_world.specs.Room.{HasRoom, MOST_BYTES}
 use Rattle.rk_world.specs.Splits.{owner_split, row_split, with_split}
-use Rattle.rk_world.specs.Step.{Stepped, backed_at, delivered, delivered_to, happened, log_bytes_of, losing, quietly, seen_in, tablet_added, to_backup, to_master, turned, with_added, with_sends, worked_at}
-use Rattle.rk_world.specs.World.{World, bytes_of_logs, has_crashed, is_backup, master_at, with_master, with_stored_by}
+use Rattle.rk_world.specs.Step.{Stepped, backed_at, client_added, delivered, delivered_to, happened, log_bytes_of, losing, quietly, seen_in, sent_again, tablet_added, to_backup, to_master, turned, with_added, with_sends, worked_at}
+use Rattle.rk_world.specs.World.{World, bytes_of_logs, has_crashed, is_backup, master_at, with_ledger, with_master, with_stored_by}
 use Rattle.rk_laws_formed.proofs.Bounds.{within_sum_of}
 use Rattle.rk_laws_formed.proofs.Events.{comes_fresh}
 use Rattle.rk_laws_formed.proofs.LogBytes.{bytes_with_tablet, unsealed_at_most}
-use Rattle.rk_laws_formed.proofs.MapSums.{inserted_most}
-use Rattle.rk_laws_formed.proofs.Rooms.{room_again, room_come, room_crashed, room_forgotten}
-use Rattle.rk_laws_formed.specs.Brought.{MOST_BROUGHT, brought, brought_by, brought_in, brought_to}
-use Rattle.rk_laws_formed.proofs.StepBytes.{BytesFit, split_bytes, told_bytes}
+use Rattle.rk_laws_formed.proofs.MapSums.{size_found, sum_inserted}
+use Rattle.rk_laws_formed.proofs.Numbered.{numbered_order}
+use Rattle.rk_laws_formed.specs.Brought.{LONGEST_LEFT, MOST_BROUGHT, brought, brought_by, brought_in, brought_to, most_after}
+use Rattle.rk_laws_formed.proofs.StepBytes.{split_bytes, told_bytes}
 use Rattle.rk_laws_formed.proofs.TurnBytes.{turn_bytes}
 use Rattle.rk_laws_formed.proofs.Worlds.{formed_limits, master_of}
 
@@ -47,35 +50,60 @@ master_below w number = go (get w.masters number) refl
     go None is = omega arith
     go (Some master) is = within_sum_of log_bytes w.masters number master is
 
--- where a master fits, the logs of the lane fit
-logs_fit : (w : World) (number : ℕ) (master : Master) → bytes_of_logs w < WORN_BYTES → BytesFit master → bytes_of_logs (with_master w number master) < MOST_BYTES
-logs_fit w number master fresh fits = omega (arith, fresh, fits, inserted_most log_bytes w.masters number master)
+-- a master that is not there has none
+size_there : (w : World) (number : ℕ) → size_found log_bytes (get w.masters number) ≡ log_bytes (master_at w number)
+size_there w number = go (get w.masters number)
+  where
+    go : (found : Option Master) → size_found log_bytes found ≡ log_bytes (unwrap_or found (new_master number []))
+    go None = refl
+    go (Some master) = refl
+
+-- as a master rises, so do the logs of the lane
+logs_rise : (w : World) (number : ℕ) (now : Master) (more : ℕ) → IsWellFormed w
+    → log_bytes now ≤ 3 * log_bytes (master_at w number) + LONGEST_LEFT + more
+    → bytes_of_logs (with_master w number now) ≤ 3 * bytes_of_logs w + LONGEST_LEFT + more
+logs_rise w number now more formed rises =
+    omega (
+      arith,
+      rises,
+      master_below w number,
+      size_there w number,
+      sum_inserted log_bytes w.masters number now (numbered_order w.masters w.coordinator.masters formed.masters_are),
+      sum-map (λ (entry : ℕ × Master). log_bytes entry.1) w.masters,
+      sum-map (λ (entry : ℕ × Master). log_bytes entry.1) (insert w.masters number now),
+    )
+
+-- logs that stay as they are rise no further
+stays : (w now : World) (more : ℕ) → bytes_of_logs now ≡ bytes_of_logs w → bytes_of_logs now ≤ 3 * bytes_of_logs w + LONGEST_LEFT + more
+stays w now more same = omega (arith, same)
 
 -- ---- a message and a turn
 
-master_bytes : (w : World) (number : ℕ) (message : Message) → bytes_of_logs w < WORN_BYTES → IsMaster w.coordinator.masters number → IsFormedMessage (limits_of w) message
-    → brought_by (master_at w number) message.body ≤ MOST_BROUGHT → IsWellFormed w → HasRoom w
-    → bytes_of_logs (to_master w number message).world < MOST_BYTES
-master_bytes w number message fresh there told few formed room =
+master_bytes : (w : World) (number : ℕ) (message : Message) → IsMaster w.coordinator.masters number → IsFormedMessage (limits_of w) message
+    → IsWellFormed w → HasRoom w
+    → bytes_of_logs (to_master w number message).world ≤ 3 * bytes_of_logs w + LONGEST_LEFT + brought_by (master_at w number) message.body
+master_bytes w number message there told formed room =
     cond_both (has_crashed w number) (losing w) (worked_at w number (seen_in message.body) (master_step (master_at w number) message))
-    (λ (stepped : Stepped). bytes_of_logs stepped.world < MOST_BYTES)
-    (λ crashed. room.bytes)
+    (λ (stepped : Stepped). bytes_of_logs stepped.world ≤ 3 * bytes_of_logs w + LONGEST_LEFT + brought_by (master_at w number) message.body)
+    (λ crashed. stays w w (brought_by (master_at w number) message.body) refl)
     (λ living.
-    logs_fit w number (master_step (master_at w number) message).master fresh
-    (told_bytes (master_at w number) (omega (arith, fresh, master_below w number)) (limits_of w) number message.from message.body
-    (formed_limits w formed room) (master_of w number there formed) told.says few))
+    logs_rise w number (master_step (master_at w number) message).master (brought_by (master_at w number) message.body) formed
+    (told_bytes (master_at w number) (omega (arith, room.bytes, master_below w number)) (limits_of w) number message.from message.body
+    (formed_limits w formed room) (master_of w number there formed) told.says))
 
-stored_logs : (w : World) (backup : ℕ) (store : Segments → Segments) (found : Option Segments) → bytes_of_logs (with_stored_by w backup store found) ≡ bytes_of_logs w
+stored_logs : (w : World) (backup : ℕ) (store : Segments → Segments) (found : Option Segments)
+    → bytes_of_logs (with_stored_by w backup store found) ≡ bytes_of_logs w
 stored_logs w backup store None = refl
 stored_logs w backup store (Some segments) = refl
 
-backup_bytes : (w : World) (backup : ℕ) (sender : Node) (body : Body) (called : Called) → HasRoom w → bytes_of_logs (to_backup w backup sender body called).world < MOST_BYTES
-backup_bytes w backup sender body called room =
-    cond_both (is_backup w backup) (backed_at stored backed) (quietly w) (λ (stepped : Stepped). bytes_of_logs stepped.world < MOST_BYTES)
+backup_bytes : (w : World) (backup : ℕ) (sender : Node) (body : Body) (called : Called)
+    → bytes_of_logs (to_backup w backup sender body called).world ≡ bytes_of_logs w
+backup_bytes w backup sender body called =
+    cond_both (is_backup w backup) (backed_at stored backed) (quietly w) (λ (stepped : Stepped). bytes_of_logs stepped.world ≡ bytes_of_logs w)
     (λ is.
-    cond_both backed.lost (losing stored) (with_sends stored backed.sends) (λ (stepped : Stepped). bytes_of_logs stepped.world < MOST_BYTES)
-    (λ lost. fits) (λ answers. fits))
-    (λ apart. room.bytes)
+    cond_both backed.lost (losing stored) (with_sends stored backed.sends) (λ (stepped : Stepped). bytes_of_logs stepped.world ≡ bytes_of_logs w)
+    (λ lost. same) (λ answers. same))
+    (λ apart. refl)
   where
     stored : World
     stored = with_stored_by w backup (λ segments. stored_after segments sender body called) (get w.backups backup)
@@ -83,47 +111,45 @@ backup_bytes w backup sender body called room =
     backed : Backed
     backed = backup_step backup sender body (log_bytes_of w) called
 
-    fits : bytes_of_logs stored < MOST_BYTES
-    fits =
-        omega (arith, room.bytes, stored_logs w backup (λ segments. stored_after segments sender body called) (get w.backups backup))
+    same : bytes_of_logs stored ≡ bytes_of_logs w
+    same = stored_logs w backup (λ segments. stored_after segments sender body called) (get w.backups backup)
 
-received_bytes : (w : World) (message : Message) (to : Node) (called : Called) → message.to ≡ to → bytes_of_logs w < WORN_BYTES
-    → IsFormedMessage (limits_of w) message → brought_to w to message.body ≤ MOST_BROUGHT → IsWellFormed w → HasRoom w
-    → bytes_of_logs (delivered_to w message to called).world < MOST_BYTES
-received_bytes w message (nodes.Client client) called is fresh told few formed room = room.bytes
-received_bytes w message nodes.Coordinator called is fresh told few formed room = room.bytes
-received_bytes w message (nodes.Master master) called is fresh told few formed room =
-    master_bytes w master message fresh (subst (λ to. IsThere (limits_of w) to) is told.to) told few formed room
-received_bytes w message (nodes.Backup backup) called is fresh told few formed room =
-    backup_bytes w backup message.from message.body called room
+received_bytes : (w : World) (message : Message) (to : Node) (called : Called) → message.to ≡ to → IsFormedMessage (limits_of w) message
+    → IsWellFormed w → HasRoom w
+    → bytes_of_logs (delivered_to w message to called).world ≤ 3 * bytes_of_logs w + LONGEST_LEFT + brought_to w to message.body
+received_bytes w message (nodes.Client client) called is told formed room = stays w w 0 refl
+received_bytes w message nodes.Coordinator called is told formed room = stays w w 0 refl
+received_bytes w message (nodes.Master master) called is told formed room =
+    master_bytes w master message (subst (λ to. IsThere (limits_of w) to) is told.to) told formed room
+received_bytes w message (nodes.Backup backup) called is told formed room =
+    stays w (to_backup w backup message.from message.body called).world 0 (backup_bytes w backup message.from message.body called)
 
-delivered_bytes : (w : World) (number : ℕ) (called : Called) → bytes_of_logs w < WORN_BYTES → brought w (events.Deliver number) ≤ MOST_BROUGHT
-    → IsWellFormed w → HasRoom w → bytes_of_logs (happened w (events.Deliver number) called).world < MOST_BYTES
-delivered_bytes w number called fresh few formed room = go (get w.wire.messages number) refl few
+delivered_bytes : (w : World) (number : ℕ) (called : Called) → IsWellFormed w → HasRoom w
+    → bytes_of_logs (happened w (events.Deliver number) called).world ≤ most_after w (events.Deliver number)
+delivered_bytes w number called formed room = go (get w.wire.messages number) refl
   where
-    go : (found : Option Message) → get w.wire.messages number ≡ found → brought_in w found ≤ MOST_BROUGHT
-        → bytes_of_logs (delivered w found called).world < MOST_BYTES
-    go None is it = room.bytes
-    go (Some message) is it =
-        received_bytes w message message.to called refl fresh (formed.wire.each number message is) it formed room
+    go : (found : Option Message) → get w.wire.messages number ≡ found
+        → bytes_of_logs (delivered w found called).world ≤ 3 * bytes_of_logs w + LONGEST_LEFT + brought_in w found
+    go None is = stays w w 0 refl
+    go (Some message) is = received_bytes w message message.to called refl (formed.wire.each number message is) formed room
 
-turned_bytes : (w : World) (node : Node) → MayTurn w.coordinator.masters node → bytes_of_logs w < WORN_BYTES → IsWellFormed w → HasRoom w → bytes_of_logs (turned w node).world < MOST_BYTES
-turned_bytes w (nodes.Client client) there fresh formed room = room.bytes
-turned_bytes w nodes.Coordinator there fresh formed room = room.bytes
-turned_bytes w (nodes.Master master) there fresh formed room =
-    logs_fit w master (master_turn (master_at w master)).master fresh
-    (omega (arith, fresh, master_below w master, turn_bytes (master_at w master) (master_of w master there formed).tablets_order))
-turned_bytes w (nodes.Backup backup) there fresh formed room = room.bytes
+turned_bytes : (w : World) (node : Node) → MayTurn w.coordinator.masters node → IsWellFormed w
+    → bytes_of_logs (turned w node).world ≤ 3 * bytes_of_logs w + LONGEST_LEFT + 0
+turned_bytes w (nodes.Client client) there formed = stays w w 0 refl
+turned_bytes w nodes.Coordinator there formed = stays w w 0 refl
+turned_bytes w (nodes.Master master) there formed =
+    logs_rise w master (master_turn (master_at w master)).master 0 formed
+    (omega (arith, turn_bytes (master_at w master) (master_of w master there formed).tablets_order))
+turned_bytes w (nodes.Backup backup) there formed = stays w w 0 refl
 
 -- ---- rows change
 
-added_bytes : (w : World) (tablet : ℕ) (range : Range) (master : ℕ) → bytes_of_logs w < WORN_BYTES → bytes_of_logs (quietly (tablet_added w tablet range master)).world < MOST_BYTES
-added_bytes w tablet range master fresh =
-    logs_fit w master (with_added (master_at w master) tablet range) fresh
+added_bytes : (w : World) (tablet : ℕ) (range : Range) (master : ℕ) → IsWellFormed w
+    → bytes_of_logs (quietly (tablet_added w tablet range master)).world ≤ 3 * bytes_of_logs w + LONGEST_LEFT + 0
+added_bytes w tablet range master formed =
+    logs_rise w master (with_added (master_at w master) tablet range) 0 formed
     (omega (
       arith,
-      fresh,
-      master_below w master,
       unsealed_at_most (master_at w master) tablet,
       bytes_with_tablet (master_at w master) tablet
           (record (tablet_at (master_at w master) tablet) {
@@ -131,44 +157,71 @@ added_bytes w tablet range master fresh =
           }),
     ))
 
-owner_bytes : (w : World) (tablet : ℕ) (phase : Phase) (at new term : ℕ) → bytes_of_logs w < WORN_BYTES → bytes_of_logs (owner_split w tablet phase at new term) < MOST_BYTES
-owner_bytes w tablet (Owned master from) at new term fresh =
+owner_bytes : (w : World) (tablet : ℕ) (phase : Phase) (at new term : ℕ) → IsWellFormed w
+    → bytes_of_logs (owner_split w tablet phase at new term) ≤ 3 * bytes_of_logs w + LONGEST_LEFT + 0
+owner_bytes w tablet (Owned master from) at new term formed =
     cond_both (has_crashed w master) w (with_master w master (with_split (master_at w master) tablet at new term))
-    (λ (now : World). bytes_of_logs now < MOST_BYTES)
-    (λ crashed. omega (arith, fresh))
+    (λ (now : World). bytes_of_logs now ≤ 3 * bytes_of_logs w + LONGEST_LEFT + 0)
+    (λ crashed. stays w w 0 refl)
     (λ living.
-    logs_fit w master (with_split (master_at w master) tablet at new term) fresh
-    (omega (arith, fresh, master_below w master, split_bytes (master_at w master) tablet at new term)))
-owner_bytes w tablet (Opening source sfrom target dfrom) at new term fresh = omega (arith, fresh)
-owner_bytes w tablet (Moving source sfrom target dfrom) at new term fresh = omega (arith, fresh)
-owner_bytes w tablet (Rebuilding lineage to) at new term fresh = omega (arith, fresh)
+    logs_rise w master (with_split (master_at w master) tablet at new term) 0 formed
+    (omega (arith, split_bytes (master_at w master) tablet at new term)))
+owner_bytes w tablet (Opening source sfrom target dfrom) at new term formed = stays w w 0 refl
+owner_bytes w tablet (Moving source sfrom target dfrom) at new term formed = stays w w 0 refl
+owner_bytes w tablet (Rebuilding lineage to) at new term formed = stays w w 0 refl
 
-row_bytes : (w : World) (found : Option Row) (at new : ℕ) → bytes_of_logs w < WORN_BYTES → bytes_of_logs (row_split w found at new) < MOST_BYTES
-row_bytes w None at new fresh = omega (arith, fresh)
-row_bytes w (Some row) at new fresh = owner_bytes w row.tablet row.phase at new (row.term + 1) fresh
+row_bytes : (w : World) (found : Option Row) (at new : ℕ) → IsWellFormed w
+    → bytes_of_logs (row_split w found at new) ≤ 3 * bytes_of_logs w + LONGEST_LEFT + 0
+row_bytes w None at new formed = stays w w 0 refl
+row_bytes w (Some row) at new formed = owner_bytes w row.tablet row.phase at new (row.term + 1) formed
+
+-- ---- clients
+
+come_bytes : (w : World) (client : ℕ) → bytes_of_logs (client_added w client) ≡ bytes_of_logs w
+come_bytes w client =
+    cond_both (is_added w.ledger client) w (with_ledger w (with_client w.ledger client)) (λ (now : World). bytes_of_logs now ≡ bytes_of_logs w)
+    (λ added. refl) (λ new. refl)
+
+again_bytes : (w : World) (request : Option Message) → bytes_of_logs (sent_again w request).world ≡ bytes_of_logs w
+again_bytes w None = refl
+again_bytes w (Some message) = refl
 
 -- ---- every event
 
--- the bytes of all logs fit after an event that is not refused and brings few
+-- how many bytes all logs have at most after an event that is not refused
+pub bytes_rise : (w : World) (event : Event) (called : Called) → MayHappen w event → refusal w event ≡ None → IsWellFormed w → HasRoom w
+    → bytes_of_logs (happened w event called).world ≤ most_after w event
+bytes_rise w (events.AddTablet tablet range master) called may none formed room = added_bytes w tablet range master formed
+bytes_rise w (events.AddClient client) called may none formed room = stays w (client_added w client) 0 (come_bytes w client)
+bytes_rise w (events.Deliver number) called may none formed room = delivered_bytes w number called formed room
+bytes_rise w (events.Forget number) called may none formed room = stays w w 0 refl
+bytes_rise w (events.Turn node) called may none formed room = turned_bytes w node may formed
+bytes_rise w (events.Again client) called may none formed room =
+    stays w (sent_again w (get w.ledger.requests client)).world 0 (again_bytes w (get w.ledger.requests client))
+bytes_rise w (events.Migrate tablet to) called may none formed room = stays w w 0 refl
+bytes_rise w (events.Split tablet at new) called may none formed room = row_bytes w (row_of w.coordinator.rows tablet) at new formed
+bytes_rise w (events.Crash master) called may none formed room = stays w w 0 refl
+bytes_rise w (events.Notice master) called may none formed room = stays w w 0 refl
+
+-- so they fit after one that brings few
 pub bytes_event : (w : World) (event : Event) (called : Called) → MayHappen w event → refusal w event ≡ None → brought w event ≤ MOST_BROUGHT
     → IsWellFormed w → HasRoom w → bytes_of_logs (happened w event called).world < MOST_BYTES
 bytes_event w event called may none few formed room = go event may none few
   where
-    fresh : (event : Event) → comes_anyway event ≡ false → refusal w event ≡ None → bytes_of_logs w < WORN_BYTES
-    fresh event careful none = (comes_fresh w event careful none).bytes
+    careful : (event : Event) → comes_anyway event ≡ false → MayHappen w event → refusal w event ≡ None → brought w event ≤ MOST_BROUGHT
+        → bytes_of_logs (happened w event called).world < MOST_BYTES
+    careful event is may none few =
+        omega (arith, few, (comes_fresh w event is none).bytes, bytes_rise w event called may none formed room)
 
     go : (event : Event) → MayHappen w event → refusal w event ≡ None → brought w event ≤ MOST_BROUGHT
         → bytes_of_logs (happened w event called).world < MOST_BYTES
-    go (events.AddTablet tablet range master) may none few =
-        added_bytes w tablet range master (fresh (events.AddTablet tablet range master) refl none)
-    go (events.AddClient client) may none few = (room_come w client called formed room).bytes
-    go (events.Deliver number) may none few =
-        delivered_bytes w number called (fresh (events.Deliver number) refl none) few formed room
-    go (events.Forget number) may none few = (room_forgotten w number called formed room).bytes
-    go (events.Turn node) may none few = turned_bytes w node may (fresh (events.Turn node) refl none) formed room
-    go (events.Again client) may none few = (room_again w client called none formed room).bytes
-    go (events.Migrate tablet to) may none few = room.bytes
-    go (events.Split tablet at new) may none few =
-        row_bytes w (row_of w.coordinator.rows tablet) at new (fresh (events.Split tablet at new) refl none)
-    go (events.Crash master) may none few = (room_crashed w master called formed room).bytes
-    go (events.Notice master) may none few = room.bytes
+    go (events.Forget number) may none few = room.bytes
+    go (events.Crash master) may none few = room.bytes
+    go (events.AddTablet tablet range master) may none few = careful (events.AddTablet tablet range master) refl may none few
+    go (events.AddClient client) may none few = careful (events.AddClient client) refl may none few
+    go (events.Deliver number) may none few = careful (events.Deliver number) refl may none few
+    go (events.Turn node) may none few = careful (events.Turn node) refl may none few
+    go (events.Again client) may none few = careful (events.Again client) refl may none few
+    go (events.Migrate tablet to) may none few = careful (events.Migrate tablet to) refl may none few
+    go (events.Split tablet at new) may none few = careful (events.Split tablet at new) refl may none few
+    go (events.Notice master) may none few = careful (events.Notice master) refl may none few

@@ -30,6 +30,7 @@ use Rattle.rk_entry.specs.declared.kind.TheConstants.{MARK_BYTES}
 use Rattle.rk_world.specs.Formed.{MOST_BASE_CLIENTS}
 use Rattle.rk_world.specs.Material.{as_entries}
 use Rattle.rk_world.specs.Refusals.{MOST_CLIENTS}
+use Rattle.rk_laws_formed.specs.Brought.{LONGEST_LEFT}
 use Rattle.rk_laws_formed.proofs.Bounds.{within_sum_of}
 use Rattle.rk_laws_formed.proofs.Sealing.{none_spelled}
 use Rattle.rk_laws_formed.proofs.MapSums.{inserted_most, size_found, sum_inserted}
@@ -122,10 +123,6 @@ bytes_given_up master id range =
     )
 
 -- ---- entries
-
--- an entry that a request or a grant leaves is no longer than this
-abbrev pub LONGEST_LEFT : ℕ
-LONGEST_LEFT = 2 ^ 20
 
 pub mark_few : (kind : Kind) → mark_count kind ≤ 1
 mark_few kind = cond_both (is_marked kind) MARK_BYTES 0 (λ (n : ℕ). n ≤ 1) (λ is. omega arith) (λ is. omega arith)

@@ -10,6 +10,7 @@ use Rattle.std.proofs.lemmas.Bool.{cases_eq, cases_lt, cond-false, cond-true, eq
 use Rattle.rk_types.proofs.NumberMaps.{get_other, get_same, in_order_insert, same_map}
 use Rattle.rk_types.specs.NumberMap.{IsInOrder, NumberMap, changed_each, get, insert, numbers}
 use Rattle.rk_world.specs.Premises.{IsMaster}
+use Rattle.rk_laws_formed.proofs.Maps.{first as first_of, second as second_of}
 
 -- ---- things of numbers that follow one another
 
@@ -113,6 +114,25 @@ range_in_order start zero = tt
 range_in_order start (suc count) =
     both_hold (below_all nat_cmp start (ticks (range_with_len (start + 1) count))) (is_sorted nat_cmp (ticks (range_with_len (start + 1) count)))
     (below_range start (start + 1) count (omega arith)) (range_in_order (start + 1) count)
+
+-- a map whose numbers are those of a range is in order
+below_ticked : {X : Type 0} (n : ℕ) (things : NumberMap X) → T (below_all nat_cmp n (ticked things)) → T (below_all nat_cmp n things)
+below_ticked n [] below = tt
+below_ticked n (thing ∷ things) below =
+    both_hold (is_lt (nat_cmp n thing.0)) (below_all nat_cmp n things)
+    (first_of (is_lt (nat_cmp n thing.0)) (below_all nat_cmp n (ticked things)) below)
+    (below_ticked n things (second_of (is_lt (nat_cmp n thing.0)) (below_all nat_cmp n (ticked things)) below))
+
+ticked_order : {X : Type 0} (things : NumberMap X) → IsInOrder (ticked things) → IsInOrder things
+ticked_order [] order = tt
+ticked_order (thing ∷ things) order =
+    both_hold (below_all nat_cmp thing.0 things) (is_sorted nat_cmp things)
+    (below_ticked thing.0 things (first_of (below_all nat_cmp thing.0 (ticked things)) (is_sorted nat_cmp (ticked things)) order))
+    (ticked_order things (second_of (below_all nat_cmp thing.0 (ticked things)) (is_sorted nat_cmp (ticked things)) order))
+
+pub numbered_order : {X : Type 0} (things : NumberMap X) (count : ℕ) → numbers things ≡ range_with_len 1 count → IsInOrder things
+numbered_order things count are =
+    ticked_order things (subst IsInOrder (sym (ticked_is things ∙ ap ticks are)) (range_in_order 1 count))
 
 ticked_insert : {X : Type 0} (things : NumberMap X) (n : ℕ) (thing : X) → ticked (insert things n thing) ≡ insert (ticked things) n 0
 ticked_insert [] n thing = refl

@@ -39,7 +39,7 @@ use Rattle.rk_world.specs.RoleTests.{is_gathering}
 use Rattle.rk_world.specs.Tablet.{Tablet, no_tablet, pulling_from}
 use Rattle.rk_world.specs.Worked.{changed}
 use Rattle.rk_laws_formed.proofs.CopyBytes.{begun_copies, copies_within}
-use Rattle.rk_laws_formed.proofs.LogBytes.{LONGEST_LEFT, bytes_appended, bytes_given_up, carried_short, pulls_none}
+use Rattle.rk_laws_formed.proofs.LogBytes.{bytes_appended, bytes_given_up, carried_short, pulls_none}
 use Rattle.rk_laws_formed.proofs.Maps.{found_changed}
 use Rattle.rk_laws_formed.proofs.PullBytes.{HasBytes, first_bytes, items_bytes, more_has, put_has, same_has}
 use Rattle.rk_laws_formed.proofs.Rebuilding.{begins, few_ends, formed_gathered, merge_formed}
@@ -47,7 +47,7 @@ use Rattle.rk_laws_formed.proofs.Handovers.{one_stood}
 use Rattle.rk_laws_formed.proofs.Sealing.{first_holds}
 use Rattle.rk_laws_formed.proofs.Tablets.{tablet_with_same}
 use Rattle.rk_laws_formed.proofs.Work.{AreLimits}
-use Rattle.rk_laws_formed.specs.Brought.{copied_bytes}
+use Rattle.rk_laws_formed.specs.Brought.{LONGEST_LEFT, copied_bytes}
 
 -- ---- a merge
 

@@ -1,5 +1,5 @@
--- How many bytes a master has after a message that brings few: for a request, a grant and a rebuild an entry more, what the message
--- brings, and at most as many again as before for each tablet that changes.
+-- How many bytes a master has after a message: for a request, a grant and a rebuild an entry more, what the message brings, and at most
+-- as many again as before for each tablet that changes.
 use Rattle.std.proofs.Common.{◌≤◌, ◌<◌, ◌+◌, ◌*◌, ◌==◌, ℕ, Bool, true, false, cond, [], length, Option, None, Some, refl, ap, arith}
 use Rattle.std.proofs.lemmas.Bool.{cond_both}
 use Rattle.std.proofs.lemmas.List.Elements.{All-weaker}
@@ -13,6 +13,8 @@ use Rattle.rk_message.specs.declared.handover.Prepare.{Prepare}
 use Rattle.rk_message.specs.declared.handover.Tenure.{Tenure}
 use Rattle.rk_message.specs.declared.message.Body.{Body}
 use Rattle.rk_message.specs.declared.message.Body.TheVariants as bodies
+use Rattle.rk_message.specs.declared.pulling.Pull.{Pull}
+use Rattle.rk_message.specs.declared.pulling.Want.{Want}
 use Rattle.rk_transfer.specs.Handover.{closed, frozen, granted, owned, prepared, released}
 use Rattle.rk_transfer.specs.declared.handover.Handover.{Handover}
 use Rattle.rk_transfer.specs.declared.role.Role.{Role}
@@ -25,7 +27,8 @@ use Rattle.rk_world.specs.Limits.{IsClient, IsFormedBody, IsFormedEnd, IsFormedG
 use Rattle.rk_world.specs.Master.{Master, is_settled, log_bytes, tablet_at, unsealed_bytes, with_appended, with_call, with_tablet, without_items}
 use Rattle.rk_world.specs.MasterStep.{backup_message, client_message, order, peer_message, told_master}
 use Rattle.rk_world.specs.Premises.{IsLawfulCall}
-use Rattle.rk_world.specs.Refusals.{MOST_CLIENTS, WORN_BYTES}
+use Rattle.rk_world.specs.Pulls.{pull_taken, want_taken}
+use Rattle.rk_world.specs.Refusals.{MOST_CLIENTS}
 use Rattle.rk_world.specs.Requests.{call_of, choice_of, chosen, counted_up, item_of, refusal_of, with_staged, with_wanted}
 use Rattle.rk_world.specs.Ranges.{range_below, range_from}
 use Rattle.rk_world.specs.Splits.{has_parts, with_half, with_halves, with_split}
@@ -40,16 +43,13 @@ use Rattle.rk_laws_formed.proofs.Rising.{rising_within}
 use Rattle.rk_laws_formed.proofs.Tablets.{tablet_with_same}
 use Rattle.rk_laws_formed.proofs.Work.{AreLimits}
 use Rattle.rk_log.specs.Log.{overreach}
-use Rattle.rk_laws_formed.specs.Brought.{MOST_BROUGHT, brought_by}
+use Rattle.rk_world.specs.Room.{MOST_BYTES}
+use Rattle.rk_laws_formed.specs.Brought.{LONGEST_LEFT, brought_by}
 use Rattle.rk_laws_formed.proofs.PullBytes.{got_bytes, pulled_bytes}
 use Rattle.rk_laws_formed.proofs.RebuildBytes.{copy_bytes, rebuild_bytes}
 use Rattle.rk_laws_formed.proofs.Sizes.{below_fits, entries_few}
 use Rattle.rk_types.specs.NumberMap.{IsInOrder}
 use Rattle.rk_laws_formed.proofs.TurnBytes.{stored_thrice}
-
--- what a master of a lane that is not worn may have after a step, so that the lane's logs fit
-abbrev pub BytesFit : Master → Type 0
-BytesFit master = log_bytes master < 3 * WORN_BYTES
 
 same_unsealed : (master : Master) (id : ℕ) (tablet : Tablet) → unsealed_bytes tablet ≤ log_bytes master → log_bytes (with_tablet master id tablet) ≤ log_bytes master + log_bytes master
 same_unsealed master id tablet few = omega (arith, few, bytes_with_tablet master id tablet)
@@ -62,7 +62,15 @@ freezing_bytes master id tablet (Some handover) =
     (λ (now : Master). log_bytes now ≤ log_bytes master + unsealed_bytes tablet)
     (λ settled. bytes_with_tablet master id (with_handover tablet handover)) (λ staged. omega arith)
 
-module _ (master : Master) (below : log_bytes master < WORN_BYTES) where
+module _ (master : Master) (below : log_bytes master < MOST_BYTES) where
+  -- what a master may have after a step that brings nothing
+  abbrev BytesFit : Master → Type 0
+  BytesFit now = log_bytes now ≤ 3 * log_bytes master + LONGEST_LEFT
+
+  -- and after a message that brings its bytes
+  risen : (body : Body) (now : Master) → BytesFit now → log_bytes now ≤ 3 * log_bytes master + LONGEST_LEFT + brought_by master body
+  risen body now fits = omega (arith, fits)
+
   kept : BytesFit master
   kept = omega (arith, below)
 
@@ -219,35 +227,43 @@ module _ (master : Master) (below : log_bytes master < WORN_BYTES) where
       )
   order_fits limits number _ are formed says = kept
 
-  peer_fits : (sender : ℕ) (body : Body) → IsInOrder master.tablets → brought_by master body ≤ MOST_BROUGHT
-      → BytesFit (peer_message master (nodes.Master sender) body).master
-  peer_fits sender (bodies.Pull pull) ordered few =
+  pull_fits : (sender : Node) (pull : Pull) → BytesFit (pull_taken master sender pull).master
+  pull_fits sender pull =
       tested (is_frozen_at (tablet_at master pull.tenure.tablet) pull.tenure.term) _ (changed master) kept kept
-  peer_fits sender (bodies.Want want) ordered few =
+
+  want_fits : (sender : Node) (want : Want) → BytesFit (want_taken master sender want).master
+  want_fits sender want =
       tested (is_frozen_at (tablet_at master want.tenure.tablet) want.tenure.term) _ (changed master) kept kept
-  peer_fits sender (bodies.Pulled pulled) ordered few =
-      omega (arith, below, few, pulled_bytes master pulled ordered)
-  peer_fits sender (bodies.Got message) ordered few =
-      omega (arith, below, few, got_bytes master message ordered)
-  peer_fits sender _ ordered few = kept
+
+  peer_fits : (sender : ℕ) (body : Body) → IsInOrder master.tablets
+      → log_bytes (peer_message master (nodes.Master sender) body).master ≤ 3 * log_bytes master + LONGEST_LEFT + brought_by master body
+  peer_fits sender (bodies.Pull pull) ordered =
+      risen (bodies.Pull pull) (pull_taken master (nodes.Master sender) pull).master (pull_fits (nodes.Master sender) pull)
+  peer_fits sender (bodies.Want want) ordered =
+      risen (bodies.Want want) (want_taken master (nodes.Master sender) want).master (want_fits (nodes.Master sender) want)
+  peer_fits sender (bodies.Pulled pulled) ordered = omega (arith, pulled_bytes master pulled ordered)
+  peer_fits sender (bodies.Got message) ordered = omega (arith, got_bytes master message ordered)
+  peer_fits sender other ordered = risen other master kept
 
   backup_fits : (limits : Limits) (number backup : ℕ) (body : Body) → AreLimits limits → IsFormedMaster limits number master
       → IsFormedBody limits (nodes.Backup backup) body
-      → brought_by master body ≤ MOST_BROUGHT → BytesFit (backup_message master backup body).master
-  backup_fits limits number backup (bodies.Stored stored) are formed says few =
-      omega (arith, below, stored_thrice limits number master backup stored (overreach master.log stored.segment stored.length) formed)
-  backup_fits limits number backup (bodies.Copy copy) are formed says few =
-      omega (arith, below, few, copy_bytes limits number master copy are says formed)
-  backup_fits limits number backup _ are formed says few = kept
+      → log_bytes (backup_message master backup body).master ≤ 3 * log_bytes master + LONGEST_LEFT + brought_by master body
+  backup_fits limits number backup (bodies.Stored stored) are formed says =
+      omega (arith, stored_thrice limits number master backup stored (overreach master.log stored.segment stored.length) formed)
+  backup_fits limits number backup (bodies.Copy copy) are formed says =
+      omega (arith, copy_bytes limits number master copy are says formed)
+  backup_fits limits number backup other are formed says = risen other master kept
 
-  -- a message that brings few bytes
+  -- a message: three times the bytes before it, an entry, and what it brings
   pub told_bytes : (limits : Limits) (number : ℕ) (sender : Node) (body : Body) → AreLimits limits → IsFormedMaster limits number master
       → IsFormedBody limits sender body
-      → brought_by master body ≤ MOST_BROUGHT → BytesFit (told_master master sender body).master
-  told_bytes limits number (nodes.Client client) body are formed says few = client_fits limits number client body formed says
-  told_bytes limits number nodes.Coordinator body are formed says few = order_fits limits number body are formed says
-  told_bytes limits number (nodes.Master sender) body are formed says few = peer_fits sender body formed.tablets_order few
-  told_bytes limits number (nodes.Backup backup) body are formed says few = backup_fits limits number backup body are formed says few
+      → log_bytes (told_master master sender body).master ≤ 3 * log_bytes master + LONGEST_LEFT + brought_by master body
+  told_bytes limits number (nodes.Client client) body are formed says =
+      risen body (client_message master client body).master (client_fits limits number client body formed says)
+  told_bytes limits number nodes.Coordinator body are formed says =
+      risen body (order master body).master (order_fits limits number body are formed says)
+  told_bytes limits number (nodes.Master sender) body are formed says = peer_fits sender body formed.tablets_order
+  told_bytes limits number (nodes.Backup backup) body are formed says = backup_fits limits number backup body are formed says
 
 -- ---- a split
 

@@ -1,5 +1,5 @@
 -- How many bytes an event brings to the logs of a lane from elsewhere: items that a target pulled, and copies of what a rebuild read.
-use Rattle.std.specs.Prelude.{ℕ, ◌^◌, length, Option, None, Some}
+use Rattle.std.specs.Prelude.{ℕ, ◌+◌, ◌*◌, ◌^◌, length, Option, None, Some}
 use Rattle.std.specs.List.{sum_by}
 use Rattle.rk_types.specs.NumberMap.{get}
 use Rattle.rk_types.specs.declared.node.Node.{Node}
@@ -12,11 +12,15 @@ use Rattle.rk_world.specs.declared.event.Event.{Event}
 use Rattle.rk_world.specs.declared.event.Event.TheVariants as events
 use Rattle.rk_world.specs.Gather.{Gather, counted, gathering}
 use Rattle.rk_world.specs.Master.{Master, tablet_at}
-use Rattle.rk_world.specs.World.{World, master_at}
+use Rattle.rk_world.specs.World.{World, bytes_of_logs, master_at}
 
 -- where an event brings no more bytes than this, the logs of a lane that is not worn fit after it
 abbrev pub MOST_BROUGHT : ℕ
 MOST_BROUGHT = 2 ^ 27
+
+-- an entry that a master leaves of its own is no longer than this
+abbrev pub LONGEST_LEFT : ℕ
+LONGEST_LEFT = 2 ^ 20
 
 -- how many bytes a rebuild copies at most: those of what it read and counts, once for each member of the lineage
 abbrev pub copied_bytes : Gather → ℕ
@@ -44,3 +48,7 @@ brought_in w (Some message) = brought_to w message.to message.body
 abbrev pub brought : World → Event → ℕ
 brought w (events.Deliver number) = brought_in w (get w.wire.messages number)
 brought w event = 0
+
+-- how many bytes the logs of a lane have at most after an event: three times those before it, an entry, and what the event brings
+abbrev pub most_after : World → Event → ℕ
+most_after w event = 3 * bytes_of_logs w + LONGEST_LEFT + brought w event

@@ -17,7 +17,7 @@ ghost use Rattle.rk_world.specs.Runs as runs;
 ghost use Rattle.rk_world.specs.Step.{happened};
 ghost use Rattle.rk_world.specs.World.{World, bytes_of_logs, new_world};
 ghost use Rattle.rk_laws_formed.specs.Fitting.{AllLogsFit};
-ghost use Rattle.rk_laws_formed.specs.Brought.{MOST_BROUGHT, brought};
+ghost use Rattle.rk_laws_formed.specs.Brought.{MOST_BROUGHT, brought, most_after};
 
 /// A lane where nothing has happened is well formed, with at most eight masters and one to four backups.
 pub fn new_lanes_are_well_formed()
@@ -26,12 +26,15 @@ pub fn new_lanes_are_well_formed()
 {}
 
 /// A well formed lane stays so at each event that may happen there, is not refused and leaves another master alive, where the
-/// lane has room before and after it. The greatest number fits by itself then, and so do the bytes of all logs where the event
-/// brings few from elsewhere: what a target pulled, and what a rebuild read.
+/// lane has room before and after it. The greatest number fits by itself then. The bytes of all logs rise at most threefold, by an
+/// entry, and by what the event brings from elsewhere: what a target pulled, or a rebuild read; so they fit where it brings few.
 pub fn events_keep_lanes_well_formed()
     ensures number { (w : World) (event : Event) (called : Called)
         → IsWellFormed w → HasRoom w → refusal w event ≡ None → IsCalmEvent w event → MayCome called → MayHappen w event
         → (happened w event called).world.top < MOST_NUMBER }
+    ensures rise { (w : World) (event : Event) (called : Called)
+        → IsWellFormed w → HasRoom w → MayHappen w event → refusal w event ≡ None
+        → bytes_of_logs (happened w event called).world ≤ most_after w event }
     ensures bytes { (w : World) (event : Event) (called : Called)
         → IsWellFormed w → HasRoom w → MayHappen w event → refusal w event ≡ None → brought w event ≤ MOST_BROUGHT
         → bytes_of_logs (happened w event called).world < MOST_BYTES }
