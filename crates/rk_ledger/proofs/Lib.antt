@@ -1,0 +1,5 @@
+pub mod Accepted
+pub mod Named
+pub mod Noted
+pub mod Positions
+pub mod Rebuilds

@@ -1,0 +1,11 @@
+use Rattle.std.proofs.Common.{◌≡◌, take}
+use Rattle.rk_world.specs.Ledger.{Ledger, with_ends}
+use Rattle.rk_ledger.specs.Growing.{IsGrown, with_journal}
+use Rattle.rk_ledger.proofs.recording.end_each.Given as goal
+
+abbrev pub invariant-loop-one : goal.invariant-loop-one
+invariant-loop-one l = record {
+  recorded : (ledger : Ledger) → ledger.clients ≡ l.clients
+      → with_journal ledger l.journal ≡ with_ends (with_journal ledger l.fn.journal) (take l.one-index l.ends);
+  grown : IsGrown l.fn.journal l.journal;
+}

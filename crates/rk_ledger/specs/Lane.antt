@@ -1,0 +1,13 @@
+-- What a ledger in code stands for.
+use Rattle.rk_world.specs.Ledger.{Ledger}
+use Rattle.rk_ledger.specs.declared.ledger_lane.LedgerLane.TheInside.{Inside}
+
+-- the ledger that the fields are
+abbrev pub ledger_of : Inside → Ledger
+ledger_of lane = record {
+  clients = lane.clients;
+  asked = lane.asked;
+  requests = lane.requests;
+  journal = lane.journal;
+  marks = lane.marks.items;
+}

@@ -1,0 +1,69 @@
+// How a reply gets the stamp and the place of its call's record.
+ghost use Rattle.std.specs.Prelude.{◌≡◌, ◌==◌, ◌&&◌, not};
+ghost use Rattle.rk_model.specs.Merged.{is_mutation as is_mutation_lem};
+ghost use Rattle.rk_world.specs.Replies as replies;
+
+use crate::journal::{Journal, is_mutation};
+use rk_message::{Body, Reply};
+use rk_types::{Answer, Node};
+use rk_world::Served;
+
+/// A body to a node, with stamp and place filled in where it is a client's reply to a call that was carried out. A step for
+/// each call that was served, and a search.
+pub(crate) fn fill_body(journal: &Journal, served: &[Served], to: Node, body: Body) -> Body
+    ensures { result ≡ replies.filled_body journal.now served.now to body }
+{
+    let Node::Client(client) = to else {
+        return body;
+    };
+    match body {
+        Body::Reply(reply) => Body::Reply(fill_reply(journal, served, client, reply)),
+        other => other,
+    }
+}
+
+// A reply to a client, with stamp and place filled in where its call was carried out.
+fn fill_reply(journal: &Journal, served: &[Served], client: u32, reply: Reply) -> Reply
+    ensures { result ≡ replies.filled_reply journal.now served.now client reply reply.answer }
+{
+    if !matches!(reply.answer, Answer::Done(_)) {
+        return reply;
+    }
+    let Some(place) = place_of(journal, served, client, reply.seq) else {
+        return reply;
+    };
+    let Some(placed) = journal.records().get(place as usize) else {
+        return reply;
+    };
+    Reply {
+        seq: reply.seq,
+        stamp: placed.stamp,
+        place,
+        answer: reply.answer,
+    }
+}
+
+// The place of the record of a client's call: of a read that was served just now the last one, else that of the mutation.
+fn place_of(journal: &Journal, served: &[Served], client: u32, seq: u64) -> Option<u64>
+    ensures { result ≡ replies.place_of journal.now served.now client seq }
+{
+    if was_read(served, client, seq) {
+        return Some((journal.records().len() as u64).saturating_sub(1));
+    }
+    journal.place_of(client, seq)
+}
+
+// Whether a read of a client with a seq is among these calls.
+fn was_read(served: &[Served], client: u32, seq: u64) -> bool
+    ensures { result ≡ replies.was_read served.now client seq }
+{
+    served.iter().any(|one| is_read(one, client, seq))
+}
+
+// Whether a call is the read of a client with a seq.
+fn is_read(served: &Served, client: u32, seq: u64) -> bool
+    ensures { result ≡ (not (is_mutation_lem served.now.call.op) && (served.now.call.client == client) && (served.now.call.seq == seq)) }
+{
+    let call = &served.call;
+    !is_mutation(&call.op) && call.client == client && call.seq == seq
+}

@@ -1,0 +1,204 @@
+ghost use Rattle.std.specs.Prelude.{◌≡◌, ◌+◌, ◌-◌, max, [], ◌∷◌, ◌++◌, length, position, slice_get, take, IfOk, OnOk, OnErr};
+ghost use Rattle.rk_model.specs.Merged.{is_mutation as is_mutation_lem};
+ghost use Rattle.rk_world.specs.Journal.{accepted_at, has_record as has_record_lem, is_of_mutation, last_stamp as last_stamp_lem, next_record};
+ghost use Rattle.rk_ledger.specs.Places.{ArePlaces, IsKept, accepted_count};
+
+use crate::call_places::CallPlaces;
+use rk_types::{Call, NoMemory, Op, Outcome, Placed};
+use std::alloc::Global;
+use std::marker::Model;
+
+/// The records of the calls that were carried out, oldest first. The place of a mutation's record is found by client and
+/// seq. Contracts see the records.
+#[derive(Drop)]
+pub(crate) struct Journal {
+    records: Vec<Placed>,
+    places: CallPlaces,
+    accepted: u64,
+}
+
+impl Model for Journal {
+    ghost use Rattle.std.specs.Prelude.{List};
+    ghost use Rattle.rk_types.specs.declared.history.Placed.{Placed};
+    ghost use Rattle.rk_ledger.specs.Places.{IsKept};
+
+    ghost Value = { List Placed };
+
+    ghost view = { λ journal. journal.records.items };
+
+    ghost invariant = { λ journal. IsKept journal.places journal.accepted journal.records.items };
+}
+
+impl Journal {
+    /// No records. Takes no memory.
+    pub(crate) fn new(alloc: Global) -> Journal
+        ensures { result ≡ [] }
+    {
+        Journal {
+            records: Vec::new(alloc),
+            places: CallPlaces::new(alloc),
+            accepted: 0,
+        }
+    }
+
+    /// The records, lent.
+    pub(crate) fn records(&self) -> &[Placed]
+        ensures { result.now ≡ self.now }
+    {
+        self.records.as_slice()
+    }
+
+    /// The stamp of the last record, 0 where there is none. One step.
+    pub(crate) fn last_stamp(&self) -> u64
+        ensures { result ≡ last_stamp_lem self.now }
+    {
+        last_stamp(self.records.as_slice())
+    }
+
+    /// How many records are accepted. One step.
+    pub(crate) fn accepted(&self) -> u64
+        ensures { result ≡ accepted_count self.now }
+    {
+        self.accepted
+    }
+
+    /// The place of the record of the mutation of a client with a seq. One search.
+    pub(crate) fn place_of(&self, client: u32, seq: u64) -> Option<u64>
+        ensures { result ≡ position (is_of_mutation client seq) self.now }
+    {
+        self.places.get(client, seq)
+    }
+
+    /// Whether the mutation of a client with a seq has its record. One search.
+    pub(crate) fn has_record(&self, client: u32, seq: u64) -> bool
+        ensures { result ≡ has_record_lem self.now client seq }
+    {
+        self.places.get(client, seq).is_some()
+    }
+
+    /// Puts the record of a call at the end, with a stamp above that of the last record and above what its client had seen.
+    /// `NoMemory` comes also where that stamp does not fit; nothing has changed then. A few searches.
+    pub(crate) fn add(&mut self, call: Call, outcome: Outcome, seen: u64) -> Result<(), NoMemory>
+        ensures ok { OnOk result (self.new ≡ self.old ++ next_record self.old call outcome seen ∷ []) }
+        ensures err { OnErr result (self.new ≡ self.old) }
+    {
+        let stamp = next_stamp(self.records.as_slice(), seen)?;
+        let placed = Placed {
+            call,
+            outcome,
+            stamp,
+            accepted: false,
+        };
+        put(&mut self.records, &mut self.places, placed)
+    }
+
+    /// Accepts the record at a place, if there is one. One step; takes no memory.
+    pub(crate) fn accept(&mut self, place: u64)
+        ensures { self.new ≡ accepted_at self.old place (slice_get self.old place) }
+    {
+        accept_at(&mut self.records, &mut self.accepted, place);
+    }
+
+    /// Takes the last record away, if there is one. A few searches; takes no memory.
+    pub(crate) fn drop_last(&mut self)
+        ensures { self.new ≡ take (length self.old - 1) self.old }
+    {
+        pop(&mut self.records, &mut self.places, &mut self.accepted);
+    }
+}
+
+/// Whether an operation is a mutation: all but a read are.
+pub(crate) fn is_mutation(op: &Op) -> bool
+    ensures { result ≡ is_mutation_lem op.now }
+{
+    !matches!(op, Op::Get)
+}
+
+// The stamp of the last record, 0 where there is none.
+fn last_stamp(records: &[Placed]) -> u64
+    ensures { result ≡ last_stamp_lem records.now }
+{
+    match records.last() {
+        Some(record) => record.stamp,
+        None => 0,
+    }
+}
+
+// A stamp above that of the last record, and above what was seen, where it fits.
+fn next_stamp(records: &[Placed], seen: u64) -> Result<u64, NoMemory>
+    ensures { IfOk result (λ stamp. stamp ≡ max (last_stamp_lem records.now) seen + 1) }
+{
+    let highest = last_stamp(records).max(seen);
+    highest.checked_add(1).ok_or(NoMemory)
+}
+
+// Puts a record at the end that is not accepted.
+fn put(records: &mut Vec<Placed>, places: &mut CallPlaces, placed: Placed) -> Result<(), NoMemory>
+    requires { ArePlaces places.old records.old.items }
+    ensures places { ArePlaces places.new records.new.items }
+    ensures ok { OnOk result (records.new.items ≡ records.old.items ++ placed ∷ []) }
+    ensures err { OnErr result (records.new.items ≡ records.old.items) }
+{
+    records.reserve(1)?;
+    note(places, &placed, records.as_slice())?;
+    let _ = records.push(placed);
+    Ok(())
+}
+
+// Notes where a record comes to stand behind these, where it is that of a mutation that has none yet.
+fn note(places: &mut CallPlaces, placed: &Placed, records: &[Placed]) -> Result<(), NoMemory>
+    requires { ArePlaces places.old records.now }
+    ensures ok { OnOk result (ArePlaces places.new (records.now ++ placed.now ∷ [])) }
+    ensures err { OnErr result (ArePlaces places.new records.now) }
+{
+    let call = &placed.call;
+    if !is_mutation(&call.op) || places.get(call.client, call.seq).is_some() {
+        return Ok(());
+    }
+    places.insert(call.client, call.seq, records.len() as u64)
+}
+
+// Accepts the record at a place, if there is one.
+fn accept_at(records: &mut Vec<Placed>, accepted: &mut u64, place: u64)
+    requires { accepted.old ≡ accepted_count records.old.items }
+    ensures records { records.new.items ≡ accepted_at records.old.items place (slice_get records.old.items place) }
+    ensures accepted { accepted.new ≡ accepted_count records.new.items }
+{
+    let Some(record) = records.get_mut(place as usize) else {
+        return;
+    };
+    if record.accepted {
+        return;
+    }
+    record.accepted = true;
+    *accepted += 1;
+}
+
+// Takes the last record away, if there is one.
+fn pop(records: &mut Vec<Placed>, places: &mut CallPlaces, accepted: &mut u64)
+    requires { IsKept places.old accepted.old records.old.items }
+    ensures kept { IsKept places.new accepted.new records.new.items }
+    ensures records { records.new.items ≡ take (length records.old.items - 1) records.old.items }
+{
+    let Some(placed) = records.pop() else {
+        return;
+    };
+    forget(places, &placed, records.as_slice());
+    if placed.accepted {
+        *accepted -= 1;
+    }
+}
+
+// Forgets the place of a record that stood behind these, where it was noted.
+fn forget(places: &mut CallPlaces, placed: &Placed, records: &[Placed])
+    requires { ArePlaces places.old (records.now ++ placed.now ∷ []) }
+    ensures { ArePlaces places.new records.now }
+{
+    let call = &placed.call;
+    let Some(place) = places.get(call.client, call.seq) else {
+        return;
+    };
+    if place == records.len() as u64 {
+        places.remove(call.client, call.seq);
+    }
+}

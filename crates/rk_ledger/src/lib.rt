@@ -1,0 +1,15 @@
+//! The ledger of a lane: what its clients asked, the journal of what was carried out, the last requests, and the marks of
+//! rebuilds that are not told yet.
+//!
+//! It stands on `rk_world`, whose definitions say what a ledger is. What it promises: contracts see a [`LedgerLane`] as the
+//! ledger of the definitions, and each call of it does just what they say; a call that finds no memory changes nothing.
+//! None of them walks over the journal or the clients: the record of a mutation is found by client and seq.
+#![tactic(auto)]
+
+pub use ledger_lane::LedgerLane;
+
+mod call_places;
+mod fill;
+mod journal;
+mod ledger_lane;
+mod recording;
