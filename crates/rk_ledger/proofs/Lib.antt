@@ -3,3 +3,4 @@ pub mod Named
 pub mod Noted
 pub mod Positions
 pub mod Rebuilds
+pub mod Stamps

@@ -5,7 +5,6 @@ use Rattle.std.proofs.lemmas.Bool.Decides.{nat_tests}
 use Rattle.std.proofs.lemmas.List.{length_push}
 use Rattle.std.proofs.lemmas.List.Folds.{position_or_len_push}
 use Rattle.std.proofs.lemmas.List.Sums.{prefix_len-le-length}
-use Rattle.std.proofs.lemmas.List.Quantifiers.{position-Some}
 
 -- a place, or else another one where a test holds
 abbrev pub known_or : Option ℕ → Bool → ℕ → Option ℕ
@@ -16,11 +15,6 @@ known_or None holds place = cond holds (Some place) None
 pub known_stays : (known : Option ℕ) (place : ℕ) → known_or known false place ≡ known
 known_stays None place = refl
 known_stays (Some known) place = refl
-
--- a place that is known stays
-pub known_already : (known : Option ℕ) (holds : Bool) (place : ℕ) → is_some known ≡ true → known_or known holds place ≡ known
-known_already None holds place is = cc is
-known_already (Some known) holds place is = refl
 
 -- the first place among n, where the search in them stopped at i, and then one more is tested
 one_more : (i n : ℕ) (holds : Bool) → i ≤ n
@@ -54,8 +48,3 @@ module _ {X : Type 0} (p : X → Bool) where
       go : (xs : List X) → ltb (position_or_len p xs) (length xs) ≡ list_any p xs
       go [] = refl
       go (x ∷ xs) = step (p x) x xs (go xs)
-
-  -- it is not the place behind all
-  pub position_within : (xs : List X) → position p xs ≡ Some (length xs) → ⊥
-  position_within [] is = cc is
-  position_within (x ∷ xs) is = absurd (omega (arith, (position-Some p (x ∷ xs) (length (x ∷ xs)) x is).0))

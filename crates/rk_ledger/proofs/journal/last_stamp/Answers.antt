@@ -1,5 +1,5 @@
 use Rattle.std.proofs.Common.{sym, ap, ◌∙◌}
-use Rattle.rk_ledger.proofs.Accepted.{last_is, stamp_of}
+use Rattle.rk_ledger.proofs.Stamps.{last_is, stamp_of}
 use Rattle.rk_ledger.proofs.journal.last_stamp.Goals as goal
 
 pub returns-in-Some : goal.returns-in-Some

@@ -6,7 +6,8 @@ use Rattle.rk_ledger.proofs.journal.Journal.accept.Goals as goal
 pub invariant_of-self : goal.invariant_of-self
 invariant_of-self c = record {
   places_are =
+      let records = c.self.inside.records.items in
       subst (ArePlaces c.self.inside.places) (sym c.accept_at.ensures.records)
-      (accepted_places c.self.inside.places c.self.inside.records.items c.args.place (slice_get c.self.inside.records.items c.args.place) refl c.self.invariant.places_are);
+      (accepted_places c.self.inside.places records c.args.place (slice_get records c.args.place) refl c.self.invariant.places_are);
   accepted_is = c.accept_at.ensures.accepted;
 }
