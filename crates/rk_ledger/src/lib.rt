@@ -13,3 +13,5 @@ mod fill;
 mod journal;
 mod ledger_lane;
 mod recording;
+#[cfg(test)]
+mod tests;
