@@ -3,12 +3,11 @@
 //!
 //! It stands on `rk_world`, whose definitions say what a master does. What it promises: [`MasterLane::handle`] makes of a
 //! request just what the definitions do, [`MasterLane::take_stored`] of what a backup tells, and [`MasterLane::take_close`]
-//! and its like of an order: the master after it, what it sends, and which calls it served. On its [`MasterLane::turn`] it
-//! sends each backup what that lacks, and each tablet gets what its role asks for. Neither requests nor commits nor turns
-//! walk over the log, the staged calls or the clients: tablets are looked at, and all else is found by searches. After want
-//! of memory within a change a master is spent, and answers no more.
-//!
-//! Nothing pulls or rebuilds a tablet yet, so that none comes to join.
+//! and its like of an order, [`MasterLane::take_pull`] and its like of what another master asks or tells: the master after
+//! it, what it sends, and which calls it served. On its [`MasterLane::turn`] it sends each backup what that lacks, and does
+//! for each tablet what its role asks for. Neither requests nor commits nor turns walk over the log, the staged calls or the
+//! clients, and no pull over the records: tablets are looked at, and all else is found by searches. After want of memory
+//! within a change a master is spent, and answers no more.
 #![tactic(auto)]
 
 pub use choice::Seen;
@@ -26,6 +25,9 @@ mod duties;
 mod effects;
 mod master_lane;
 mod orders;
+mod pulled;
+mod pulling;
+mod pulls;
 mod requests;
 mod staged_calls;
 mod staged_items;

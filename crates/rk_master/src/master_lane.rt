@@ -6,11 +6,15 @@ ghost use Rattle.rk_log.specs.Log.{IsBackup, overreach};
 ghost use Rattle.rk_world.specs.Commits.{stored_taken};
 ghost use Rattle.rk_world.specs.Handovers.{close_taken, grant_taken, own_taken, prepare_taken, release_taken};
 ghost use Rattle.rk_world.specs.MasterTurn.{master_turn};
+ghost use Rattle.rk_world.specs.Pulls.{got_taken, pull_taken, pulled_taken, want_taken};
 ghost use Rattle.rk_world.specs.Requests.{call_of, request_taken};
 ghost use Rattle.rk_world.specs.Step.{with_added};
 ghost use Rattle.rk_master.specs.Parts.{IsGrantable};
+ghost use Rattle.rk_master.specs.Pulls.{HasFewRecords, HasLawfulItems};
 
 use crate::orders::{take_close, take_grant, take_own, take_prepare, take_release};
+use crate::pulled::{take_got, take_pulled};
+use crate::pulls::{take_pull, take_want};
 use crate::requests::take_request;
 use crate::state::MasterState;
 use crate::stored::take_stored;
@@ -18,8 +22,8 @@ use crate::tablets::serve;
 use crate::turn::take_turn;
 use crate::work::Worked;
 use rk_log::MOST_BACKUPS;
-use rk_message::{Grant, Prepare, Request, Stored, Tenure};
-use rk_types::{NoMemory, Range};
+use rk_message::{Got, Grant, Prepare, Pull, Pulled, Request, Stored, Tenure, Want};
+use rk_types::{NoMemory, Node, Range};
 use std::alloc::Global;
 use std::marker::Model;
 
@@ -178,6 +182,77 @@ impl MasterLane {
             return Err(NoMemory);
         }
         Ok(take_release(&mut self.state, tenure))
+    }
+
+    /// Takes a Pull of a node: a tablet that is frozen at its term answers with the batch of its live items from the token
+    /// on. There are fewer than 2^32 records. After `NoMemory` the master is spent. Two searches, and a step for each item
+    /// from the token's bucket to the end of the batch.
+    pub fn take_pull(&mut self, from: Node, pull: Pull) -> Result<Worked, NoMemory>
+        requires { IfSome self.old HasFewRecords }
+        ensures ok { IfOk result (λ work. IsSomeAnd self.old (λ master. IsWork (pull_taken master from pull) self.new work)) }
+        ensures err { OnErr result (self.new ≡ None) }
+    {
+        if self.spent {
+            return Err(NoMemory);
+        }
+        self.spent = true;
+        let work = take_pull(&self.state, from, pull)?;
+        self.spent = false;
+        Ok(work)
+    }
+
+    /// Takes a Want of a node: a tablet that is frozen at its term answers with its live items that have the wanted
+    /// hashes. After `NoMemory` the master is spent. A binary search, a search for each hash, and a step for each item that
+    /// has it.
+    pub fn take_want(&mut self, from: Node, want: Want) -> Result<Worked, NoMemory>
+        ensures ok { IfOk result (λ work. IsSomeAnd self.old (λ master. IsWork (want_taken master from want) self.new work)) }
+        ensures err { OnErr result (self.new ≡ None) }
+    {
+        if self.spent {
+            return Err(NoMemory);
+        }
+        self.spent = true;
+        let work = take_want(&self.state, from, want)?;
+        self.spent = false;
+        Ok(work)
+    }
+
+    /// Takes a batch that was pulled: a tablet that pulls at its term and awaits it replays its items, of which those that
+    /// are newer than the records go into them and to the items of the worker whose turn it is, and the token moves on.
+    /// Behind the last batch all that was pulled becomes side segments, and the tablet has all; where nothing was pulled,
+    /// the entry that closes its role is appended at once. After `NoMemory` the master is spent; it also comes where the
+    /// numbers of side segments or of batches run out, where they are more than an entry names, or where the log is full.
+    /// A binary search, a search of the records for each item and the time to spell it, and behind the last batch a step
+    /// for each segment that it sealed.
+    pub fn take_pulled(&mut self, pulled: Pulled) -> Result<Worked, NoMemory>
+        requires { HasLawfulItems pulled.entries }
+        ensures ok { IfOk result (λ work. IsSomeAnd self.old (λ master. IsWork (pulled_taken master pulled) self.new work)) }
+        ensures err { OnErr result (self.new ≡ None) }
+    {
+        if self.spent {
+            return Err(NoMemory);
+        }
+        self.spent = true;
+        let work = take_pulled(&mut self.state, pulled)?;
+        self.spent = false;
+        Ok(work)
+    }
+
+    /// Takes the items that were asked for first: a tablet that pulls at its term and asked for these hashes replays the
+    /// items as those of the first worker, and the hashes have come. After `NoMemory` the master is spent. A binary search,
+    /// and a search of the records for each item and the time to spell it.
+    pub fn take_got(&mut self, got: Got) -> Result<Worked, NoMemory>
+        requires { HasLawfulItems got.entries }
+        ensures ok { IfOk result (λ work. IsSomeAnd self.old (λ master. IsWork (got_taken master got) self.new work)) }
+        ensures err { OnErr result (self.new ≡ None) }
+    {
+        if self.spent {
+            return Err(NoMemory);
+        }
+        self.spent = true;
+        let work = take_got(&mut self.state, got)?;
+        self.spent = false;
+        Ok(work)
     }
 
     /// Takes a turn: each backup is sent what it is not known to hold, and then each tablet gets what its role asks for, by

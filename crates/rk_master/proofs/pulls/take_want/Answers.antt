@@ -1,0 +1,19 @@
+use Rattle.std.proofs.Common.{List, refl, subst, ◌∙◌}
+use Rattle.rk_world.specs.Master.{Master}
+use Rattle.rk_world.specs.Tablet.{no_tablet}
+use Rattle.rk_master.specs.Places.{IsAt, Row}
+use Rattle.rk_master.specs.State.{master_of}
+use Rattle.rk_master.proofs.Answering.{want_ignored}
+use Rattle.rk_master.proofs.Handovers.{none_lent, worked_quietly}
+use Rattle.rk_master.proofs.pulls.take_want.Goals as goal
+
+pub returns-in_default : goal.returns-in_default
+returns-in_default c =
+    let master : Master = master_of c.args.state.now in
+    let rows : List Row = c.args.state.now.tablets.items in
+    worked_quietly master c.nothing.result c.nothing.ensures.sends c.nothing.ensures.served
+    ∙ want_ignored master c.args.from c.args.want no_tablet
+    (none_lent rows c.as_slice.result.now c.args.want.tenure.tablet c.in_default.field-0 c.as_slice.ensures.value c.in_default.ensures.absent) refl
+
+pub answer_want-requires-clause-place : goal.answer_want-requires-clause-place
+answer_want-requires-clause-place c = subst (λ (xs : List Row). IsAt c.args.want.tenure.tablet xs c.in-Ok.at) c.as_slice.ensures.value c.in-Ok.ensures.found

@@ -1,0 +1,8 @@
+use Rattle.std.proofs.Common.{◌≡◌, take}
+use Rattle.std.specs.List.{flat_map}
+use Rattle.rk_table.specs.Items.{at_hash, live_in}
+use Rattle.rk_table.specs.Sorted.{items_of as records_of}
+use Rattle.rk_master.proofs.pulls.with_hashes.Given as goal
+
+abbrev pub invariant-loop-hash : goal.invariant-loop-hash
+invariant-loop-hash l = l.items.items ≡ flat_map (λ hash. at_hash hash (live_in l.range (records_of l.records))) (take l.hash-index l.hashes)
