@@ -6,9 +6,12 @@ ghost use Rattle.rk_world.specs.Requests.{call_of};
 use crate::choice::{Seen, mutation};
 use crate::master_lane::MasterLane;
 use crate::staged_calls::StagedCalls;
+use crate::tablet_lane::TabletLane;
 use crate::work::Worked;
-use rk_message::{Body, Message, Reply, Request, Stored};
-use rk_types::{Answer, Call, Key, Node, Op, Outcome, Range, Value};
+use rk_message::{Body, Message, Pulled, Reply, Request, Stored, Tenure};
+use rk_table::{END, FIRST};
+use rk_transfer::{Handover, Role};
+use rk_types::{Answer, Call, Key, Listed, Node, Op, Outcome, Range, Token, Value};
 use rk_world::Choice;
 use std::alloc::Global;
 use std::process::Abort;
@@ -132,5 +135,50 @@ fn clients_are_told_once_the_backup_holds_their_entries(rt: HostRuntime) -> Resu
     assert_eq!(rt; read.sends.len(), 1);
     let value = Value::new(rt.alloc(), b"x")?;
     assert_eq!(rt; read.sends[0], reply(2, 2, Outcome::Found(1, value)));
+    Ok(())
+}
+
+// A tablet that pulls at term 3.
+fn pulling(alloc: Global) -> TabletLane {
+    TabletLane::new(
+        alloc,
+        Handover {
+            role: Role::Receiving,
+            term: 3,
+            range: Range {
+                table: 1,
+                first: 0,
+                last: u64::MAX,
+            },
+            counter: 1,
+        },
+    )
+}
+
+// Four workers take turns, batch by batch.
+#[test]
+fn workers_take_turns(rt: HostRuntime) -> Result<(), Fail> {
+    let mut tablet = pulling(rt.alloc());
+    for worker in [0, 1, 2, 3, 0] {
+        assert_eq!(rt; tablet.worker(), worker);
+        tablet.pass(Token { bucket: 5, skip: 1 })?;
+    }
+    Ok(())
+}
+
+// A batch that comes again, or at another term, is not awaited.
+#[test]
+fn a_batch_is_awaited_once(rt: HostRuntime) -> Result<(), Fail> {
+    let mut tablet = pulling(rt.alloc());
+    let pulled = Pulled {
+        tenure: Tenure { tablet: 7, term: 3 },
+        token: FIRST,
+        next: END,
+        entries: Listed::new(rt.alloc()),
+    };
+    assert!(rt; tablet.awaits(&pulled));
+    assert!(rt; !tablet.is_receiving_at(2));
+    tablet.pass(pulled.next)?;
+    assert!(rt; !tablet.awaits(&pulled));
     Ok(())
 }
