@@ -20,8 +20,12 @@ type Versions<'a> = BTreeSet<(u64, &'a Key, u64)>;
 /// The newest item of each key among all these entries, in order of version, except those of which an own entry is an
 /// item of that key and version. A tombstone counts like any other item. A search for each entry, and what is copied
 /// takes a sort; the keys and values of the result alone are copied.
-pub(crate) fn copies_of(alloc: Global, own: &[Entry], all: &[&Entry]) -> Result<Vec<Held>, NoMemory>
-    ensures { IfOk result (λ copies. copies.items ≡ copies_of_lem (items_of own.now) (items_of (lent all.now))) }
+pub(crate) fn copies_of(
+    alloc: Global,
+    own: &[&Entry],
+    all: &[&Entry],
+) -> Result<Vec<Held>, NoMemory>
+    ensures { IfOk result (λ copies. copies.items ≡ copies_of_lem (items_of (lent own.now)) (items_of (lent all.now))) }
 {
     let mut newest = BTreeMap::new(alloc);
     take_all(&mut newest, all)?;
@@ -54,9 +58,9 @@ fn take<'a>(newest: &mut Newest<'a>, entry: &'a Entry) -> Result<(), NoMemory>
 }
 
 // Notes the versions of the items among entries.
-fn note_all<'a>(versions: &mut Versions<'a>, entries: &'a [Entry]) -> Result<(), NoMemory>
+fn note_all<'a>(versions: &mut Versions<'a>, entries: &[&'a Entry]) -> Result<(), NoMemory>
     ensures { OnOk result ((items : List Item)
-        → HasVersions versions.old items → HasVersions versions.new (items ++ items_of entries.now)) }
+        → HasVersions versions.old items → HasVersions versions.new (items ++ items_of (lent entries.now))) }
 {
     for entry in entries {
         note(versions, entry)?;

@@ -7,7 +7,7 @@ ghost use Rattle.rk_rebuild.specs.Counted.{IsCounted};
 ghost use Rattle.rk_rebuild.specs.Lent.{lent};
 
 use crate::member::{ReadLog, Reader, next_of};
-use crate::merging::{Counted, counted_by, is_of_lineage, lent_own};
+use crate::merging::{Counted, counted_by, is_of_lineage, lent_again};
 use crate::reading::read;
 use rk_entry::Entry;
 use rk_types::{Listed, Member, NoMemory, Range};
@@ -99,8 +99,8 @@ impl Gather {
     ///
     /// A search for each entry that was read and for each own one, a sort of the newest item of each key, and a step for
     /// each end that is told; of the entries the copies alone are duplicated.
-    pub fn merge(&self, own: &[Entry]) -> Result<Merged, NoMemory>
-        ensures { IfOk result (λ merged. merged ≡ merging.merge own.now (gathers.by_member self.now own.now)) }
+    pub fn merge(&self, own: &[&Entry]) -> Result<Merged, NoMemory>
+        ensures { IfOk result (λ merged. merged ≡ merging.merge (lent own.now) (gathers.by_member self.now (lent own.now))) }
     {
         let alloc = *self.lineage.allocator();
         let counted = self.by_member(own)?;
@@ -108,14 +108,14 @@ impl Gather {
     }
 
     // What counts of each member, in the order of the lineage; the own entries of a master outside it come last.
-    fn by_member<'a>(&'a self, own: &'a [Entry]) -> Result<Counted<'a>, NoMemory>
-        ensures { IfOk result (λ counted. IsCounted counted (gathers.by_member self.now own.now)) }
+    fn by_member<'a>(&'a self, own: &[&'a Entry]) -> Result<Counted<'a>, NoMemory>
+        ensures { IfOk result (λ counted. IsCounted counted (gathers.by_member self.now (lent own.now))) }
     {
         let alloc = *self.lineage.allocator();
         let lineage = self.lineage.as_slice();
         let mut counted = counted_members(alloc, self, lineage, own)?;
         if !is_of_lineage(lineage, self.own) {
-            counted.add_own(alloc, own)?;
+            counted.add(alloc, own)?;
         }
         Ok(counted)
     }
@@ -124,13 +124,13 @@ impl Gather {
     fn material_by<'a>(
         &'a self,
         alloc: Global,
-        own: &'a [Entry],
+        own: &[&'a Entry],
         master: u8,
     ) -> Result<Vec<&'a Entry>, NoMemory>
-        ensures { IfOk result (λ entries. lent entries.items ≡ gathers.material_by self.now own.now master) }
+        ensures { IfOk result (λ entries. lent entries.items ≡ gathers.material_by self.now (lent own.now) master) }
     {
         if master == self.own {
-            return lent_own(alloc, own);
+            return lent_again(alloc, own);
         }
         counted_by(
             alloc,
@@ -147,10 +147,10 @@ fn counted_members<'a>(
     alloc: Global,
     gather: &'a Gather,
     lineage: &[Member],
-    own: &'a [Entry],
+    own: &[&'a Entry],
 ) -> Result<Counted<'a>, NoMemory>
     ensures { IfOk result (λ counted. IsCounted counted
-        (map_list (λ member. gathers.material_by gather.now own.now member.master) lineage.now)) }
+        (map_list (λ member. gathers.material_by gather.now (lent own.now) member.master) lineage.now)) }
 {
     let mut counted = Counted::new(alloc);
     for member in lineage {

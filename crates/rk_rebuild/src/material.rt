@@ -33,7 +33,7 @@ fn has_all(outer: &Range, inner: &Range) -> bool
 
 /// What counts for a range of these entries of a log: those that count themselves, and then those of the side segments
 /// that they name. A step for each entry, and a search for each side segment.
-pub(crate) fn material<'a>(
+pub fn counted_entries<'a>(
     alloc: Global,
     range: &Range,
     entries: &[&'a Entry],
@@ -94,11 +94,7 @@ fn count_all<'a>(
 
 /// The side segments that entries make part of their log for a range, each once. A step for each entry, and a search for
 /// each segment that they name.
-pub(crate) fn named(
-    alloc: Global,
-    range: &Range,
-    entries: &[&Entry],
-) -> Result<Listed<u32>, NoMemory>
+pub fn named(alloc: Global, range: &Range, entries: &[&Entry]) -> Result<Listed<u32>, NoMemory>
     ensures { IfOk result (λ numbers. numbers ≡ named_lem range.now (lent entries.now)) }
 {
     let mut seen = BTreeSet::new(alloc);
@@ -161,8 +157,17 @@ pub(crate) fn lend_all<'a>(
     Ok(entries)
 }
 
-/// Lends these entries too. A step for each.
-pub(crate) fn lend<'a>(into: &mut Vec<&'a Entry>, entries: &'a [Entry]) -> Result<(), NoMemory>
+/// These entries, lent. A step for each.
+pub fn lend_each(alloc: Global, entries: &[Entry]) -> Result<Vec<&Entry>, NoMemory>
+    ensures { IfOk result (λ lent_now. lent lent_now.items ≡ entries.now) }
+{
+    let mut lent_now = Vec::new(alloc);
+    lend(&mut lent_now, entries)?;
+    Ok(lent_now)
+}
+
+// Lends these entries too.
+fn lend<'a>(into: &mut Vec<&'a Entry>, entries: &'a [Entry]) -> Result<(), NoMemory>
     ensures { OnOk result (lent into.new.items ≡ lent into.old.items ++ entries.now) }
 {
     for entry in entries {

@@ -11,7 +11,7 @@ ghost use Rattle.rk_rebuild.specs.Logs.{gathered_at, members_of};
 use crate::copies::copies_of;
 use crate::ends::{merged_ends, told};
 use crate::floor::floor_of;
-use crate::material::{lend, lend_all, material};
+use crate::material::{counted_entries, lend_all};
 use crate::member::{ReadLog, Reader, log_of};
 use crate::reading::behind;
 use rk_entry::Entry;
@@ -47,19 +47,10 @@ impl<'a> Counted<'a> {
         Ok(())
     }
 
-    /// One more member, whose entries these are.
-    pub(crate) fn add_own(&mut self, alloc: Global, own: &'a [Entry]) -> Result<(), NoMemory>
-        ensures { OnOk result ((members : List (List Entry_of))
-            → IsCounted self.old members → IsCounted self.new (members ++ own.now ∷ [])) }
-    {
-        let entries = lent_own(alloc, own)?;
-        self.add(alloc, entries.as_slice())
-    }
-
     /// What a rebuild makes of its own entries and of what counts of each member.
-    pub(crate) fn merge(&self, alloc: Global, own: &[Entry]) -> Result<Merged, NoMemory>
+    pub(crate) fn merge(&self, alloc: Global, own: &[&Entry]) -> Result<Merged, NoMemory>
         ensures { IfOk result (λ merged. (members : List (List Entry_of))
-            → IsCounted self.now members → merged ≡ merging.merge own.now members) }
+            → IsCounted self.now members → merged ≡ merging.merge (lent own.now) members) }
     {
         Ok(Merged {
             copies: Listed::from_vec(copies_of(alloc, own, self.all.as_slice())?),
@@ -69,12 +60,12 @@ impl<'a> Counted<'a> {
     }
 }
 
-/// These entries, lent.
-pub(crate) fn lent_own(alloc: Global, own: &[Entry]) -> Result<Vec<&Entry>, NoMemory>
-    ensures { IfOk result (λ entries. lent entries.items ≡ own.now) }
+/// These entries, lent once more.
+pub(crate) fn lent_again<'a>(alloc: Global, own: &[&'a Entry]) -> Result<Vec<&'a Entry>, NoMemory>
+    ensures { IfOk result (λ entries. entries.items ≡ own.now) }
 {
     let mut entries = Vec::new(alloc);
-    lend(&mut entries, own)?;
+    entries.extend_from_slice(own)?;
     Ok(entries)
 }
 
@@ -91,7 +82,7 @@ fn counted_at<'a>(
         return Ok(Vec::new(alloc));
     };
     let entries = lend_all(alloc, log.main.as_slice())?;
-    material(
+    counted_entries(
         alloc,
         range,
         behind(entries.as_slice(), member.from),

@@ -95,8 +95,8 @@ fn copies_what_the_own_log_lacks(rt: HostRuntime) -> Result<(), Fail> {
     encode(&item(alloc, 4, 1, b"c", b"y")?, &mut side)?;
     assert!(rt; gather.take(1, FIRST_SIDE_SEGMENT, Some(side.as_slice()))?);
     assert_eq!(rt; gather.next(), None);
-    let own = [item(alloc, 1, 5, b"a", b"y")?];
-    let merged = gather.merge(&own)?;
+    let own = item(alloc, 1, 5, b"a", b"y")?;
+    let merged = gather.merge(&[&own])?;
     assert_eq!(rt; merged.floor, 6);
     let copies = merged.copies.as_slice();
     assert_eq!(rt; copies.len(), 2);
@@ -134,13 +134,13 @@ fn an_end_has_its_place_where_it_is_told_last(rt: HostRuntime) -> Result<(), Fai
         seq: 2,
         end: End::Written(2),
     })?;
-    let own = [Entry::Carried(Carried {
+    let own = Entry::Carried(Carried {
         range: WHOLE,
         term: 1,
         floor: 9,
         ends,
-    })];
-    let merged = gather.merge(&own)?;
+    });
+    let merged = gather.merge(&[&own])?;
     assert_eq!(rt; merged.floor, 9);
     assert_eq!(rt; merged.copies.as_slice().len(), 2);
     check_ends(

@@ -15,7 +15,7 @@ use Rattle.rk_rebuild.proofs.copies.copies_of.Goals as goal
 -- what was taken in is listed, and what is not noted is copied
 pub returns : goal.returns
 returns c =
-    let own : List Held = items_of c.args.own.now in
+    let own : List Held = items_of (lent c.args.own.now) in
     let all : List Held = items_of (lent c.args.all.now) in
     let is_tree = c.in_ok-take_all.ensures none_found (tree_of_nothing c.new-newest.result c.new-newest.ensures.empty) in
     let noted = c.in_ok-note_all.ensures [] (no_versions c.new-versions.result c.new-versions.ensures.empty) in

@@ -1,8 +1,9 @@
 use Rattle.std.proofs.Common.{List, ◌++◌, take, sym, ap, ◌∙◌, subst, append_assoc}
 use Rattle.rk_types.specs.declared.held.Held.{Held}
 use Rattle.rk_world.specs.Ends.{items_in, items_of}
+use Rattle.rk_rebuild.specs.Lent.{lent}
 use Rattle.rk_rebuild.specs.Versions.{HasVersions}
-use Rattle.rk_rebuild.proofs.Versions.{given_taken}
+use Rattle.rk_rebuild.proofs.Versions.{lent_taken}
 use Rattle.rk_rebuild.proofs.copies.note_all.Goals as goal
 
 pub loop-entry-preserved : goal.loop-entry-preserved
@@ -10,6 +11,6 @@ loop-entry-preserved c = λ items were.
     let i = c.loop-entry.entry-index in
     let entries = c.args.entries.now in
     subst (HasVersions c.note.new.versions)
-    (append_assoc items (items_of (take i entries)) (items_in c.entry-item.result)
-    ∙ ap (λ (xs : List Held). items ++ xs) (sym (given_taken items_in entries i c.entry-item.result c.loop-entry-test.true c.entry-item.is)))
-    (c.in_ok-note.ensures (items ++ items_of (take i entries)) (c.loop-entry.invariant items were))
+    (append_assoc items (items_of (lent (take i entries))) (items_in c.entry-item.result.now)
+    ∙ ap (λ (xs : List Held). items ++ xs) (sym (lent_taken items_in entries i c.entry-item.result c.loop-entry-test.true c.entry-item.is)))
+    (c.in_ok-note.ensures (items ++ items_of (lent (take i entries))) (c.loop-entry.invariant items were))

@@ -1,8 +1,9 @@
 use Rattle.std.proofs.Common.{map, take}
 use Rattle.rk_world.specs.Gather.{material_by}
 use Rattle.rk_rebuild.specs.Counted.{IsCounted}
+use Rattle.rk_rebuild.specs.Lent.{lent}
 use Rattle.rk_rebuild.proofs.gather.counted_members.Given as goal
 
 -- what counts of the members so far
 abbrev pub invariant-loop-member : goal.invariant-loop-member
-invariant-loop-member l = IsCounted l.counted (map (λ member. material_by l.gather l.own member.master) (take l.member-index l.lineage))
+invariant-loop-member l = IsCounted l.counted (map (λ member. material_by l.gather (lent l.own) member.master) (take l.member-index l.lineage))

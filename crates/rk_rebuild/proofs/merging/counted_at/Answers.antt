@@ -22,8 +22,8 @@ returns c =
     ∙ sym (drop-map (λ (entry : Bor Entry). entry.now) member.from c.as_slice-2.result.now)
     ∙ ap (λ (es : List (Bor Entry)). drop member.from (lent es)) c.as_slice-2.ensures.value
     ∙ ap (drop member.from) (c.in_ok-entries.ensures ∙ ap (flat_map (λ entries. entries)) c.as_slice.ensures) in
-    IfOk-weaker c.material.result _ (λ entries. lent entries.items ≡ counted_of range (gathered_at c.args.logs.now member))
+    IfOk-weaker c.counted_entries.result _ (λ entries. lent entries.items ≡ counted_of range (gathered_at c.args.logs.now member))
     (λ counted are.
     are ∙ ap (material_of range (λ segment. get_or [] log.sides segment)) entries
     ∙ ap (λ (o : Option ReadLog). counted_of range (gathered_of o member)) c.in-Some.ensures)
-    c.material.ensures
+    c.counted_entries.ensures

@@ -25,7 +25,7 @@ ends_merged members =
 
 pub returns : goal.returns
 returns c = λ members is.
-    let own : List Held = items_of c.args.own.now in
+    let own : List Held = items_of (lent c.args.own.now) in
     let all : List Entry = flat_map (λ entries. entries) members in
     let copies : c.from_vec.result ≡ copies_of own (items_of all) =
     c.from_vec.ensures ∙ c.in_ok-copies_of.ensures

@@ -1,7 +1,7 @@
 use Rattle.std.proofs.Common.{◌≡◌, take}
 use Rattle.rk_world.specs.Material.{counting}
 use Rattle.rk_rebuild.specs.Lent.{lent}
-use Rattle.rk_rebuild.proofs.material.material.Given as goal
+use Rattle.rk_rebuild.proofs.material.counted_entries.Given as goal
 
 -- those so far that count
 abbrev pub invariant-loop-entry : goal.invariant-loop-entry
