@@ -17,7 +17,8 @@ accepted_places places records place None there were = were
 accepted_places places records place (Some placed) there were = λ client seq. were client seq ∙ sym (stays client seq)
   where
     same : (client seq : ℕ)
-        → position_or_len (is_of_mutation client seq) (set records place (as_accepted placed)) ≡ position_or_len (is_of_mutation client seq) records
+        → position_or_len (is_of_mutation client seq) (set records place (as_accepted placed))
+        ≡ position_or_len (is_of_mutation client seq) records
     same client seq =
         position_or_len-set (is_of_mutation client seq) records place (as_accepted placed) placed
         (ap (is_of_mutation client seq) (sym (get_or_from_slice_get records place placed placed there)))

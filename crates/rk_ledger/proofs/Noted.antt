@@ -10,7 +10,8 @@ use Rattle.rk_ledger.specs.Places.{ArePlaces, place_in}
 use Rattle.rk_ledger.proofs.Positions.{known_or, known_stays, position_push}
 
 -- what holds of the name of a call holds of a client and a seq that are the same
-same_name : (P : ℕ → ℕ → Type 0) (client seq other asked : ℕ) → (eqb client other && eqb seq asked) ≡ true → P client seq → P other asked
+same_name : (P : ℕ → ℕ → Type 0) (client seq other asked : ℕ) → (eqb client other && eqb seq asked) ≡ true
+    → P client seq → P other asked
 same_name P client seq other asked same holds =
     let parts = and_parts (eqb client other) (eqb seq asked) same in
     subst (λ n. P n asked) (eqb-true client other parts.0) (subst (P client) (eqb-true seq asked parts.1) holds)
@@ -33,7 +34,8 @@ module _ (records : List Placed) (placed : Placed) where
   before other asked = position (is_of_mutation other asked) records
 
   pushed : (other asked : ℕ)
-      → position (is_of_mutation other asked) (records ++ placed ∷ []) ≡ known_or (before other asked) (is_of_mutation other asked placed) (length records)
+      → position (is_of_mutation other asked) (records ++ placed ∷ [])
+      ≡ known_or (before other asked) (is_of_mutation other asked placed) (length records)
   pushed other asked = position_push (is_of_mutation other asked) records placed
 
   -- the record is that of a mutation that had none: its place is noted
