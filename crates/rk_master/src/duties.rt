@@ -1,6 +1,8 @@
-// What a master does for its tablets on its turn: a target asks its source for what it lacks, and says when it has all. Each
-// duty changes its own tablet alone, so that those behind it are as they were.
+// What a master does for its tablets on its turn: a target asks its source for what it lacks, a rebuild asks backup 1 for
+// what it reads next, and either says when it has all. Each duty changes its own tablet alone, so that those behind it are
+// as they were.
 ghost use Rattle.std.specs.Prelude.{◌≡◌, ◌<◌, ◌+◌, ◌++◌, Some, length, drop, slice_get, OnOk};
+ghost use Rattle.rk_world.specs.Gather.{next_reading};
 ghost use Rattle.rk_world.specs.Master.{Master};
 ghost use Rattle.rk_world.specs.MasterTurn as turns;
 ghost use Rattle.rk_master.specs.Parts.{behind, tablet_of, worked_of};
@@ -10,12 +12,12 @@ ghost use Rattle.rk_master.specs.State.{IsState, master_of};
 use crate::state::MasterState;
 use crate::tablet_lane::TabletLane;
 use crate::work::Worked;
-use rk_message::{Body, Message, Pull, Rebuilt, Tenure, Want};
+use rk_message::{Body, Message, Pull, ReadSegment, Rebuilt, Tenure, Want};
 use rk_transfer::Role;
 use rk_types::{Listed, NoMemory, Node};
 
-/// The duties of a master for its tablets, by rising number. A look at each tablet, and what is sent takes the time to copy
-/// it.
+/// The duties of a master for its tablets, by rising number. A look at each tablet and at each member whose log is gathered,
+/// and what is sent takes the time to copy it.
 pub(crate) fn do_duties(state: &mut MasterState, work: &mut Worked) -> Result<(), NoMemory>
     requires { IsState state.old }
     ensures state { OnOk result (IsState state.new) }
@@ -49,7 +51,7 @@ fn do_duty(state: &mut MasterState, at: usize, work: &mut Worked) -> Result<(), 
             Ok(())
         }
         Role::Rebuilding { from, entry } => {
-            tell_rebuilt(state, &state.tablets[at], from, entry, work)?;
+            rebuild(state, &state.tablets[at], from, entry, work)?;
             Ok(())
         }
         _ => Ok(()),
@@ -139,8 +141,9 @@ fn tell_joined(
     Ok(())
 }
 
-// A rebuilding master says from where on its entries count, where the entry that closes its role is applied.
-fn tell_rebuilt(
+// A rebuilding master reads on until the entry that closes its role is in the log; once that is applied, it says from where
+// on its entries count, and tells the ends that it merged.
+fn rebuild(
     state: &MasterState,
     row: &(u32, TabletLane),
     from: u64,
@@ -151,18 +154,43 @@ fn tell_rebuilt(
         ≡ behind work.old (turns.tablet_duty (master_of state.now) row.now.0 (tablet_of row.now.1) (Role.Rebuilding from entry))) }
 {
     let Some(closing) = entry else {
-        return Ok(());
+        return read_next(state, row, work);
     };
     if closing >= state.applied {
         return Ok(());
     }
+    let ends = row.1.merged_ends.duplicate()?;
     work.send(Message {
         from: Node::Master(state.number),
         to: Node::Coordinator,
         body: Body::Rebuilt(Rebuilt {
             tenure: tenure_at(row),
             place: from,
-            ends: Listed::new(*state.tablets.allocator()),
+            ends,
+        }),
+    })?;
+    Ok(())
+}
+
+// A rebuilding master asks backup 1 for the segment that it reads next, where there is one.
+fn read_next(
+    state: &MasterState,
+    row: &(u32, TabletLane),
+    work: &mut Worked,
+) -> Result<(), NoMemory>
+    ensures { OnOk result (worked_of (master_of state.now) work.new ≡ behind work.old
+        (turns.reading_duty (master_of state.now) row.now.0 (tablet_of row.now.1) (next_reading (tablet_of row.now.1).gather))) }
+{
+    let Some(reading) = row.1.next_reading() else {
+        return Ok(());
+    };
+    work.send(Message {
+        from: Node::Master(state.number),
+        to: Node::Backup(1),
+        body: Body::Read(ReadSegment {
+            tenure: tenure_at(row),
+            master: reading.master,
+            segment: reading.segment,
         }),
     })?;
     Ok(())

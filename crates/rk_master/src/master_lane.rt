@@ -257,9 +257,11 @@ impl MasterLane {
 
     /// Takes a turn: each backup is sent what it is not known to hold, and then each tablet gets what its role asks for, by
     /// rising number. A target asks its source for the batch from its token on, and before it for the hashes that calls
-    /// wait for, where there are some; and a target or a rebuilding master whose closing entry is applied tells the
-    /// coordinator that it has all. After `NoMemory` the master is spent. A look at each backup and each tablet, and the
-    /// time to copy what is sent: a turn with nothing to send costs nothing more.
+    /// wait for, where there are some. A rebuild that gathers asks backup 1 for the segment that it reads next. A target
+    /// whose closing entry is applied tells the coordinator that it has all, and such a rebuild from where on its entries
+    /// count, and the ends that it merged. After `NoMemory` the master is spent. A look at each backup and each tablet,
+    /// for a rebuild that gathers also at each member and a search for a side segment, and the time to copy what is sent: a
+    /// turn with nothing to send costs nothing more.
     pub fn turn(&mut self) -> Result<Worked, NoMemory>
         ensures ok { IfOk result (λ work. IsSomeAnd self.old (λ master. IsWork (master_turn master) self.new work)) }
         ensures err { OnErr result (self.new ≡ None) }

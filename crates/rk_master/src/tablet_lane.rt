@@ -5,6 +5,7 @@ ghost use Rattle.rk_types.specs.Hashing.{hash_of};
 ghost use Rattle.rk_types.specs.declared.held.Held.{Held as Item};
 ghost use Rattle.rk_world.specs.Ranges.{has_key};
 ghost use Rattle.rk_world.specs.Master.{Master, serves_key};
+ghost use Rattle.rk_world.specs.Gather.{next_reading as next_reading_lem};
 ghost use Rattle.rk_world.specs.Handovers.{given_up, transfer as transfer_lem};
 ghost use Rattle.rk_world.specs.RoleTests.{is_absent as is_absent_lem, is_frozen_at as is_frozen_at_lem};
 ghost use Rattle.rk_world.specs.Requests.{counted_up, is_known as is_known_lem, with_wanted};
@@ -24,6 +25,7 @@ use rk_side_log::SideLogs;
 use rk_table::FIRST;
 use rk_transfer::{Handover, Role};
 use rk_types::{Ended, Key, Listed, NoMemory, Node, Token, bucket_of, hash};
+use rk_world::Reading;
 use std::alloc::Global;
 
 /// Versions count from 1, and this one and those above it are never given.
@@ -100,6 +102,17 @@ impl TabletLane {
     {
         let batch = self.wanted.next_batch();
         Ok(Listed::from_vec(Vec::from_slice(alloc, batch)?))
+    }
+
+    /// The segment that a rebuild of the tablet reads next; none where nothing is gathered, or all is. A look at each
+    /// member whose log is gathered, and a search for a side segment.
+    pub(crate) fn next_reading(&self) -> Option<Reading>
+        ensures { result ≡ next_reading_lem (tablet_of self.now).gather }
+    {
+        match &self.gather {
+            Some(gather) => gather.next(),
+            None => None,
+        }
     }
 
     /// Gives the next version: the counter rises by one. `NoMemory` where no version is left, and then nothing has

@@ -14,7 +14,7 @@ use rk_message::{Append, Body, Message};
 use rk_types::{Listed, NoMemory, Node};
 
 /// A master's turn: each backup is sent what it lacks, and then each tablet gets what its role asks of the master. A look
-/// at each backup and each tablet, and what is sent takes the time to copy it.
+/// at each backup, each tablet and each member whose log is gathered, and what is sent takes the time to copy it.
 pub(crate) fn take_turn(state: &mut MasterState) -> Result<Worked, NoMemory>
     requires { IsState state.old }
     ensures state { OnOk result (IsState state.new) }

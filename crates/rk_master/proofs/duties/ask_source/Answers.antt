@@ -24,6 +24,7 @@ returns-clause-state c =
       within = c.requires.state.within;
       kept = c.requires.state.kept;
       backups = c.requires.state.backups;
+      sides = c.requires.state.sides;
       tablets = lawful_read rows c.args.at read c.next_batch.new.self c.requires.within c.index_mut-row.ensures.value c.requires.state.tablets
           (subst IsClosable (sym c.next_batch.ensures.tablet) before);
     }
