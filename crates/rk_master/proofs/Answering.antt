@@ -1,5 +1,5 @@
 -- What a source answers to a target that pulls.
-use Rattle.std.proofs.Common.{◌≡◌, Bool, true, false, cond, sym, ap, ◌∙◌}
+use Rattle.std.proofs.Common.{◌≡◌, true, false, cond, sym, ap, ◌∙◌}
 use Rattle.std.proofs.lemmas.Bool.{cond-true, cond-false}
 use Rattle.rk_types.specs.declared.node.Node.{Node}
 use Rattle.rk_message.specs.declared.pulling.Pull.{Pull}

@@ -3,7 +3,6 @@ use Rattle.std.proofs.Common.{◌≡◌, ℕ, ◌<◌, Bool, true, false, cond, 
 use Rattle.std.specs.Prelude.{IfSome}
 use Rattle.std.specs.Int.{w64}
 use Rattle.std.specs.List.{list_all}
-use Rattle.std.specs.Option.{option_map}
 use Rattle.std.specs.Ordering.{nat_cmp, is_eq}
 use Rattle.std.proofs.lemmas.Bool.{cond-true, cond-false, eq-eqb, false≢true, lt-ltb}
 use Rattle.std.proofs.lemmas.List.{get_or-set_same, set-get_or}
@@ -40,7 +39,7 @@ use Rattle.rk_master.specs.Parts.{IsClosable, IsGrantable, changing, given_up_bu
 use Rattle.rk_master.specs.Places.{Row, IsAt, IsBetween}
 use Rattle.rk_master.specs.Sides.{items_of_sides}
 use Rattle.rk_master.proofs.Closable.{closable_as}
-use Rattle.rk_master.proofs.Places.{changed_there, get_tablet, none_there, tablet_there}
+use Rattle.rk_master.proofs.Places.{changed_there, none_there, tablet_there}
 
 -- ---- a move
 

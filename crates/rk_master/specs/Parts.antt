@@ -1,5 +1,5 @@
 -- What the parts of a master in code stand for.
-use Rattle.std.specs.Prelude.{◌≡◌, IfSome, ⊤, ℕ, ◌==◌, ◌&&◌, not, if◌then◌else◌, List, [], ◌++◌, Option, Some, None, is_some, map, unwrap_or}
+use Rattle.std.specs.Prelude.{IfSome, ⊤, ℕ, ◌==◌, ◌&&◌, not, if◌then◌else◌, List, [], ◌++◌, Option, Some, None, is_some, map, unwrap_or}
 use Rattle.std.specs.Int.{w64}
 use Rattle.std.specs.List.{AllByRecursion}
 use Rattle.rk_types.specs.declared.held.Held.{Held}

@@ -1,4 +1,4 @@
-use Rattle.std.proofs.Common.{◌≡◌, List, Option, sym, ap, ◌∙◌}
+use Rattle.std.proofs.Common.{List, Option, sym, ap, ◌∙◌}
 use Rattle.rk_table.specs.Sorted.{items_of as records_of}
 use Rattle.rk_transfer.specs.Handover.{released}
 use Rattle.rk_transfer.specs.declared.handover.Handover.{Handover}

@@ -1,16 +1,14 @@
-use Rattle.std.proofs.Common.{◌≡◌, ◌≤◌, false, true, ℕ, eqb, List, [], ◌∷◌, ◌++◌, length, length-append, arith, Some, None, refl, sym, ap, ◌∙◌, subst}
-use Rattle.rk_entry.specs.Lawful.{IsLawfulEntry, IsLawfulJoined}
+use Rattle.std.proofs.Common.{◌≡◌, ◌≤◌, ℕ, eqb, List, [], ◌∷◌, ◌++◌, length, length-append, arith, Some, None, refl, sym, ap, ◌∙◌, subst}
+use Rattle.rk_entry.specs.Lawful.{IsLawfulEntry}
 use Rattle.rk_entry.specs.declared.entry.Entry.{Entry}
-use Rattle.rk_entry.specs.declared.entry.Joined.{Joined}
 use Rattle.rk_log.specs.Log.{Log, with_entry}
 use Rattle.rk_transfer.specs.Handover.{joined}
 use Rattle.rk_transfer.specs.declared.handover.Handover.{Handover}
 use Rattle.rk_transfer.specs.declared.role.Role.TheVariants as roles
 use Rattle.rk_world.specs.Master.{Master}
-use Rattle.rk_world.specs.Tablet.{Tablet, with_handover}
-use Rattle.rk_world.specs.Waiting.{joined_entry}
+use Rattle.rk_world.specs.Tablet.{with_handover}
 use Rattle.rk_master.specs.declared.tablet_lane.TabletLane.{TabletLane}
-use Rattle.rk_master.specs.Parts.{can_close, IsClosable, tablet_of}
+use Rattle.rk_master.specs.Parts.{IsClosable, tablet_of}
 use Rattle.rk_master.specs.Places.{Row}
 use Rattle.rk_master.specs.Sides.{AreSpelled}
 use Rattle.rk_master.specs.State.{master_of}

@@ -1,4 +1,4 @@
-use Rattle.std.proofs.Common.{ℕ, sym, ap, subst, ◌∙◌}
+use Rattle.std.proofs.Common.{ℕ, sym, subst, ◌∙◌}
 use Rattle.std.specs.List.{All}
 use Rattle.rk_entry.specs.Lawful.{IsLawfulHeld}
 use Rattle.rk_world.specs.Master.{Master}

@@ -13,7 +13,7 @@ use Rattle.rk_world.specs.Worked.{changed}
 use Rattle.rk_master.specs.declared.tablet_lane.TabletLane.{TabletLane}
 use Rattle.rk_master.specs.Parts.{IsClosable, tablet_of}
 use Rattle.rk_master.specs.Places.{Row}
-use Rattle.rk_master.specs.Pulls.{asked_for, with_resolved, with_side}
+use Rattle.rk_master.specs.Pulls.{with_resolved, with_side}
 use Rattle.rk_master.specs.State.{master_of}
 use Rattle.rk_master.proofs.Closable.{lawful_read}
 use Rattle.rk_master.proofs.Handovers.{tablet_read}

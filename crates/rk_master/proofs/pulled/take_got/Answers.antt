@@ -1,6 +1,5 @@
-use Rattle.std.proofs.Common.{◌≡◌, true, List, ◌&&◌, ap, refl, sym, subst, ◌∙◌}
-use Rattle.std.proofs.lemmas.Bool.{cond-true}
-use Rattle.rk_world.specs.Master.{Master, tablet_at}
+use Rattle.std.proofs.Common.{List, ◌&&◌, ap, refl, sym, subst, ◌∙◌}
+use Rattle.rk_world.specs.Master.{Master}
 use Rattle.rk_world.specs.RoleTests.{is_receiving_at}
 use Rattle.rk_world.specs.Tablet.{Tablet, no_tablet}
 use Rattle.rk_priority.specs.Hashes.{is_batch}

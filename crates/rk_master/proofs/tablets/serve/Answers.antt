@@ -1,7 +1,6 @@
 use Rattle.std.proofs.Common.{List, set, sym, ap, ◌∙◌, subst}
 use Rattle.rk_types.specs.NumberMap.{insert}
 use Rattle.rk_transfer.specs.declared.handover.Handover.{Handover}
-use Rattle.rk_transfer.specs.declared.role.Role.TheVariants as roles
 use Rattle.rk_world.specs.Tablet.{Tablet, with_handover}
 use Rattle.rk_master.specs.declared.tablet_lane.TabletLane.{TabletLane}
 use Rattle.rk_master.specs.Parts.{served, tablet_of, tablets_of}
