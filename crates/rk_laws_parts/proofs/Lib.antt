@@ -54,6 +54,10 @@ pub mod GatheringChanges
 pub mod SegmentGathered
 pub mod Steady
 pub mod TurnedRows
+pub mod OpensOn
+pub mod BeforeTurn
+pub mod RowSays
+pub mod RowTurned
 pub mod RoleTaken
 pub mod Closed
 pub mod Frozen

@@ -80,13 +80,17 @@ all_turned P rows old new tablet has goes all =
     (λ (before : Contains rows x). All-contains P rows x all before)
     (stood rows tablet new x stands))
 
+-- rows cover a hash as others do
+abbrev CoverAs : List Row → List Row → ℕ → ℕ → Type 0
+CoverAs rows others table hash = is_covered rows table hash ≡ is_covered others table hash
+
 -- the same hashes are covered
 pub covered_turned : (rows : List Row) (tablet : ℕ) (old new : Row) → row_of rows tablet ≡ Some old → new.range ≡ old.range → (table hash : ℕ) → is_covered (replaced tablet new rows) table hash ≡ is_covered rows table hash
 covered_turned [] tablet old new found same table hash = refl
 covered_turned (first ∷ rest) tablet old new found same table hash =
     go (eqb first.tablet tablet) (λ later. covered_turned rest tablet old new later same table hash) found
   where
-    go : (b : Bool) → (row_of rest tablet ≡ Some old → is_covered (replaced tablet new rest) table hash ≡ is_covered rest table hash) → cond b (Some first) (row_of rest tablet) ≡ Some old → is_covered (cond b (new ∷ rest) (first ∷ replaced tablet new rest)) table hash ≡ is_covered (first ∷ rest) table hash
+    go : (b : Bool) → (row_of rest tablet ≡ Some old → CoverAs (replaced tablet new rest) rest table hash) → cond b (Some first) (row_of rest tablet) ≡ Some old → CoverAs (cond b (new ∷ rest) (first ∷ replaced tablet new rest)) (first ∷ rest) table hash
     go true later found =
         let is : first ≡ old = cc in
         ap (λ (range : Range). has range table hash || is_covered rest table hash) (same ∙ sym (ap (λ (r : Row). r.range) is))
@@ -97,13 +101,17 @@ some_first : (b : Bool) (row : Row) (later : Option Row) → is_some (cond b (So
 some_first true row later = refl
 some_first false row later = refl
 
+-- rows know a number as others do
+abbrev KnowAs : List Row → List Row → ℕ → Type 0
+KnowAs rows others number = is_some (row_of rows number) ≡ is_some (row_of others number)
+
 -- the same numbers are known
 pub known_turned : (rows : List Row) (tablet : ℕ) (old new : Row) → row_of rows tablet ≡ Some old → new.tablet ≡ old.tablet → (number : ℕ) → is_some (row_of (replaced tablet new rows) number) ≡ is_some (row_of rows number)
 known_turned [] tablet old new found same number = refl
 known_turned (first ∷ rest) tablet old new found same number =
     go (eqb first.tablet tablet) (λ later. known_turned rest tablet old new later same number) found
   where
-    go : (b : Bool) → (row_of rest tablet ≡ Some old → is_some (row_of (replaced tablet new rest) number) ≡ is_some (row_of rest number)) → cond b (Some first) (row_of rest tablet) ≡ Some old → is_some (row_of (cond b (new ∷ rest) (first ∷ replaced tablet new rest)) number) ≡ is_some (row_of (first ∷ rest) number)
+    go : (b : Bool) → (row_of rest tablet ≡ Some old → KnowAs (replaced tablet new rest) rest number) → cond b (Some first) (row_of rest tablet) ≡ Some old → KnowAs (cond b (new ∷ rest) (first ∷ replaced tablet new rest)) (first ∷ rest) number
     go true later found =
         let is : first ≡ old = cc in
         some_first (eqb new.tablet number) new (row_of rest number)

@@ -22,6 +22,7 @@ use Rattle.rk_transfer.specs.declared.role.Role.{Role}
 use Rattle.rk_transfer.specs.declared.role.Role.TheVariants as roles
 use Rattle.rk_tablet_map.specs.Phase.{lineage_of}
 use Rattle.rk_tablet_map.specs.Rows.{add_fault, split_fault}
+use Rattle.rk_tablet_map.specs.declared.phase.Phase.{Phase}
 use Rattle.rk_tablet_map.specs.declared.phase.Phase.TheVariants.{Owned, Opening, Moving, Rebuilding}
 use Rattle.rk_tablet_map.specs.declared.row.Row.{Row}
 use Rattle.rk_message.specs.declared.handover.Grant.{Grant}
@@ -36,19 +37,22 @@ use Rattle.rk_world.specs.RoleTests.{is_absent, is_gathering, is_idle}
 use Rattle.rk_world.specs.SideLogs.{sealed_sides}
 use Rattle.rk_world.specs.Master.{touches}
 use Rattle.rk_world.specs.Coordinator.{Handed}
+use Rattle.rk_world.specs.Notices.{names}
 use Rattle.rk_world.specs.Written.{Written, applied_entries, member_truth}
 use Rattle.rk_world.specs.Premises.{IsMaster}
-use Rattle.rk_sound.specs.View.{View}
+use Rattle.rk_sound.specs.View.{View, truths}
+use Rattle.rk_sound.specs.Rows.{IsFormed}
 use Rattle.rk_sound.specs.Terms.{IsBelowOthers}
 use Rattle.rk_sound.specs.Cover.{IsWithinRows}
-use Rattle.rk_sound.specs.Posts.{InvitedTarget, post_of, speaks}
-use Rattle.rk_sound.specs.Roles.{RoleFits}
-use Rattle.rk_sound.specs.Handing.{is_wanting}
+use Rattle.rk_sound.specs.Posts.{InvitedTarget, Post, StillCounts, Holds, bond_of, post_of, speaks}
+use Rattle.rk_sound.specs.Roles.{KeepTerm, RoleFits}
+use Rattle.rk_sound.specs.Handing.{is_wanting, target_truth}
 use Rattle.rk_sound.specs.Calls.{IsKnown}
 use Rattle.rk_sound.specs.Receives.{is_joining, HasPulled, HasArrived, scan_items, IsOutdone, IsFound, entries_from, copied_items}
 use Rattle.rk_sound.specs.Logs.{stored_of}
-use Rattle.rk_sound.specs.Rebuilds.{AreGathered, IsGatherOf, IsReadPart, READ_BACKUP, NeededOf}
-use Rattle.rk_sound.specs.Messages.{AsksFor, HasJoined, HasRebuilt, MayFollowClose, IsOwner}
+use Rattle.rk_sound.specs.Rebuilds.{AreGathered, IsGatherOf, IsReadPart, MarkFits, RowIsRebuilt, READ_BACKUP, NeededOf}
+use Rattle.rk_sound.specs.Messages.{AsksFor, HasJoined, HasRebuilt, IsRebuiltBy, MayFollowClose, IsOwner}
+use Rattle.rk_sound.specs.Tables.{has_all_items}
 use Rattle.rk_sound.specs.Changes.{HasSegmentLeft}
 
 -- nothing of a range that is not applied stands in a log
@@ -296,6 +300,57 @@ pub record MayAdd (v : View) (row : Row) (master : ℕ) : Type 0 where
   pub fits : add_fault v.rows row ≡ None
   pub begins : row.phase ≡ Owned master 0
   pub first_term : row.term ≡ 1
+
+-- a row at another term and phase
+abbrev pub row_at : Row → ℕ → Phase → Row
+row_at row term phase = record row { term = term; phase = phase }
+
+-- a row that opens goes on to open, and the place of its target is noted then
+pub record OpensOn (old new : Phase) : Type 0 where
+  pub source : ℕ
+  pub from : ℕ
+  pub target : ℕ
+  pub noted : Option ℕ
+  pub place : ℕ
+  pub was : old ≡ Opening source from target noted
+  pub is : new ≡ Opening source from target (Some place)
+
+-- what a master has of a tablet fits its new post, where its row had another term; in the new post it speaks and has all items only
+-- where it did before, and it owns the tablet still if it did
+pub record MayTakePost (was is : Post) (old new : ℕ) (handover : Handover) (applied : ℕ) : Type 0 where
+  pub fits : Holds (bond_of is handover.role) new handover.term applied
+  pub speaks : speaks is handover new ≡ true → speaks was handover old ≡ true
+  pub full : has_all_items is handover new ≡ true → has_all_items was handover old ≡ true
+  pub owns : IsOwner was handover.term old → IsOwner is handover.term new
+
+-- a row of the lineage that it had may be at another phase: its term rises, so no order or report of the old one counts any more, or it
+-- opens and goes on to open. The masters that the phase names are there, what each has fits its new post, and a Close that a living
+-- master would follow it may follow still. The row does not move then; no living master rebuilds it, and what is rebuilt of it, and the
+-- marks of its tablet, fit the new phase
+pub record MayTurn (v : View) (row : Row) (term : ℕ) (phase : Phase) : Type 0 where
+  pub has_row : Contains v.rows row
+  pub lineage_is : lineage_of phase ≡ lineage_of row.phase
+  pub term_is : (row.term < term) ⊎ ((term ≡ row.term) × OpensOn row.phase phase)
+  pub formed : IsFormed phase
+  pub named : (master : ℕ) → names phase master ≡ true → IsMaster v.masters master
+  pub at_term : KeepTerm phase (λ master. (v.handovers master row.tablet).term) term
+  pub posts :
+      (master : ℕ) → StillCounts (v.live master) (v.handovers master row.tablet).term term
+      → MayTakePost (post_of row.phase master) (post_of phase master) row.term term (v.handovers master row.tablet)
+      (v.written master).applied
+  pub closes :
+      (master order : ℕ) → v.live master ≡ true → (v.handovers master row.tablet).term < order
+      → MayFollowClose row master order → MayFollowClose (row_at row term phase) master order
+  pub unmoved : target_truth v.written v.handed (row_at row term phase) phase ≡ None
+  pub given_up : (master : ℕ) → v.live master ≡ true → IsRebuiltBy row.phase master → ⊥
+  pub rebuilt :
+      RowIsRebuilt (row_at row term phase) phase (truths v row) v.logs v.written v.stored v.handovers v.completions v.gathers v.merged
+      v.records v.live
+  pub marks :
+      (master : ℕ)
+      → All (λ mark. mark.tablet ≡ row.tablet
+      → MarkFits (row_at row term phase) master (v.handovers master row.tablet) (v.live master) (v.written master) mark)
+      (v.written master).marks
 
 -- a row that is owned may begin to move to another master that is there
 pub record MayMigrate (v : View) (row : Row) (to : ℕ) : Type 0 where

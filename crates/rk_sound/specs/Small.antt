@@ -1,6 +1,6 @@
 -- Small changes of the world that the first laws are about, and what they make of a view. A change of a view has the name of the
 -- change of the world, and its condition stands in `Changes` or `Moves`.
-use Rattle.std.specs.Prelude.{◌==◌, ℕ, ◌+◌, if◌then◌else◌, List, [], ◌∷◌, ◌++◌, length, slice_get, Option, Some}
+use Rattle.std.specs.Prelude.{◌==◌, ℕ, ◌+◌, if◌then◌else◌, List, [], ◌∷◌, ◌++◌, length, slice_get, Option}
 use Rattle.rk_types.specs.NumberMap.{insert, remove}
 use Rattle.rk_types.specs.declared.call.Call.{Call}
 use Rattle.rk_types.specs.declared.call.Ended.{Ended}
@@ -11,7 +11,6 @@ use Rattle.rk_log.specs.Log.{with_entry}
 use Rattle.rk_transfer.specs.declared.handover.Handover.{Handover}
 use Rattle.rk_transfer.specs.declared.role.Role.TheVariants as roles
 use Rattle.rk_tablet_map.specs.Rows.{replaced}
-use Rattle.rk_tablet_map.specs.declared.phase.Phase.TheVariants.{Opening}
 use Rattle.rk_tablet_map.specs.declared.row.Row.{Row}
 use Rattle.rk_priority.specs.Hashes.{Hashes, batched, got, wanting}
 use Rattle.rk_message.specs.Wire.{without_message, with_message}
@@ -180,10 +179,6 @@ segment_gathered_in w master copy = with_master w master (segment_gathered (mast
 -- a row is turned into another one of its number and range
 abbrev pub turned : View → Row → View
 turned v row = record v { rows = replaced row.tablet row v.rows }
-
--- the row that opens, once the place of its target is noted
-abbrev pub with_place : Row → ℕ → ℕ → ℕ → ℕ → Row
-with_place row source sfrom target place = record row { phase = Opening source sfrom target (Some place) }
 
 -- the place of a target is noted
 abbrev pub place_noted_in : World → Row → ℕ → ℕ → ℕ → ℕ → World
