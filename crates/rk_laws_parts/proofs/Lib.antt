@@ -62,6 +62,7 @@ pub mod RoleTaken
 pub mod Closed
 pub mod Frozen
 pub mod PlaceNoted
+pub mod MigrationBegun
 pub mod SmallWorld
 pub mod SmallWorldLooks
 pub mod SmallWorldMap

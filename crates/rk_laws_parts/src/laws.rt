@@ -12,8 +12,8 @@ ghost use Rattle.rk_types.specs.declared.lineage.Member.{Member};
 ghost use Rattle.rk_types.specs.Range.{meets};
 ghost use Rattle.rk_sound.specs.Logs.{stored_of};
 ghost use Rattle.rk_sound.specs.Changes.{MayAccept, MayCome, MaySave, MaySend, MayStage};
-ghost use Rattle.rk_sound.specs.Moves.{MayClose, MayFreeze, MayGather, MayNote, MayPass, MayResolve};
-ghost use Rattle.rk_sound.specs.Small.{batch_asked_in, client_come, hash_wanted_in, hashes_resolved_in, token_passed_in, write_staged_in, message_forgotten, message_sent, record_accepted_in, request_saved, tablet_closed_in, tablet_frozen_in, place_noted_in, segment_gathered_in};
+ghost use Rattle.rk_sound.specs.Moves.{MayClose, MayFreeze, MayGather, MayMigrate, MayNote, MayPass, MayResolve};
+ghost use Rattle.rk_sound.specs.Small.{batch_asked_in, client_come, hash_wanted_in, hashes_resolved_in, token_passed_in, write_staged_in, message_forgotten, message_sent, record_accepted_in, request_saved, tablet_closed_in, tablet_frozen_in, place_noted_in, migration_begun_in, segment_gathered_in};
 ghost use Rattle.rk_sound.specs.View.{view};
 ghost use Rattle.rk_sound.specs.Whole.{IsSound};
 ghost use Rattle.rk_world.specs.World.{World, backup_at, tablet_in, lives, log_in, new_world, written_in};
@@ -26,7 +26,8 @@ pub fn new_lanes_are_sound()
 
 /// A sound lane stays sound when a message is sent or forgotten, when a client comes, when a request is saved that may be
 /// sent again, when the record of a client's last call is accepted, when a write is staged, when a tablet closes and when it
-/// freezes, and when the place of a target is noted, wherever the condition of the change holds; forgetting has none.
+/// freezes, when the place of a target is noted, and when a row begins to move, wherever the condition of the change holds;
+/// forgetting has none.
 pub fn small_changes_keep_lanes_sound()
     ensures sent { (w : World) (message : Message) → IsSound w → MaySend (view w) message → IsSound (message_sent w message) }
     ensures forgotten { (w : World) (number : ℕ) → IsSound w → IsSound (message_forgotten w number) }
@@ -44,6 +45,8 @@ pub fn small_changes_keep_lanes_sound()
     ensures noted { (w : World) (row : Row) (source sfrom target place : ℕ)
         → IsSound w → MayNote (view w) row source sfrom target place
         → IsSound (place_noted_in w row source sfrom target place) }
+    ensures migrated { (w : World) (row : Row) (to : ℕ)
+        → IsSound w → (may : MayMigrate (view w) row to) → IsSound (migration_begun_in w row may.owner may.from to) }
 {}
 
 /// A sound lane stays sound when a hash is wanted first, when a batch of the wanted ones is asked for, when hashes are resolved,

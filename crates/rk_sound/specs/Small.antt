@@ -25,6 +25,7 @@ use Rattle.rk_world.specs.Pulls.{hashes_resolved, token_passed}
 use Rattle.rk_world.specs.Rebuilds.{segment_gathered}
 use Rattle.rk_world.specs.MasterTurn.{batch_asked}
 use Rattle.rk_world.specs.CoordinatorStep.{place_noted}
+use Rattle.rk_world.specs.Migrations.{migration_begun}
 use Rattle.rk_world.specs.Journal.{accepted_at}
 use Rattle.rk_world.specs.Ledger.{with_accepted, with_client, with_request}
 use Rattle.rk_world.specs.Written.{Written}
@@ -184,3 +185,7 @@ turned v row = record v { rows = replaced row.tablet row v.rows }
 abbrev pub place_noted_in : World → Row → ℕ → ℕ → ℕ → ℕ → World
 place_noted_in w row source sfrom target place =
     with_coordinator w (place_noted w.coordinator row source sfrom target place)
+
+-- a row begins to move
+abbrev pub migration_begun_in : World → Row → ℕ → ℕ → ℕ → World
+migration_begun_in w row owner from to = with_coordinator w (migration_begun w.coordinator row owner from to)

@@ -7,6 +7,7 @@ use Rattle.rk_laws_parts.proofs.WriteStaged.{sound_staged}
 use Rattle.rk_laws_parts.proofs.Closed.{sound_closed}
 use Rattle.rk_laws_parts.proofs.Frozen.{sound_frozen}
 use Rattle.rk_laws_parts.proofs.PlaceNoted.{sound_noted}
+use Rattle.rk_laws_parts.proofs.MigrationBegun.{sound_migrated}
 use Rattle.rk_laws_parts.proofs.laws.small_changes_keep_lanes_sound.Goals as goal
 
 pub returns-clause-sent : goal.returns-clause-sent
@@ -35,3 +36,6 @@ returns-clause-frozen c = λ w master tablet sound may. sound_frozen w master ta
 
 pub returns-clause-noted : goal.returns-clause-noted
 returns-clause-noted c = sound_noted
+
+pub returns-clause-migrated : goal.returns-clause-migrated
+returns-clause-migrated c = sound_migrated
