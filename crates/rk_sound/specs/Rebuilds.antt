@@ -29,7 +29,7 @@ use Rattle.rk_world.specs.declared.work.Merged.{Merged}
 use Rattle.rk_world.specs.Ends.{told, items_of, told_by, items_in}
 use Rattle.rk_world.specs.declared.work.Mark.{Mark}
 use Rattle.rk_world.specs.Marks.{is_marked, unmarked_from}
-use Rattle.rk_world.specs.Material.{counting, side_entries, material_of, as_entries, named, counts}
+use Rattle.rk_world.specs.Material.{counting, side_entries, material_of, as_entries, counts}
 use Rattle.rk_world.specs.Lineage.{is_member}
 use Rattle.rk_world.specs.Gather.{Gather, Gathered, next_reading, by_member}
 use Rattle.rk_world.specs.Merge.{merge, floor_of}
