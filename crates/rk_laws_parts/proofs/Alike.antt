@@ -1,5 +1,5 @@
 -- Handovers that answer alike where the parts ask who answers calls, and who waits for a grant.
-use Rattle.std.proofs.Common.{◌≡◌, ℕ, Bool, cond, ltb, ◌||◌, ◌&&◌, eqb, List, ◌∷◌, Option, Some, None, refl, sym, ap}
+use Rattle.std.proofs.Common.{◌≡◌, ℕ, Bool, true, cond, ltb, ◌||◌, ◌&&◌, eqb, List, ◌∷◌, Option, Some, None, refl, sym, ap, ◌∙◌, ⊎_elim, inl, inr}
 use Rattle.std.specs.Option.{option_map}
 use Rattle.rk_types.specs.NumberMap.{NumberMap, get}
 use Rattle.rk_types.specs.declared.lineage.Member.{Member}
@@ -18,11 +18,9 @@ use Rattle.rk_world.specs.Lineage.{second_of}
 use Rattle.rk_world.specs.RoleTests.{is_rebuilding}
 use Rattle.rk_world.specs.Coordinator.{Handed}
 use Rattle.rk_world.specs.Written.{Written, member_truth}
-use Rattle.rk_sound.specs.Posts.{Post, Owner, OpeningSource, InvitedTarget, ReadyTarget, MovingSource, MovingTarget, OnlyRebuilder, FirstRebuilder, LastRebuilder, OutsideRebuilder, FormerMember, Bystander, speaks}
+use Rattle.rk_sound.specs.Posts.{Post, Owner, OpeningSource, InvitedTarget, ReadyTarget, MovingSource, MovingTarget, OnlyRebuilder, FirstRebuilder, LastRebuilder, OutsideRebuilder, FormerMember, Bystander, StillCounts, speaks}
 use Rattle.rk_sound.specs.Handing.{is_wanting, second_has, is_waiting, is_waiting_at, handed_for_grant, handed_by, beginning_in, target_truth}
-use Rattle.rk_sound.specs.Small.{as_frozen, risen}
-use Rattle.rk_laws_parts.proofs.Changing.{KeepsNow}
-use Rattle.rk_laws_parts.proofs.Differs.{keeps_each}
+use Rattle.rk_sound.specs.Small.{as_frozen, with_counter}
 
 -- two handovers, or one before and after, that answer alike
 pub record IsAlike (old new : Handover) : Type 0 where
@@ -38,9 +36,9 @@ AreAlike handovers now = (master number : ℕ) → IsAlike (handovers master num
 pub alike_itself : (handover : Handover) → IsAlike handover handover
 alike_itself handover = record { same_serving = refl; same_rebuilding = refl; same_wanting = refl; same_term = refl }
 
--- a tablet whose counter rises answers as before
-pub alike_counted : (handover : Handover) → IsAlike handover (risen handover)
-alike_counted handover = record { same_serving = refl; same_rebuilding = refl; same_wanting = refl; same_term = refl }
+-- a tablet with another counter answers as before
+pub alike_counted : (counter : ℕ) (handover : Handover) → IsAlike handover (with_counter counter handover)
+alike_counted counter handover = record { same_serving = refl; same_rebuilding = refl; same_wanting = refl; same_term = refl }
 
 -- one that closes and freezes does so too
 pub alike_frozen : (handover : Handover) → handover.role ≡ roles.Closing → IsAlike handover (as_frozen handover)
@@ -51,9 +49,10 @@ alike_frozen handover closing = record {
   same_term = refl;
 }
 
--- where one tablet is another now that answers alike, all do
-pub alike_all : (master number : ℕ) (handover : Handover) (handovers now : ℕ → ℕ → Handover) → KeepsNow master number handover handovers now → IsAlike (handovers master number) handover → AreAlike handovers now
-alike_all master number handover handovers now is alike = keeps_each IsAlike master number handover handovers now is alike_itself alike
+-- what a master has still counts as before, where it keeps the same term
+pub still_counts : (live : Bool) (old new term : ℕ) → new ≡ old → StillCounts live new term → StillCounts live old term
+still_counts live old new term same counts =
+    ⊎_elim (λ (lives : live ≡ true). inl lives) (λ (at : new ≡ term). inr (sym same ∙ at)) counts
 
 -- such tablets speak for a post alike
 pub speaks_alike : (post : Post) (term : ℕ) (old new : Handover) → IsAlike old new → speaks post new term ≡ speaks post old term
@@ -94,7 +93,7 @@ handed_by_alike row handovers now (bodies.Grant grant) alike =
 handed_by_alike row handovers now _ alike = refl
 
 -- what the target of a row that moves has applied, behind what its source told, is the same where as much is applied
-pub target_truth_same : (written now : ℕ → Written) (handed : NumberMap Handed) (row : Row) (phase : Phase) → ((range : Range) (member : Member) → member_truth now range member ≡ member_truth written range member) → target_truth now handed row phase ≡ target_truth written handed row phase
+pub target_truth_same : (written now : ℕ → Written) (handed : NumberMap Handed) (row : Row) (phase : Phase) → ((range : Range) (m : Member) → member_truth now range m ≡ member_truth written range m) → target_truth now handed row phase ≡ target_truth written handed row phase
 target_truth_same written now handed row (Owned owner from) same = refl
 target_truth_same written now handed row (Opening source sfrom target dfrom) same = refl
 target_truth_same written now handed row (Moving source sfrom target dfrom) same =

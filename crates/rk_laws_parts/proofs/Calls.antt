@@ -19,8 +19,7 @@ use Rattle.rk_sound.specs.Posts.{post_of, speaks, StillCounts}
 use Rattle.rk_sound.specs.Handing.{handed_by, handed_for_grant, target_truth}
 use Rattle.rk_sound.specs.Calls.{AreHandedOver, IsKnown, IsStagedEnd, ReachAll, TellAll}
 use Rattle.rk_sound.specs.Whole.{CallsOf}
-use Rattle.rk_laws_parts.proofs.Differs.{still_counts}
-use Rattle.rk_laws_parts.proofs.Alike.{AreAlike, speaks_alike, handed_for_grant_alike, handed_by_alike, target_truth_same}
+use Rattle.rk_laws_parts.proofs.Alike.{AreAlike, still_counts, speaks_alike, handed_for_grant_alike, handed_by_alike, target_truth_same}
 
 -- tablets become others that answer alike
 pub calls_alike : (v : View) (truths rests : Row → List Entry) (now : ℕ → ℕ → Handover) → CallsOf v truths rests → AreAlike v.handovers now → CallsOf (record v { handovers = now }) truths rests

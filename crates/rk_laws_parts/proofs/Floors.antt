@@ -6,6 +6,7 @@ use Rattle.std.proofs.lemmas.List.Sums.{fold-append}
 use Rattle.rk_types.specs.declared.held.Held.{Held}
 use Rattle.rk_entry.specs.declared.entry.Entry.{Entry}
 use Rattle.rk_entry.specs.declared.entry.Entry.TheVariants as entries
+use Rattle.rk_entry.specs.declared.entry.Refused.{Refused}
 use Rattle.rk_overlay.proofs.Members.{none_stands, stands_cases}
 use Rattle.rk_world.specs.Ends.{items_of}
 use Rattle.rk_world.specs.Merge.{floor_by, floor_of}
@@ -59,3 +60,12 @@ next_push truth rest number item version next =
     let same : floor_of (truth ++ (rest ++ entries.Held item ∷ [])) ≡ max (floor_of (truth ++ rest)) (item.version + 1) =
     ap floor_of (sym (append_assoc truth rest (entries.Held item ∷ []))) ∙ floor_push (truth ++ rest) item in
     omega (arith, same, version, next)
+
+-- an entry that bears neither a version nor a floor leaves the next number what it is
+pub next_stays : (truth rest : List Entry) (number : ℕ) (refused : Refused) → IsNext (truth ++ rest) number → IsNext (truth ++ (rest ++ entries.Refused refused ∷ [])) number
+next_stays truth rest number refused next =
+    subst (λ (floor : ℕ). floor ≤ number)
+    (sym
+    (ap floor_of (sym (append_assoc truth rest (entries.Refused refused ∷ [])))
+    ∙ fold-append floor_by 1 (truth ++ rest) (entries.Refused refused ∷ [])))
+    next

@@ -1,18 +1,16 @@
 pub mod Put
 pub mod Masters
-pub mod Changing
-pub mod Differs
 pub mod Lists
 pub mod Fresh
 pub mod Empty
 pub mod Shares
 pub mod Views
 pub mod Apart
-pub mod Staging
 pub mod Alike
 pub mod Speakers
 pub mod Seen
-pub mod Staged
+pub mod Applied
+pub mod Appending
 pub mod Rows
 pub mod Terms
 pub mod Cover
@@ -28,7 +26,6 @@ pub mod Freezing
 pub mod Places
 pub mod Floors
 pub mod Histories
-pub mod Applied
 pub mod Waiting
 pub mod Targets
 pub mod Grows
@@ -45,6 +42,7 @@ pub mod Accepted
 pub mod Forgotten
 pub mod Come
 pub mod Saved
+pub mod CallAppended
 pub mod WriteStaged
 pub mod PullingChanges
 pub mod HashWanted

@@ -4,24 +4,23 @@ use Rattle.std.specs.Prelude.{◌≢◌, All}
 use Rattle.std.proofs.lemmas.Bool.{cases_eq}
 use Rattle.std.proofs.lemmas.List.Elements.{All-nil, All-push, All-weaker}
 use Rattle.rk_types.proofs.NumberMaps.{each_weaker}
-use Rattle.rk_types.specs.NumberMap.{NumberMap}
 use Rattle.rk_types.specs.declared.node.Node.{Node}
 use Rattle.rk_types.specs.declared.node.Node.TheVariants as nodes
-use Rattle.rk_outside.specs.Segments.{Segments}
 use Rattle.rk_entry.specs.declared.entry.Entry.{Entry}
 use Rattle.rk_log.proofs.LogLaws.{committed_entry}
 use Rattle.rk_log.specs.Known.{Known}
 use Rattle.rk_log.specs.Log.{Log, bytes_of, is_side_stored, known_of, with_entry}
 use Rattle.rk_message.specs.declared.message.Body.{Body}
 use Rattle.rk_message.specs.declared.message.Body.TheVariants as bodies
-use Rattle.rk_message.specs.declared.message.Message.{Message}
 use Rattle.rk_message.specs.declared.replication.Append.{Append}
 use Rattle.rk_world.specs.declared.work.Mark.{Mark}
 use Rattle.rk_world.specs.Written.{Written}
 use Rattle.rk_sound.specs.Logs.{IsFirstPart, IsCopy, IsKnownBefore, IsLog, IsFromLog, Logs, LogSays, segments_in, stored_of}
 use Rattle.rk_sound.specs.Changes.{HasSegmentLeft}
-use Rattle.rk_sound.specs.Small.{with_one_more}
-use Rattle.rk_laws_parts.proofs.Changing.{DiffersAt}
+use Rattle.rk_sound.specs.Small.{put, with_one_more}
+use Rattle.rk_sound.specs.View.{View}
+use Rattle.rk_sound.specs.Whole.{LogsOf}
+use Rattle.rk_laws_parts.proofs.Put.{put_by, put_here, put_other}
 use Rattle.rk_laws_parts.proofs.Segments.{Grows, grows_entry}
 
 -- ---- a log grows at its end
@@ -88,39 +87,45 @@ log_grown log written stored entry grows none old = record {
       (λ mark past. omega (arith, past, length-append written.entries (entry ∷ []))) written.marks old.marked;
 }
 
--- a message says of a log that grew what it said
-says_grown : (logs logs' : ℕ → Log) (stored : ℕ → Segments) (master : ℕ) (entry : Entry) → DiffersAt master (with_entry (logs master) entry) logs logs' → Grows (logs master) (with_entry (logs master) entry)
-    → (from to : Node) (body : Body) → LogSays logs stored from to body → LogSays logs' stored from to body
-says_grown logs logs' stored master entry differs grows (nodes.Master q) (nodes.Backup backup) (bodies.Append append) piece =
-    ⊎_elim
-    (λ (here : q ≡ master).
-    subst (λ (m : ℕ). IsFromLog (logs' m) (known_of (logs' m) backup) append) (sym here)
-    (subst (λ (l : Log). IsFromLog l (known_of l backup) append) (sym differs.here)
-    (piece_grown (logs master) (with_entry (logs master) entry) (known_of (logs master) backup) append grows
-    (subst (λ (m : ℕ). IsFromLog (logs m) (known_of (logs m) backup) append) here piece))))
-    (λ (apart : q ≡ master → ⊥). subst (λ (l : Log). IsFromLog l (known_of l backup) append) (sym (differs.others q apart)) piece)
-    (cases_eq q master)
-says_grown logs logs' stored master entry differs grows _ _ _ says = says
+module _ (v : View) (master : ℕ) (entry : Entry) (few : HasSegmentLeft (v.logs master)) where
+  -- the logs with one more entry at one master
+  abbrev logs : ℕ → Log
+  logs = put v.logs master (with_entry (v.logs master) entry)
 
--- one more entry at the end of a master's log, which names no side segment
-pub logs_grown : (logs logs' : ℕ → Log) (written written' : ℕ → Written) (stored : ℕ → Segments) (wire : NumberMap Message) (master : ℕ) (entry : Entry) → Logs logs written stored wire
-    → DiffersAt master (with_entry (logs master) entry) logs logs' → DiffersAt master (with_one_more (written master) entry) written written' → segments_in entry ≡ [] → HasSegmentLeft (logs master) → Logs logs' written' stored wire
-logs_grown logs logs' written written' stored wire master entry old logs_differ written_differ none few =
-    let grows : Grows (logs master) (with_entry (logs master) entry) = grows_entry (logs master) entry few in
-    record {
-      each = λ q.
-          ⊎_elim
-          (λ (here : q ≡ master).
-          subst (λ (m : ℕ). IsLog (logs' m) (written' m) (stored_of stored m)) (sym here)
-          (subst (λ (l : Log). IsLog l (written' master) (stored_of stored master)) (sym logs_differ.here)
-          (subst (λ (w : Written). IsLog (with_entry (logs master) entry) w (stored_of stored master)) (sym written_differ.here)
-          (log_grown (logs master) (written master) (stored_of stored master) entry grows none (old.each master)))))
-          (λ (apart : q ≡ master → ⊥).
-          subst (λ (l : Log). IsLog l (written' q) (stored_of stored q)) (sym (logs_differ.others q apart))
-          (subst (λ (w : Written). IsLog (logs q) w (stored_of stored q)) (sym (written_differ.others q apart)) (old.each q)))
-          (cases_eq q master);
-      sent =
-          each_weaker (λ number message. LogSays logs stored message.from message.to message.body) (λ number message. LogSays logs' stored message.from message.to message.body) wire
-          (λ number message. says_grown logs logs' stored master entry logs_differ grows message.from message.to message.body)
-          old.sent;
-    }
+  -- a message says of a log that grew what it said
+  says_grown : (from to : Node) (body : Body) → LogSays v.logs v.stored from to body → LogSays logs v.stored from to body
+  says_grown (nodes.Master q) (nodes.Backup backup) (bodies.Append append) piece =
+      put_by v.logs master (λ log. with_entry log entry) (λ log. IsFromLog log (known_of log backup) append) q
+      (λ here.
+      subst (λ (m : ℕ). IsFromLog (with_entry (v.logs m) entry) (known_of (v.logs m) backup) append) (sym here)
+      (piece_grown (v.logs master) (with_entry (v.logs master) entry) (known_of (v.logs master) backup) append
+      (grows_entry (v.logs master) entry few)
+      (subst (λ (m : ℕ). IsFromLog (v.logs m) (known_of (v.logs m) backup) append) here piece)))
+      (λ apart. piece)
+  says_grown _ _ _ says = says
+
+  -- one more entry at the end of a master's log, which names no side segment
+  pub logs_grown : LogsOf v → segments_in entry ≡ [] → Logs logs (put v.written master (with_one_more (v.written master) entry)) v.stored v.wire
+  logs_grown old none = record {
+    each = λ q.
+        ⊎_elim
+        (λ (here : q ≡ master).
+        subst (λ (m : ℕ). IsLog (logs m) (put v.written master (with_one_more (v.written master) entry) m) (stored_of v.stored m)) (sym here)
+        (subst (λ (l : Log). IsLog l (put v.written master (with_one_more (v.written master) entry) master) (stored_of v.stored master))
+        (sym (put_here v.logs master (with_entry (v.logs master) entry) master refl))
+        (subst (λ (w : Written). IsLog (with_entry (v.logs master) entry) w (stored_of v.stored master))
+        (sym (put_here v.written master (with_one_more (v.written master) entry) master refl))
+        (log_grown (v.logs master) (v.written master) (stored_of v.stored master) entry (grows_entry (v.logs master) entry few) none
+        (old.each master)))))
+        (λ (apart : q ≡ master → ⊥).
+        subst (λ (l : Log). IsLog l (put v.written master (with_one_more (v.written master) entry) q) (stored_of v.stored q))
+        (sym (put_other v.logs master (with_entry (v.logs master) entry) q apart))
+        (subst (λ (w : Written). IsLog (v.logs q) w (stored_of v.stored q))
+        (sym (put_other v.written master (with_one_more (v.written master) entry) q apart)) (old.each q)))
+        (cases_eq q master);
+    sent =
+        each_weaker (λ number message. LogSays v.logs v.stored message.from message.to message.body)
+        (λ number message. LogSays logs v.stored message.from message.to message.body) v.wire
+        (λ number message. says_grown message.from message.to message.body)
+        old.sent;
+  }

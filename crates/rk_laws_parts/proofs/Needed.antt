@@ -16,7 +16,6 @@ use Rattle.rk_types.specs.declared.lineage.Member.{Member}
 use Rattle.rk_types.specs.declared.range.Range.{Range}
 use Rattle.rk_entry.specs.Spelling.{spelled}
 use Rattle.rk_entry.specs.declared.entry.Entry.{Entry}
-use Rattle.rk_entry.specs.declared.entry.Entry.TheVariants as entries
 use Rattle.rk_log.proofs.Cuts.{AreFilled, filled_with, some_segments, spelled_some}
 use Rattle.rk_log.specs.Cut.{ends, ends_after, with_bytes}
 use Rattle.rk_log.specs.Known.{Known}
@@ -28,7 +27,7 @@ use Rattle.rk_tablet_map.specs.declared.row.Row.{Row}
 use Rattle.rk_world.specs.Ends.{items_in, items_of, told, told_by}
 use Rattle.rk_world.specs.declared.work.Mark.{Mark}
 use Rattle.rk_world.specs.Marks.{is_marked, unmarked_from}
-use Rattle.rk_world.specs.Material.{counts, counting, log_material, named, side_entries}
+use Rattle.rk_world.specs.Material.{counts, counting, log_material, named, named_by, side_entries}
 use Rattle.rk_world.specs.Lineage.{is_member}
 use Rattle.rk_world.specs.Gather.{Gather, Gathered}
 use Rattle.rk_world.specs.Written.{Written}
@@ -239,17 +238,17 @@ abbrev pub material_at : Range → ℕ → Written → List Entry
 material_at range from w = log_material range w.marks w.sides from w.entries
 
 -- the one is what it was
-pub given_up_pushed : (row : Row) (from : ℕ) (w : Written) (item : Held) → All (λ mark. mark.past ≤ length w.entries) w.marks → given_up_of row from (with_one_more w (entries.Held item)) ≡ given_up_of row from w
-given_up_pushed row from w item marked =
+pub given_up_pushed : (row : Row) (from : ℕ) (w : Written) (entry : Entry) → All (λ mark. mark.past ≤ length w.entries) w.marks → given_up_of row from (with_one_more w entry) ≡ given_up_of row from w
+given_up_pushed row from w entry marked =
     ap (counting row.range)
-    (marked_from_last (given_up_marks row w.marks) from w.entries (entries.Held item)
+    (marked_from_last (given_up_marks row w.marks) from w.entries entry
     (marked_none (given_up_marks row w.marks) (length w.entries)
     (kept_within (λ mark. mark.tablet == row.tablet && nat_lt mark.term row.term) w.marks (length w.entries) marked)))
 
--- and the other tells what it told
-pub material_pushed : (range : Range) (from : ℕ) (w : Written) (item : Held) → AreAmong (material_at range from w) (material_at range from (with_one_more w (entries.Held item)))
-material_pushed range from w item =
-    let list : List Entry = w.entries ++ entries.Held item ∷ [] in
+-- and the other tells what it told, where the entry names no side segment
+pub material_pushed : (range : Range) (from : ℕ) (w : Written) (entry : Entry) → named_by range entry ≡ [] → AreAmong (material_at range from w) (material_at range from (with_one_more w entry))
+material_pushed range from w entry none =
+    let list : List Entry = w.entries ++ entry ∷ [] in
     let side : List Entry → List Entry = λ all. counting range (flat_map (side_entries w.sides) (named range all)) in
     let old : List Entry = counting range (unmarked_from w.marks from w.entries) in
     let new : List Entry = counting range (unmarked_from w.marks from list) in
@@ -257,15 +256,15 @@ material_pushed range from w item =
     ap (λ (segments : List ℕ). counting range (flat_map (side_entries w.sides) segments)) named_pushed in
     subst (λ (sides : List Entry). AreAmong (old ++ side (unmarked_from w.marks from w.entries)) (new ++ sides)) (sym same)
     (among_front old new (side (unmarked_from w.marks from w.entries))
-    (extended_among old new (counting_extends range w.marks from w.entries list (record { more = entries.Held item ∷ []; parts = refl }))))
+    (extended_among old new (counting_extends range w.marks from w.entries list (record { more = entry ∷ []; parts = refl }))))
   where
-    named_pushed : named range (unmarked_from w.marks from (w.entries ++ entries.Held item ∷ [])) ≡ named range (unmarked_from w.marks from w.entries)
+    named_pushed : named range (unmarked_from w.marks from (w.entries ++ entry ∷ [])) ≡ named range (unmarked_from w.marks from w.entries)
     named_pushed =
         ⊎_elim
-        (λ (beyond : length w.entries < from). ap (named range) (unmarked_from_none w.marks from w.entries (entries.Held item) beyond))
+        (λ (beyond : length w.entries < from). ap (named range) (unmarked_from_none w.marks from w.entries entry beyond))
         (λ (within : from ≤ length w.entries).
-        ap (named range) (unmarked_from_last w.marks from w.entries (entries.Held item) within)
-        ∙ named_same range item (unmarked_from w.marks from w.entries) (is_marked w.marks (length w.entries)))
+        ap (named range) (unmarked_from_last w.marks from w.entries entry within)
+        ∙ named_same range entry (unmarked_from w.marks from w.entries) (is_marked w.marks (length w.entries)) none)
         (cases_lt (length w.entries) from)
 
 -- ---- what is needed is stored

@@ -48,22 +48,32 @@ put2_is old master number thing q r seen here apart =
     apart (λ at _. other at) ∙ sym (put2_other old master number thing q r (λ at _. other at)))
     (cases_eq q master)
 
--- a statement of what is kept holds of what changed and of the rest
-pub put2_by : {X : Type 0} (old : ℕ → ℕ → X) (master number : ℕ) (change : X → X) (P : X → Type 0) (q r : ℕ) → (q ≡ master → r ≡ number → P (change (old q r))) → ((q ≡ master → r ≡ number → ⊥) → P (old q r)) → P (put2 old master number (change (old master number)) q r)
-put2_by {X} old master number change P q r here apart =
+module _ {X : Type 0} (old : ℕ → ℕ → X) (master number : ℕ) (change : X → X) where
+  -- a statement of what is kept holds of what changed and of the rest
+  pub put2_by : (P : X → Type 0) (q r : ℕ) → (q ≡ master → r ≡ number → P (change (old q r))) → ((q ≡ master → r ≡ number → ⊥) → P (old q r)) → P (put2 old master number (change (old master number)) q r)
+  put2_by P q r here apart =
+      ⊎_elim
+      (λ (at : q ≡ master).
+      ⊎_elim
+      (λ (its : r ≡ number).
+      subst P
+      ((λ i. change (old (at i) (its i))) ∙ sym (put2_here old master number (change (old master number)) q r at its))
+      (here at its))
+      (λ (other : r ≡ number → ⊥).
+      subst P (sym (put2_other old master number (change (old master number)) q r (λ _ its. other its))) (apart (λ _ its. other its)))
+      (cases_eq r number))
+      (λ (other : q ≡ master → ⊥).
+      subst P (sym (put2_other old master number (change (old master number)) q r (λ at _. other at))) (apart (λ at _. other at)))
+      (cases_eq q master)
+
+-- a statement of what is kept for a number holds of what changed and of the rest
+pub put_by : {X : Type 0} (old : ℕ → X) (number : ℕ) (change : X → X) (P : X → Type 0) (q : ℕ) → (q ≡ number → P (change (old q))) → ((q ≡ number → ⊥) → P (old q)) → P (put old number (change (old number)) q)
+put_by {X} old number change P q here apart =
     ⊎_elim
-    (λ (at : q ≡ master).
-    ⊎_elim
-    (λ (its : r ≡ number).
-    subst P
-    ((λ i. change (old (at i) (its i))) ∙ sym (put2_here old master number (change (old master number)) q r at its))
-    (here at its))
-    (λ (other : r ≡ number → ⊥).
-    subst P (sym (put2_other old master number (change (old master number)) q r (λ _ its. other its))) (apart (λ _ its. other its)))
-    (cases_eq r number))
-    (λ (other : q ≡ master → ⊥).
-    subst P (sym (put2_other old master number (change (old master number)) q r (λ at _. other at))) (apart (λ at _. other at)))
-    (cases_eq q master)
+    (λ (is : q ≡ number).
+    subst P ((λ i. change (old (is i))) ∙ sym (put_here old number (change (old number)) q is)) (here is))
+    (λ (other : q ≡ number → ⊥). subst P (sym (put_other old number (change (old number)) q other)) (apart other))
+    (cases_eq q number)
 
 -- what is put where it was already changes nothing
 pub put_same : {X : Type 0} (old : ℕ → X) (number : ℕ) → ◌≡◌ {A = ℕ → X} (put old number (old number)) old

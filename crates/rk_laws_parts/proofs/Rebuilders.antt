@@ -1,4 +1,4 @@
--- What a master that rebuilds has, once a write was staged.
+-- What a master that rebuilds has, once the entry of a call is appended to its log.
 use Rattle.std.proofs.Common.{refl, ◌≡◌, ℕ, ◌≤◌, ◌<◌, ◌-◌, suc, true, false, List, [], ◌∷◌, ◌++◌, length, Some, None, sym, ap, ◌∙◌, subst, ⊎_elim, arith}
 use Rattle.std.specs.Prelude.{drop, filter, take, ◌==◌, Bool, Option, IfSome, None}
 use Rattle.std.specs.List.{All, Contains, flat_map, list_any}
@@ -10,8 +10,7 @@ use Rattle.rk_types.specs.declared.held.Held.{Held}
 use Rattle.rk_types.specs.declared.lineage.Member.{Member}
 use Rattle.rk_types.specs.declared.range.Range.{Range}
 use Rattle.rk_entry.specs.declared.entry.Entry.{Entry}
-use Rattle.rk_entry.specs.declared.entry.Entry.TheVariants as entries
-use Rattle.rk_log.specs.Known.{Known}
+use Rattle.rk_log.specs.Log.{known_of}
 use Rattle.rk_log.specs.declared.ends.EntryEnd.{EntryEnd}
 use Rattle.rk_table.specs.Items.{is_in}
 use Rattle.rk_transfer.specs.Handover.{is_serving}
@@ -20,22 +19,21 @@ use Rattle.rk_transfer.specs.declared.role.Role.{Role}
 use Rattle.rk_transfer.specs.declared.role.Role.TheVariants as roles
 use Rattle.rk_tablet_map.specs.declared.row.Row.{Row}
 use Rattle.rk_world.specs.declared.work.Merged.{Merged}
-use Rattle.rk_world.specs.Ranges.{has_key}
 use Rattle.rk_world.specs.Ends.{items_of}
 use Rattle.rk_world.specs.declared.work.Mark.{Mark}
 use Rattle.rk_world.specs.Marks.{is_marked, unmarked_from}
-use Rattle.rk_world.specs.Material.{material_of, named, side_entries}
+use Rattle.rk_world.specs.Material.{counts, material_of, named, named_by, side_entries}
 use Rattle.rk_world.specs.Lineage.{is_member, last_of}
 use Rattle.rk_world.specs.Master.{touches}
 use Rattle.rk_world.specs.Rebuilds.{own_place}
-use Rattle.rk_world.specs.Written.{Written, applied_entries}
-use Rattle.rk_done.specs.Completions.{Completions}
-use Rattle.rk_types.specs.declared.call.Ended.{Ended}
-use Rattle.rk_world.specs.Gather.{Gather}
+use Rattle.rk_world.specs.Written.{Written}
 use Rattle.rk_sound.specs.Receives.{IsFound, named_items}
-use Rattle.rk_sound.specs.Rebuilds.{IsMergedOf, has_merged, merged_place, IsPieceOf, IsRebuilder, IsRebuildTable, applied_from}
-use Rattle.rk_sound.specs.Small.{risen, with_one_more}
-use Rattle.rk_laws_parts.proofs.Shares.{named_same, unless_marked, unmarked_from_last, unmarked_from_none}
+use Rattle.rk_sound.specs.Rebuilds.{IsMergedOf, has_merged, merged_place, IsPieceOf, IsRebuilder, IsRebuildTable, READ_BACKUP, applied_from}
+use Rattle.rk_sound.specs.Logs.{stored_of}
+use Rattle.rk_sound.specs.Small.{with_counter, with_one_more}
+use Rattle.rk_sound.specs.View.{View, truths}
+use Rattle.rk_laws_parts.proofs.Shares.{named_same, names_call, touches_call, unless_marked, unmarked_from_last, unmarked_from_none}
+use Rattle.rk_laws_parts.proofs.Appending.{Appending, within}
 use Rattle.rk_laws_parts.proofs.Places.{behind_none}
 
 -- the last member of a lineage is one of it
@@ -61,6 +59,13 @@ unmarked_push p marks place list entry fails none =
     one_more xs true none = ap (list_any p) (append-nil xs) ∙ none
     one_more xs false none = behind_none p xs 0 entry none fails
 
+-- the side segments that a master names have what they had, where one more entry names none
+pub named_stays : (range : Range) (from : ℕ) (w : Written) (entry : Entry) → named_by range entry ≡ [] → from ≤ length w.entries → named_items range from (with_one_more w entry) ≡ named_items range from w
+named_stays range from w entry none placed =
+    ap (λ (segments : List ℕ). filter (is_in range) (items_of (flat_map (side_entries w.sides) segments)))
+    (ap (named range) (unmarked_from_last w.marks from w.entries entry placed)
+    ∙ named_same range entry (unmarked_from w.marks from w.entries) (is_marked w.marks (length w.entries)) none)
+
 -- a piece of a list stands there with more behind the list
 pub piece_push : {X : Type 0} (first past : ℕ) (xs ys : List X) → past ≤ length xs → take (past - first) (drop first (xs ++ ys)) ≡ take (past - first) (drop first xs)
 piece_push first past xs ys within =
@@ -73,35 +78,6 @@ piece_push first past xs ys within =
     ap (take (past - first)) (drop-append-le first xs ys inside)
     ∙ take-append-le (past - first) (drop first xs) ys (omega (arith, size)))
     (cases_lt (length xs) first)
-
--- the piece of a rebuild stands where it did, and still nothing of its range stands behind it
-piece_staged : (number from : ℕ) (handover : Handover) (merged : Merged) (w : Written) (item : Held) (entry : ℕ) → All (λ mark. mark.past ≤ length w.entries) w.marks → has_key handover.range item.table item.key ≡ false → IsPieceOf number from handover merged w entry → IsPieceOf number from handover merged (with_one_more w (entries.Held item)) entry
-piece_staged number from handover merged w item entry marked outside piece =
-    let inside : piece.mark.past ≤ length w.entries = All-contains (λ (mark : Mark). mark.past ≤ length w.entries) w.marks piece.mark marked piece.marked in
-    let within : suc entry ≤ length w.entries = omega (arith, inside, piece.past_is) in
-    record {
-      mark = piece.mark;
-      marked = piece.marked;
-      past_is = piece.past_is;
-      tablet_is = piece.tablet_is;
-      term_is = piece.term_is;
-      behind = piece.behind;
-      alone = piece.alone;
-      stands = piece_push piece.mark.first (suc entry) w.entries (entries.Held item ∷ []) within ∙ piece.stands;
-      last = behind_none (touches handover.range) w.entries (suc entry) (entries.Held item) piece.last outside;
-    }
-
--- what was merged is what it was
-merged_staged : (number from : ℕ) (own : List Entry) (handover : Handover) (completions : Completions) (gather : Gather) (ends : List Ended) (w : Written) (item : Held) (entry : ℕ) → All (λ mark. mark.past ≤ length w.entries) w.marks → has_key handover.range item.table item.key ≡ false → IsMergedOf number from own handover completions gather ends w entry → IsMergedOf number from own handover completions gather ends (with_one_more w (entries.Held item)) entry
-merged_staged number from own handover completions gather ends w item entry marked outside merged = record {
-  gathered_all = merged.gathered_all;
-  merged = merged.merged;
-  merged_is = merged.merged_is;
-  ends_are = merged.ends_are;
-  piece = piece_staged number from handover merged.merged w item entry marked outside merged.piece;
-  counter = merged.counter;
-  completions = merged.completions;
-}
 
 -- a role that serves has merged nothing
 serving_merged : (role : Role) → is_serving role ≡ true → merged_place role ≡ None
@@ -116,64 +92,108 @@ serving_unmerged role serves merged = false≢true merged
 abbrev AreShared : List Entry → List Held → List Held → Type 0
 AreShared truth table items = (item : Held) → Contains items item → Contains (items_of truth) item × IsFound table item
 
--- the applied entries are what they were
-applied_staged : (w : Written) (item : Held) → w.applied ≤ length w.entries → applied_entries (with_one_more w (entries.Held item)) ≡ applied_entries w
-applied_staged w item fits = take-append-le w.applied w.entries (entries.Held item ∷ []) fits
+module _ (v : View) (a : Appending v) (row : Row) (lineage : List Member) (to : ℕ) (Needed : ℕ → EntryEnd → Type 0) where
+  -- what the master has written and has of the row, and what it has written with the entry
+  abbrev w : Written
+  w = v.written to
 
--- the table of a master that rebuilds has what is applied, as before
-records_staged : (range : Range) (truth : List Entry) (from : ℕ) (w : Written) (item : Held) (table : List Held) → w.applied ≤ length w.entries → IsRebuildTable range truth (applied_from range from w) table → IsRebuildTable range truth (applied_from range from (with_one_more w (entries.Held item))) table
-records_staged range truth from w item table fits had =
-    subst (λ (sure : List Entry). IsRebuildTable range truth (material_of range (side_entries w.sides) (drop from sure)) table)
-    (sym (applied_staged w item fits)) had
+  abbrev more : Written
+  more = with_one_more (v.written to) a.entry
 
--- an item names no side segment
-pub named_staged : (range : Range) (from : ℕ) (w : Written) (item : Held) → from ≤ length w.entries → named_items range from (with_one_more w (entries.Held item)) ≡ named_items range from w
-named_staged range from w item within =
-    ap (λ (segments : List ℕ). filter (is_in range) (items_of (flat_map (side_entries w.sides) segments)))
-    (ap (named range) (unmarked_from_last w.marks from w.entries (entries.Held item) within)
-    ∙ named_same range item (unmarked_from w.marks from w.entries) (is_marked w.marks (length w.entries)))
+  abbrev handover : Handover
+  handover = v.handovers to row.tablet
 
--- so the side segments that a master names have what they had
-sides_staged : (range : Range) (truth : List Entry) (from : ℕ) (w : Written) (item : Held) (table : List Held) → from ≤ length w.entries → AreShared truth table (named_items range from w) → AreShared truth table (named_items range from (with_one_more w (entries.Held item)))
-sides_staged range truth from w item table within shared =
-    subst (AreShared truth table) (sym (named_staged range from w item within)) shared
+  abbrev from : ℕ
+  from = own_place (v.handovers to row.tablet).role
 
--- and a place of its log is one of the longer one
-placed_staged : (from : ℕ) (w : Written) (item : Held) → from ≤ length w.entries → from ≤ length (w.entries ++ entries.Held item ∷ [])
-placed_staged from w item within = omega (arith, within, length-append w.entries (entries.Held item ∷ []))
+  -- a master that rebuilds the row, by what is needed, where this counts of its own entries, which are these, and this is its handover
+  abbrev pub IsRebuilderWith : List Entry → Written → Handover → Type 0
+  IsRebuilderWith own written handover =
+      IsRebuilder row lineage to (truths v row) own Needed (λ q. known_of (v.logs q) READ_BACKUP) (λ q. stored_of v.stored q READ_BACKUP)
+      written handover (v.completions to row.tablet) (v.gathers to row.tablet) (v.merged to row.tablet) (v.records to)
 
--- a master that rebuilds a row, and wrote an item of another one
-pub rebuilder_apart : (row : Row) (lineage : List Member) (master : ℕ) (truth own : List Entry) (Needed : ℕ → EntryEnd → Type 0) (known : ℕ → Known) (stored : ℕ → ℕ → List ℕ) (w : Written) (handover : Handover) (completions : Completions) (gather : Gather) (ends : List Ended) (table : List Held) (item : Held) → w.applied ≤ length w.entries → All (λ mark. mark.past ≤ length w.entries) w.marks → has_key row.range item.table item.key ≡ false → IsRebuilder row lineage master truth own Needed known stored w handover completions gather ends table → IsRebuilder row lineage master truth own Needed known stored (with_one_more w (entries.Held item)) handover completions gather ends table
-rebuilder_apart row lineage master truth own Needed known stored w handover completions gather ends table item fits marked outside was =
-    let from : ℕ = own_place handover.role in
-    record {
-      range_is = was.range_is;
-      gather = was.gather;
-      read = was.read;
-      placed = placed_staged from w item was.placed;
-      merged =
-          IfSome_then (merged_place handover.role) was.merged
-          (λ entry merged.
-          merged_staged row.tablet from own handover completions gather ends w item entry marked
-          (ap (λ (range : Range). has_key range item.table item.key) was.range_is ∙ outside) merged);
-      items = records_staged row.range truth from w item table fits was.items;
-      sides = sides_staged row.range truth from w item table was.placed was.sides;
-      outside = was.outside;
-    }
+  marked : All (λ mark. mark.past ≤ length (v.written to).entries) (v.written to).marks
+  marked = (a.sound.logs.each to).marked
 
--- a master that is to rebuild the row and still serves it, as a member of its lineage
-pub rebuilder_serving : (row : Row) (lineage : List Member) (master : ℕ) (truth own own' : List Entry) (Needed : ℕ → EntryEnd → Type 0) (known : ℕ → Known) (stored : ℕ → ℕ → List ℕ) (w : Written) (handover : Handover) (completions : Completions) (gather : Gather) (ends : List Ended) (table : List Held) (item : Held) → w.applied ≤ length w.entries → is_serving handover.role ≡ true → is_member lineage master ≡ true → IsRebuilder row lineage master truth own Needed known stored w handover completions gather ends table → IsRebuilder row lineage master truth own' Needed known stored (with_one_more w (entries.Held item)) (risen handover) completions gather ends table
-rebuilder_serving row lineage master truth own own' Needed known stored w handover completions gather ends table item fits serves member was =
-    let from : ℕ = own_place handover.role in
-    record {
-      range_is = was.range_is;
-      gather = was.gather;
-      read = was.read;
-      placed = placed_staged from w item was.placed;
-      merged =
-          subst (λ (place : Option ℕ). IfSome place (λ entry. IsMergedOf row.tablet from own' (risen handover) completions gather ends (with_one_more w (entries.Held item)) entry))
-          (sym (serving_merged handover.role serves)) tt;
-      items = records_staged row.range truth from w item table fits was.items;
-      sides = sides_staged row.range truth from w item table was.placed was.sides;
-      outside = λ apart. absurd (false≢true (sym apart ∙ member));
-    }
+  -- the piece of a rebuild stands where it did, and still nothing of its range stands behind it
+  piece_stays : (merged : Merged) (entry : ℕ) → touches handover.range a.entry ≡ false → IsPieceOf row.tablet from handover merged w entry → IsPieceOf row.tablet from handover merged more entry
+  piece_stays merged entry outside piece =
+      let inside : piece.mark.past ≤ length w.entries =
+      All-contains (λ (mark : Mark). mark.past ≤ length w.entries) w.marks piece.mark marked piece.marked in
+      let within : suc entry ≤ length w.entries = omega (arith, inside, piece.past_is) in
+      record {
+        mark = piece.mark;
+        marked = piece.marked;
+        past_is = piece.past_is;
+        tablet_is = piece.tablet_is;
+        term_is = piece.term_is;
+        behind = piece.behind;
+        alone = piece.alone;
+        stands = piece_push piece.mark.first (suc entry) w.entries (a.entry ∷ []) within ∙ piece.stands;
+        last = behind_none (touches handover.range) w.entries (suc entry) a.entry piece.last outside;
+      }
+
+  -- what was merged is what it was
+  abbrev IsMergedWith : List Entry → Written → Handover → ℕ → Type 0
+  IsMergedWith own written handover entry =
+      IsMergedOf row.tablet from own handover (v.completions to row.tablet) (v.gathers to row.tablet) (v.merged to row.tablet) written entry
+
+  merged_stays : (own : List Entry) (entry : ℕ) → touches handover.range a.entry ≡ false → IsMergedWith own w handover entry → IsMergedWith own more handover entry
+  merged_stays own entry outside merged = record {
+    gathered_all = merged.gathered_all;
+    merged = merged.merged;
+    merged_is = merged.merged_is;
+    ends_are = merged.ends_are;
+    piece = piece_stays merged.merged entry outside merged.piece;
+    counter = merged.counter;
+    completions = merged.completions;
+  }
+
+  -- the table of a master that rebuilds has what is applied, as before
+  records_stay : IsRebuildTable row.range (truths v row) (applied_from row.range from w) (v.records to) → IsRebuildTable row.range (truths v row) (applied_from row.range from more) (v.records to)
+  records_stay =
+      subst
+      (λ (sure : List Entry). IsRebuildTable row.range (truths v row) (material_of row.range (side_entries w.sides) (drop from sure)) (v.records to))
+      (sym (take-append-le w.applied w.entries (a.entry ∷ []) (within v a to)))
+
+  -- the side segments that a master names have what they had
+  sides_stay : from ≤ length w.entries → AreShared (truths v row) (v.records to) (named_items row.range from w) → AreShared (truths v row) (v.records to) (named_items row.range from more)
+  sides_stay placed =
+      subst (AreShared (truths v row) (v.records to))
+      (sym (named_stays row.range from w a.entry (names_call row.range a.call a.entry a.may.own) placed))
+
+  -- and a place of its log is one of the longer one
+  place_stays : from ≤ length w.entries → from ≤ length (w.entries ++ a.entry ∷ [])
+  place_stays placed = omega (arith, placed, length-append w.entries (a.entry ∷ []))
+
+  -- a master that rebuilds a row, and wrote an entry of another one
+  pub rebuilder_apart : (own : List Entry) → counts row.range a.entry ≡ false → IsRebuilderWith own w handover → IsRebuilderWith own more handover
+  rebuilder_apart own outside was = record {
+    range_is = was.range_is;
+    gather = was.gather;
+    read = was.read;
+    placed = place_stays was.placed;
+    merged =
+        IfSome_then (merged_place handover.role) was.merged
+        (λ entry.
+        merged_stays own entry
+        (ap (λ (range : Range). touches range a.entry) was.range_is ∙ touches_call row.range a.call a.entry a.may.own ∙ outside));
+    items = records_stay was.items;
+    sides = sides_stay was.placed was.sides;
+    outside = was.outside;
+  }
+
+  -- a master that is to rebuild the row and still serves it, as a member of its lineage
+  pub rebuilder_serving : (own own' : List Entry) → is_serving handover.role ≡ true → is_member lineage to ≡ true → IsRebuilderWith own w handover → IsRebuilderWith own' more (with_counter a.counter handover)
+  rebuilder_serving own own' serves member was = record {
+    range_is = was.range_is;
+    gather = was.gather;
+    read = was.read;
+    placed = place_stays was.placed;
+    merged =
+        subst (λ (place : Option ℕ). IfSome place (IsMergedWith own' more (with_counter a.counter handover)))
+        (sym (serving_merged handover.role serves)) tt;
+    items = records_stay was.items;
+    sides = sides_stay was.placed was.sides;
+    outside = λ apart. absurd (false≢true (sym apart ∙ member));
+  }

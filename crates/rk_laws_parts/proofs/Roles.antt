@@ -11,7 +11,7 @@ use Rattle.rk_world.specs.Lineage.{is_member}
 use Rattle.rk_world.specs.Written.{Written}
 use Rattle.rk_sound.specs.Posts.{post_of, bond_of, Holds, StillCounts}
 use Rattle.rk_sound.specs.Roles.{Roles, RoleFits, KeepTerm}
-use Rattle.rk_laws_parts.proofs.Differs.{still_counts}
+use Rattle.rk_laws_parts.proofs.Alike.{still_counts}
 use Rattle.rk_laws_parts.proofs.Seen.{LooksAs}
 
 -- a tablet that looks as before fits its master's post as before

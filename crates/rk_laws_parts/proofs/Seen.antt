@@ -13,7 +13,7 @@ use Rattle.rk_world.specs.Written.{Written, member_truth}
 use Rattle.rk_sound.specs.Posts.{Post, bond_of, Holds}
 use Rattle.rk_sound.specs.Handing.{is_wanting}
 use Rattle.rk_sound.specs.Messages.{HasJoined, HasRebuilt}
-use Rattle.rk_sound.specs.Small.{risen}
+use Rattle.rk_sound.specs.Small.{with_counter}
 
 -- a role stands for rows and messages as another one did
 pub record GoesOn (old new : Role) : Type 0 where
@@ -61,9 +61,9 @@ looks_same handover = record {
   counter = λ _. refl;
 }
 
--- a tablet that is served looks the same once its counter rose
-pub counted_looks : (handover : Handover) → is_serving handover.role ≡ true → LooksAs handover (risen handover)
-counted_looks handover serves = record {
+-- a tablet that is served looks the same with another counter
+pub counted_looks : (counter : ℕ) (handover : Handover) → is_serving handover.role ≡ true → LooksAs handover (with_counter counter handover)
+counted_looks counter handover serves = record {
   term = refl;
   range = refl;
   role = goes_on_same handover.role;

@@ -1,10 +1,11 @@
--- What counts for a range of a log that grew by one item at its end.
+-- What counts for a range of a log that grew by one entry at its end.
 use Rattle.std.proofs.Common.{◌≡◌, ℕ, zero, suc, ◌+◌, ◌≤◌, ◌<◌, Bool, true, false, ◌&&◌, ◌||◌, cond, leb, ltb, List, [], ◌∷◌, ◌++◌, length, drop, fold, refl, sym, ap, ◌∙◌, ⊎_elim, arith, All, filter}
 use Rattle.std.specs.List.{flat_map}
 use Rattle.std.proofs.lemmas.Bool.{cases_lt, cond-true, cond-false, le-ltb}
 use Rattle.std.proofs.lemmas.Grind.{flat_map-append}
 use Rattle.std.proofs.lemmas.List.{drop-append-le, length-drop}
 use Rattle.std.proofs.lemmas.List.Elements.{filter-append, All-head, All-tail}
+use Rattle.rk_types.specs.declared.call.Call.{Call}
 use Rattle.rk_types.specs.declared.held.Held.{Held}
 use Rattle.rk_types.specs.declared.range.Range.{Range}
 use Rattle.rk_entry.specs.declared.entry.Entry.{Entry}
@@ -13,6 +14,9 @@ use Rattle.rk_world.specs.Ranges.{has_key}
 use Rattle.rk_world.specs.declared.work.Mark.{Mark}
 use Rattle.rk_world.specs.Marks.{is_marked, unmarked, unmarked_from}
 use Rattle.rk_world.specs.Material.{counts, counting, with_number, named, named_by, material_of, side_entries, log_material, joined_from, is_joined_in}
+use Rattle.rk_world.specs.Master.{touches}
+use Rattle.rk_sound.specs.Logs.{segments_in}
+use Rattle.rk_sound.specs.Rest.{IsEntryOf}
 
 append_nil : {X : Type 0} (xs : List X) → xs ++ [] ≡ xs
 append_nil {X} [] = refl
@@ -78,61 +82,100 @@ drop_none place list entry beyond =
 pub unmarked_from_none : (marks : List Mark) (place : ℕ) (list : List Entry) (entry : Entry) → length list < place → unmarked_from marks place (list ++ entry ∷ []) ≡ unmarked_from marks place list
 unmarked_from_none marks place list entry beyond = ap (unmarked marks place) (drop_none place list entry beyond)
 
--- an item names no side segment
-pub named_same : (range : Range) (item : Held) (list : List Entry) (marked : Bool) → named range (list ++ unless_marked marked (entries.Held item)) ≡ named range list
-named_same range item list true = ap (named range) (append_nil list)
-named_same range item list false =
+-- an entry that names no side segment lets the named ones be
+pub named_same : (range : Range) (entry : Entry) (list : List Entry) (marked : Bool) → named_by range entry ≡ [] → named range (list ++ unless_marked marked entry) ≡ named range list
+named_same range entry list true none = ap (named range) (append_nil list)
+named_same range entry list false none =
     ap (λ (segments : List ℕ). fold with_number [] segments)
-    (flat_map-append (named_by range) list (entries.Held item ∷ []) ∙ append_nil (flat_map (named_by range) list))
+    (flat_map-append (named_by range) list (entry ∷ [])
+    ∙ ap (λ (more : List ℕ). flat_map (named_by range) list ++ (more ++ [])) none
+    ∙ append_nil (flat_map (named_by range) list))
 
--- an item of another range does not count
-module _ (range : Range) (item : Held) (outside : has_key range item.table item.key ≡ false) where
-  counting_same : (list : List Entry) (marked : Bool) → counting range (list ++ unless_marked marked (entries.Held item)) ≡ counting range list
+-- an entry of another range does not count
+module _ (range : Range) (entry : Entry) (outside : counts range entry ≡ false) where
+  counting_same : (list : List Entry) (marked : Bool) → counting range (list ++ unless_marked marked entry) ≡ counting range list
   counting_same list true = ap (counting range) (append_nil list)
   counting_same list false =
-      filter-append (counts range) list (entries.Held item ∷ [])
-      ∙ ap (λ (more : List Entry). counting range list ++ more)
-      (cond-false (has_key range item.table item.key) (entries.Held item ∷ []) [] outside)
+      filter-append (counts range) list (entry ∷ [])
+      ∙ ap (λ (more : List Entry). counting range list ++ more) (cond-false (counts range entry) (entry ∷ []) [] outside)
       ∙ append_nil (counting range list)
 
-  pub material_outside : (marks : List Mark) (sides : List (List Held)) (place : ℕ) (list : List Entry) → log_material range marks sides place (list ++ entries.Held item ∷ []) ≡ log_material range marks sides place list
-  material_outside marks sides place list =
+  pub material_outside : (marks : List Mark) (sides : List (List Held)) (place : ℕ) (list : List Entry) → named_by range entry ≡ [] → log_material range marks sides place (list ++ entry ∷ []) ≡ log_material range marks sides place list
+  material_outside marks sides place list none =
       ⊎_elim
       (λ (beyond : length list < place).
-      ap (material_of range (side_entries sides)) (unmarked_from_none marks place list (entries.Held item) beyond))
+      ap (material_of range (side_entries sides)) (unmarked_from_none marks place list entry beyond))
       (λ (within : place ≤ length list).
-      ap (material_of range (side_entries sides)) (unmarked_from_last marks place list (entries.Held item) within)
+      ap (material_of range (side_entries sides)) (unmarked_from_last marks place list entry within)
       ∙ (λ i.
       counting_same (unmarked_from marks place list) (is_marked marks (length list)) i
-      ++ counting range (flat_map (side_entries sides) (named_same range item (unmarked_from marks place list) (is_marked marks (length list)) i))))
+      ++ counting range (flat_map (side_entries sides) (named_same range entry (unmarked_from marks place list) (is_marked marks (length list)) none i))))
       (cases_lt (length list) place)
 
-  pub rest_outside : (marks : List Mark) (place : ℕ) (list : List Entry) → counting range (unmarked_from marks place (list ++ entries.Held item ∷ [])) ≡ counting range (unmarked_from marks place list)
+  pub rest_outside : (marks : List Mark) (place : ℕ) (list : List Entry) → counting range (unmarked_from marks place (list ++ entry ∷ [])) ≡ counting range (unmarked_from marks place list)
   rest_outside marks place list =
       ⊎_elim
-      (λ (beyond : length list < place). ap (counting range) (unmarked_from_none marks place list (entries.Held item) beyond))
+      (λ (beyond : length list < place). ap (counting range) (unmarked_from_none marks place list entry beyond))
       (λ (within : place ≤ length list).
-      ap (counting range) (unmarked_from_last marks place list (entries.Held item) within)
+      ap (counting range) (unmarked_from_last marks place list entry within)
       ∙ counting_same (unmarked_from marks place list) (is_marked marks (length list)))
       (cases_lt (length list) place)
 
--- an item of the range, behind all marks, comes last
-pub rest_inside : (range : Range) (item : Held) (marks : List Mark) (place : ℕ) (list : List Entry) → has_key range item.table item.key ≡ true → All (λ mark. mark.past ≤ length list) marks → place ≤ length list → counting range (unmarked_from marks place (list ++ entries.Held item ∷ [])) ≡ counting range (unmarked_from marks place list) ++ entries.Held item ∷ []
-rest_inside range item marks place list inside free within =
-    ap (counting range)
-    (unmarked_from_last marks place list (entries.Held item) within
-    ∙ ap (λ (b : Bool). unmarked_from marks place list ++ unless_marked b (entries.Held item)) (marked_none marks (length list) free))
-    ∙ filter-append (counts range) (unmarked_from marks place list) (entries.Held item ∷ [])
-    ∙ ap (λ (more : List Entry). counting range (unmarked_from marks place list) ++ more)
-    (cond-true (has_key range item.table item.key) (entries.Held item ∷ []) [] inside)
+-- an entry of the range, behind all marks, comes last
+module _ (range : Range) (entry : Entry) (inside : counts range entry ≡ true) where
+  pub rest_inside : (marks : List Mark) (place : ℕ) (list : List Entry) → All (λ mark. mark.past ≤ length list) marks → place ≤ length list → counting range (unmarked_from marks place (list ++ entry ∷ [])) ≡ counting range (unmarked_from marks place list) ++ entry ∷ []
+  rest_inside marks place list free within =
+      ap (counting range)
+      (unmarked_from_last marks place list entry within
+      ∙ ap (λ (b : Bool). unmarked_from marks place list ++ unless_marked b entry) (marked_none marks (length list) free))
+      ∙ filter-append (counts range) (unmarked_from marks place list) (entry ∷ [])
+      ∙ ap (λ (more : List Entry). counting range (unmarked_from marks place list) ++ more)
+      (cond-true (counts range entry) (entry ∷ []) [] inside)
 
--- one more item is no Joined of any range
-pub joined_same : (range : Range) (place : ℕ) (list : List Entry) (item : Held) → joined_from range place (list ++ entries.Held item ∷ []) ≡ joined_from range place list
-joined_same range place list item =
+-- one more entry that is no Joined of a range lets those of the range be
+pub joined_same : (range : Range) (place : ℕ) (list : List Entry) (entry : Entry) → is_joined_in range entry ≡ false → joined_from range place (list ++ entry ∷ []) ≡ joined_from range place list
+joined_same range place list entry other =
     ⊎_elim
-    (λ (beyond : length list < place). ap (filter (is_joined_in range)) (drop_none place list (entries.Held item) beyond))
+    (λ (beyond : length list < place). ap (filter (is_joined_in range)) (drop_none place list entry beyond))
     (λ (within : place ≤ length list).
-    ap (filter (is_joined_in range)) (drop-append-le place list (entries.Held item ∷ []) within)
-    ∙ filter-append (is_joined_in range) (drop place list) (entries.Held item ∷ [])
+    ap (filter (is_joined_in range)) (drop-append-le place list (entry ∷ []) within)
+    ∙ filter-append (is_joined_in range) (drop place list) (entry ∷ [])
+    ∙ ap (λ (more : List Entry). joined_from range place list ++ more) (cond-false (is_joined_in range entry) (entry ∷ []) [] other)
     ∙ append_nil (joined_from range place list))
     (cases_lt (length list) place)
+
+-- ---- the entry of a call
+
+-- it counts for the ranges that have the call's key, and touches these alone
+pub counts_call : (range : Range) (call : Call) (entry : Entry) → IsEntryOf call entry → counts range entry ≡ has_key range call.table call.key
+counts_call range call (entries.Held held) own =
+    sym (ap (λ (table : ℕ). has_key range table call.key) own.table_is ∙ ap (has_key range held.table) own.key_is)
+counts_call range call (entries.Refused refused) own =
+    sym (ap (λ (table : ℕ). has_key range table call.key) own.table_is ∙ ap (has_key range refused.table) own.key_is)
+counts_call range call (entries.Carried carried) own = absurd own
+counts_call range call (entries.Joined joined) own = absurd own
+
+pub touches_call : (range : Range) (call : Call) (entry : Entry) → IsEntryOf call entry → touches range entry ≡ counts range entry
+touches_call range call (entries.Held held) own = refl
+touches_call range call (entries.Refused refused) own = refl
+touches_call range call (entries.Carried carried) own = absurd own
+touches_call range call (entries.Joined joined) own = absurd own
+
+-- it names no side segment, and is no Joined
+pub names_call : (range : Range) (call : Call) (entry : Entry) → IsEntryOf call entry → named_by range entry ≡ []
+names_call range call (entries.Held held) own = refl
+names_call range call (entries.Refused refused) own = refl
+names_call range call (entries.Carried carried) own = absurd own
+names_call range call (entries.Joined joined) own = absurd own
+
+pub segments_call : (call : Call) (entry : Entry) → IsEntryOf call entry → segments_in entry ≡ []
+segments_call call (entries.Held held) own = refl
+segments_call call (entries.Refused refused) own = refl
+segments_call call (entries.Carried carried) own = absurd own
+segments_call call (entries.Joined joined) own = absurd own
+
+pub joins_call : (range : Range) (call : Call) (entry : Entry) → IsEntryOf call entry → is_joined_in range entry ≡ false
+joins_call range call (entries.Held held) own = refl
+joins_call range call (entries.Refused refused) own = refl
+joins_call range call (entries.Carried carried) own = absurd own
+joins_call range call (entries.Joined joined) own = absurd own

@@ -1,39 +1,36 @@
--- The calls that wait at a master, and the rows that they wait for, once a write was staged.
+-- The calls that wait at a master, and the rows that they wait for, once the entry of a call is appended.
 use Rattle.std.proofs.Common.{◌≡◌, ℕ, ◌≤◌, ◌<◌, true, false, List, [], ◌∷◌, length, Some, refl, sym, ap, ◌∙◌, subst, ⊎_elim, arith}
-use Rattle.std.specs.Prelude.{slice_index_or, slice_get, drop, max, Option}
+use Rattle.std.specs.Prelude.{slice_index_or, slice_get, drop, max}
 use Rattle.std.specs.List.{All, Contains, list_any}
-use Rattle.std.proofs.lemmas.Bool.{cases_eq, false≢true}
+use Rattle.std.proofs.lemmas.Bool.{false≢true}
 use Rattle.std.proofs.lemmas.List.Elements.{Contains-get_or}
 use Rattle.std.proofs.lemmas.Option.{slice_get_within}
 use Rattle.rk_types.proofs.NumberMaps.{each_insert, each_weaker, get_same, get_other}
 use Rattle.rk_types.specs.NumberMap.{NumberMap, EachIn, insert}
 use Rattle.rk_types.specs.declared.call.Call.{Call}
-use Rattle.rk_types.specs.declared.held.Held.{Held}
 use Rattle.rk_types.specs.declared.lineage.Member.{Member}
-use Rattle.rk_model.proofs.Places.{slice_get_end, slice_get_push_cases}
+use Rattle.rk_types.specs.declared.range.Range.{Range}
+use Rattle.rk_model.proofs.Places.{slice_get_end, slice_get_front, slice_get_push_cases}
 use Rattle.rk_entry.specs.declared.entry.Entry.{Entry}
-use Rattle.rk_entry.specs.declared.entry.Entry.TheVariants as entries
 use Rattle.rk_transfer.specs.Handover.{is_serving}
 use Rattle.rk_transfer.specs.declared.handover.Handover.{Handover}
 use Rattle.rk_transfer.specs.declared.role.Role.{Role}
 use Rattle.rk_transfer.specs.declared.role.Role.TheVariants as roles
 use Rattle.rk_tablet_map.specs.Phase.{lineage_of}
 use Rattle.rk_tablet_map.specs.declared.row.Row.{Row}
-use Rattle.rk_world.specs.Ranges.{has_key}
 use Rattle.rk_world.specs.declared.work.Mark.{Mark}
 use Rattle.rk_world.specs.Marks.{is_marked}
 use Rattle.rk_world.specs.Material.{joined_from}
-use Rattle.rk_world.specs.Lineage.{last_of}
 use Rattle.rk_world.specs.RoleTests.{is_idle, may_have_staged}
 use Rattle.rk_world.specs.Master.{touches}
-use Rattle.rk_world.specs.declared.ledger.LastCall.{LastCall}
 use Rattle.rk_world.specs.Written.{Written}
-use Rattle.rk_sound.specs.Rows.{AreApart, IsFormed}
+use Rattle.rk_sound.specs.Rows.{AreApart}
 use Rattle.rk_sound.specs.Rest.{Waits, IsEntryOf, FirstIsDone, EachHasCall, OnlyIsUnnamed, IsLast}
 use Rattle.rk_sound.specs.Small.{with_one_more}
-use Rattle.rk_laws_parts.proofs.Changing.{Lane, Stages}
-use Rattle.rk_laws_parts.proofs.Shares.{joined_same}
-use Rattle.rk_laws_parts.proofs.Staged.{HasGrown, row_cases, counted_same, written_cases, written_grown, first_apart, formed_apart}
+use Rattle.rk_sound.specs.View.{View}
+use Rattle.rk_laws_parts.proofs.Shares.{joined_same, joins_call, marked_none, touches_call}
+use Rattle.rk_laws_parts.proofs.Put.{put_by}
+use Rattle.rk_laws_parts.proofs.Appending.{Appending, after, its_row, of_written, counted_same, outside, first_apart, formed_apart, row_cases, truth_same, material_same, rest_same, last_placed}
 use Rattle.rk_laws_parts.proofs.Places.{behind_none}
 
 -- a master that serves a tablet is not idle
@@ -50,23 +47,11 @@ serving_stages roles.Frozen serves = absurd (cc)
 serving_stages (roles.Wanting from) serves = absurd (cc)
 serving_stages role serves = refl
 
--- a call that waits goes on to wait, where the master has what it had and may stage as before
-waits_on : (rows : List Row) (handovers handovers' : ℕ → Handover) (written written' : Written) (master place : ℕ) (call : Call) → HasGrown written written' → ((number : ℕ) → may_have_staged (handovers' number).role ≡ may_have_staged (handovers number).role) → Waits rows handovers written master place call → Waits rows handovers' written' master place call
-waits_on rows handovers handovers' written written' master place call grown same old = record {
-  behind = subst (λ (n : ℕ). n ≤ place) (sym grown.applied) old.behind;
-  entry = old.entry;
-  stands = grown.stays place old.entry old.stands;
-  own = old.own;
-  unmarked = subst (λ (marks : List Mark). is_marked marks place ≡ false) (sym grown.marks) old.unmarked;
-  row = old.row;
-  has_row = old.has_row;
-  in_row = old.in_row;
-  last = old.last;
-  is_last = old.is_last;
-  here = old.here;
-  from = old.from;
-  may_stage = same old.row.tablet ∙ old.may_stage;
-}
+-- a master has written what it had, and maybe more
+record HasGrown (old new : Written) : Type 0 where
+  pub applied : new.applied ≡ old.applied
+  pub marks : new.marks ≡ old.marks
+  pub stays : (place : ℕ) (entry : Entry) → slice_get old.entries place ≡ Some entry → slice_get new.entries place ≡ Some entry
 
 -- each entry of a call has it, with one more entry and its call
 calls_push : (calls : NumberMap Call) (written : Written) (call : Call) (entry : Entry) → IsEntryOf call entry → EachHasCall calls written → EachHasCall (insert calls (length written.entries) call) (with_one_more written entry)
@@ -88,136 +73,161 @@ calls_push calls written call entry own old place e behind stands is unmarked =
     })
     (slice_get_push_cases written.entries entry e place stands)
 
--- a call to be staged is of the row's range, its entry is its own and bears no mark, and it comes behind what is applied and behind the
--- last member's place
-pub record IsNewCall (before : Lane) (master : ℕ) (row : Row) (last : Member) (call : Call) (item : Held) : Type 0 where
-  pub own : IsEntryOf call (entries.Held item)
-  pub inside : has_key row.range call.table call.key ≡ true
-  pub fits : max last.from (before.written master).applied ≤ length (before.written master).entries
-  pub unmarked : is_marked (before.written master).marks (length (before.written master).entries) ≡ false
+module _ (v : View) (a : Appending v) where
+  -- where the entry stands
+  abbrev place : ℕ
+  place = length (v.written a.master).entries
 
-module _ (rows : List Row) (before after : Lane) (master : ℕ) (row : Row) (call : Call) (item : Held) (last : Member) (stages : Stages rows before after master row call item) (is_last : last_of (lineage_of row.phase) ≡ Some last) (here : last.master ≡ master) (serves : is_serving (before.handovers master row.tablet).role ≡ true) where
+  -- what holds of the calls that wait with the new one, and of those that waited, holds of each
+  of_calls : (P : NumberMap Call → Type 0) (q : ℕ) → (q ≡ a.master → P (insert (v.calls q) place a.call)) → ((q ≡ a.master → ⊥) → P (v.calls q)) → P ((after v a).calls q)
+  of_calls P q here was = put_by v.calls a.master (λ calls. insert calls place a.call) P q here was
+
+  -- a master has what it had
+  grown : (q : ℕ) → HasGrown (v.written q) ((after v a).written q)
+  grown q =
+      of_written v a (HasGrown (v.written q)) q
+      (λ at. record {
+        applied = refl;
+        marks = refl;
+        stays = λ k entry. slice_get_front (v.written q).entries (a.entry ∷ []) k entry;
+      })
+      (λ apart. record { applied = refl; marks = refl; stays = λ k entry stands. stands })
+
   -- of two members the first has nothing more
-  done_at : (other : Row) → Contains rows other → (lineage : List Member) → AreApart lineage → lineage_of other.phase ≡ lineage → FirstIsDone before.written other.range lineage → FirstIsDone after.written other.range lineage
+  done_at : (other : Row) → Contains v.rows other → (lineage : List Member) → AreApart lineage → lineage_of other.phase ≡ lineage → FirstIsDone v.written other.range lineage → FirstIsDone (after v a).written other.range lineage
   done_at other has [] apart is done = tt
   done_at other has (only ∷ []) apart is done = tt
   done_at other has (first ∷ second ∷ more) apart is done =
-      let outside : first.master ≡ master → has_key other.range item.table item.key ≡ false =
-      first_apart rows before after master row call item stages last is_last here other has first second more apart is in
+      let beside = first_apart v a other has first second more apart is in
       record {
-        rest = stages.rest_same other.range first outside ∙ done.rest;
-        all = stages.material_same other.range first outside ∙ done.all ∙ sym (stages.truth_same other.range first);
+        rest = rest_same v a other.range first beside ∙ done.rest;
+        all = material_same v a other.range first beside ∙ done.all ∙ sym (truth_same v a other.range first);
       }
 
   -- so it is of each row
-  pub done_staged : All (λ r. IsFormed r.phase) rows → All (λ r. FirstIsDone before.written r.range (lineage_of r.phase)) rows → All (λ r. FirstIsDone after.written r.range (lineage_of r.phase)) rows
-  done_staged formed done k d within =
-      let r : Row = slice_index_or rows k d in
-      done_at r (Contains-get_or rows k d within) (lineage_of r.phase) (formed_apart r.phase (formed k d within)) refl (done k d within)
+  pub done_after : All (λ r. FirstIsDone (after v a).written r.range (lineage_of r.phase)) v.rows
+  done_after k d within =
+      let r : Row = slice_index_or v.rows k d in
+      done_at r (Contains-get_or v.rows k d within) (lineage_of r.phase) (formed_apart r.phase (a.sound.rows.formed k d within)) refl
+      (a.sound.rest.done k d within)
 
   -- the only member of a lineage has no more Joined entries
-  pub unnamed_staged : (other : Row) (lineage : List Member) → OnlyIsUnnamed before.written other.range lineage → OnlyIsUnnamed after.written other.range lineage
-  unnamed_staged other [] none = tt
-  unnamed_staged other (only ∷ []) none =
-      ⊎_elim
-      (λ (same : after.written only.master ≡ before.written only.master).
-      subst (λ (w : Written). joined_from other.range (max only.from w.applied) w.entries ≡ []) (sym same) none)
-      (λ (at : (only.master ≡ master) × (after.written only.master ≡ with_one_more (before.written only.master) (entries.Held item))).
-      subst (λ (w : Written). joined_from other.range (max only.from w.applied) w.entries ≡ []) (sym at.1)
-      (joined_same other.range (max only.from (before.written only.master).applied) (before.written only.master).entries item ∙ none))
-      (written_cases rows before after master row call item stages only.master)
-  unnamed_staged other (first ∷ second ∷ more) none = tt
+  pub unnamed_after : (range : Range) (lineage : List Member) → OnlyIsUnnamed v.written range lineage → OnlyIsUnnamed (after v a).written range lineage
+  unnamed_after range [] none = tt
+  unnamed_after range (only ∷ []) none =
+      of_written v a (λ (w : Written). joined_from range (max only.from w.applied) w.entries ≡ []) only.master
+      (λ at.
+      let w : Written = v.written only.master in
+      joined_same range (max only.from w.applied) w.entries a.entry (joins_call range a.call a.entry a.may.own) ∙ none)
+      (λ apart. none)
+  unnamed_after range (first ∷ second ∷ more) none = tt
 
   -- each call that waits is the last of its client
-  pub asked_staged : (asked : ℕ → Option LastCall) → IsLast (asked call.client) call → (q : ℕ) → EachIn (λ place c. IsLast (asked c.client) c) (before.calls q) → EachIn (λ place c. IsLast (asked c.client) c) (after.calls q)
-  asked_staged asked last q old =
-      ⊎_elim
-      (λ (at : q ≡ master).
-      subst (EachIn (λ place c. IsLast (asked c.client) c)) (sym stages.calls_differ.here ∙ ap after.calls (sym at))
-      (each_insert (λ place c. IsLast (asked c.client) c) (before.calls master) (length (before.written master).entries) call
-      (subst (λ (n : ℕ). EachIn (λ place c. IsLast (asked c.client) c) (before.calls n)) at old) last))
-      (λ (other : q ≡ master → ⊥).
-      subst (EachIn (λ place c. IsLast (asked c.client) c)) (sym (stages.calls_differ.others q other)) old)
-      (cases_eq q master)
+  abbrev AreLast : NumberMap Call → Type 0
+  AreLast = EachIn (λ _ c. IsLast (v.asked c.client) c)
+
+  pub asked_after : (q : ℕ) → AreLast (v.calls q) → AreLast ((after v a).calls q)
+  asked_after q old =
+      of_calls AreLast q
+      (λ at. each_insert (λ _ c. IsLast (v.asked c.client) c) (v.calls q) place a.call old a.may.last) (λ apart. old)
 
   -- what an idle master has not applied is of other rows
-  pub idle_staged : (q : ℕ) (other : Row) → Contains rows other → (is_idle (before.handovers q other.tablet).role ≡ true → list_any (touches other.range) (drop (before.written q).applied (before.written q).entries) ≡ false) → is_idle (after.handovers q other.tablet).role ≡ true → list_any (touches other.range) (drop (after.written q).applied (after.written q).entries) ≡ false
-  idle_staged q other has old idles =
-      let idle : is_idle (before.handovers q other.tablet).role ≡ true =
-      sym (counted_same rows before after master row call item stages (λ (handover : Handover). is_idle handover.role) (λ tablet. refl) q other.tablet) ∙ idles in
-      ⊎_elim
-      (λ (same : after.written q ≡ before.written q).
-      subst (λ (w : Written). list_any (touches other.range) (drop w.applied w.entries) ≡ false) (sym same) (old idle))
-      (λ (at : (q ≡ master) × (after.written q ≡ with_one_more (before.written q) (entries.Held item))).
-      let apart : has_key other.range item.table item.key ≡ false =
-      ⊎_elim
-      (λ (its : other ≡ row).
-      let busy : is_idle (before.handovers q other.tablet).role ≡ false =
-      ap (λ (n : ℕ). is_idle (before.handovers n other.tablet).role) at.0
-      ∙ ap (λ (r : Row). is_idle (before.handovers master r.tablet).role) its
-      ∙ serving_busy (before.handovers master row.tablet).role serves in
-      absurd (false≢true (sym busy ∙ idle)))
-      (λ (differs : other.tablet ≡ row.tablet → ⊥). stages.outside other has differs)
-      (row_cases rows before after master row call item stages other has) in
-      subst (λ (w : Written). list_any (touches other.range) (drop w.applied w.entries) ≡ false) (sym at.1)
-      (behind_none (touches other.range) (before.written q).entries (before.written q).applied (entries.Held item) (old idle) apart))
-      (written_cases rows before after master row call item stages q)
+  abbrev IsSettled : Range → Written → Type 0
+  IsSettled range w = list_any (touches range) (drop w.applied w.entries) ≡ false
 
-  -- the call that was staged waits
-  waits_new : IsNewCall before master row last call item → Waits rows (after.handovers master) (with_one_more (before.written master) (entries.Held item)) master (length (before.written master).entries) call
-  waits_new new = record {
-    behind = let within : (before.written master).applied ≤ length (before.written master).entries = omega (arith, new.fits) in within;
-    entry = entries.Held item;
-    stands = slice_get_end (before.written master).entries (entries.Held item);
-    own = new.own;
-    unmarked = new.unmarked;
-    row = row;
-    has_row = stages.has_row;
-    in_row = new.inside;
-    last = last;
-    is_last = is_last;
-    here = here;
-    from = omega (arith, new.fits);
-    may_stage =
-        counted_same rows before after master row call item stages (λ (handover : Handover). may_have_staged handover.role) (λ tablet. refl) master row.tablet
-        ∙ serving_stages (before.handovers master row.tablet).role serves;
+  idle_apart : (q : ℕ) (other : Row) → Contains v.rows other → is_idle (v.handovers q other.tablet).role ≡ true → q ≡ a.master → touches other.range a.entry ≡ false
+  idle_apart q other has idle at =
+      touches_call other.range a.call a.entry a.may.own
+      ∙ ⊎_elim
+      (λ (its : other ≡ its_row v a).
+      let busy : is_idle (v.handovers q other.tablet).role ≡ false =
+      ap (λ (n : ℕ). is_idle (v.handovers n other.tablet).role) at
+      ∙ ap (λ (r : Row). is_idle (v.handovers a.master r.tablet).role) its
+      ∙ serving_busy (v.handovers a.master (its_row v a).tablet).role a.may.served.serves in
+      absurd (false≢true (sym busy ∙ idle)))
+      (λ (differs : other.tablet ≡ (its_row v a).tablet → ⊥). outside v a other has differs)
+      (row_cases v a other has)
+
+  pub idle_after : (q : ℕ) (other : Row) → Contains v.rows other → (is_idle (v.handovers q other.tablet).role ≡ true → IsSettled other.range (v.written q)) → is_idle ((after v a).handovers q other.tablet).role ≡ true → IsSettled other.range ((after v a).written q)
+  idle_after q other has old idles =
+      let idle : is_idle (v.handovers q other.tablet).role ≡ true =
+      sym (counted_same v a (λ (handover : Handover). is_idle handover.role) (λ handover. refl) q other.tablet) ∙ idles in
+      of_written v a (IsSettled other.range) q
+      (λ at.
+      behind_none (touches other.range) (v.written q).entries (v.written q).applied a.entry (old idle) (idle_apart q other has idle at))
+      (λ apart. old idle)
+
+  -- a role stages as before
+  stages_same : (q r : ℕ) → may_have_staged ((after v a).handovers q r).role ≡ may_have_staged (v.handovers q r).role
+  stages_same = counted_same v a (λ (handover : Handover). may_have_staged handover.role) (λ handover. refl)
+
+  -- a call that waits goes on to wait
+  abbrev WaitsBefore : ℕ → ℕ → Call → Type 0
+  WaitsBefore q = Waits v.rows (v.handovers q) (v.written q) q
+
+  abbrev WaitsAfter : ℕ → ℕ → Call → Type 0
+  WaitsAfter q = Waits v.rows ((after v a).handovers q) ((after v a).written q) q
+
+  waits_on : (q k : ℕ) (c : Call) → WaitsBefore q k c → WaitsAfter q k c
+  waits_on q k c old = record {
+    behind = subst (λ (n : ℕ). n ≤ k) (sym (grown q).applied) old.behind;
+    entry = old.entry;
+    stands = (grown q).stays k old.entry old.stands;
+    own = old.own;
+    unmarked = subst (λ (marks : List Mark). is_marked marks k ≡ false) (sym (grown q).marks) old.unmarked;
+    row = old.row;
+    has_row = old.has_row;
+    in_row = old.in_row;
+    last = old.last;
+    is_last = old.is_last;
+    here = old.here;
+    from = old.from;
+    may_stage = stages_same q old.row.tablet ∙ old.may_stage;
   }
 
-  -- the calls that wait at a master
-  pub waiting_staged : IsNewCall before master row last call item → (q : ℕ) → EachIn (λ place c. Waits rows (before.handovers q) (before.written q) q place c) (before.calls q) → EachIn (λ place c. Waits rows (after.handovers q) (after.written q) q place c) (after.calls q)
-  waiting_staged new q old =
-      let on : (place : ℕ) (c : Call) → Waits rows (before.handovers q) (before.written q) q place c → Waits rows (after.handovers q) (after.written q) q place c = λ place c.
-      waits_on rows (before.handovers q) (after.handovers q) (before.written q) (after.written q) q place c
-      (written_grown rows before after master row call item stages q)
-      (counted_same rows before after master row call item stages (λ (handover : Handover). may_have_staged handover.role) (λ tablet. refl) q) in
-      let each : EachIn (λ place c. Waits rows (after.handovers q) (after.written q) q place c) (before.calls q) =
-      each_weaker (λ place c. Waits rows (before.handovers q) (before.written q) q place c) (λ place c. Waits rows (after.handovers q) (after.written q) q place c) (before.calls q) on old in
-      ⊎_elim
-      (λ (at : q ≡ master).
-      let its : Waits rows (after.handovers q) (after.written q) q (length (before.written master).entries) call =
-      subst (λ (n : ℕ). Waits rows (after.handovers n) (after.written n) n (length (before.written master).entries) call) (sym at)
-      (subst (λ (w : Written). Waits rows (after.handovers master) w master (length (before.written master).entries) call) (sym stages.written_differ.here) (waits_new new)) in
-      let table : insert (before.calls q) (length (before.written master).entries) call ≡ after.calls q =
-      ap (λ (n : ℕ). insert (before.calls n) (length (before.written master).entries) call) at ∙ sym stages.calls_differ.here ∙ ap after.calls (sym at) in
-      subst (λ (table : NumberMap Call). EachIn (λ place c. Waits rows (after.handovers q) (after.written q) q place c) table) table
-      (each_insert (λ place c. Waits rows (after.handovers q) (after.written q) q place c) (before.calls q) (length (before.written master).entries) call each its))
-      (λ (other : q ≡ master → ⊥).
-      subst (λ (table : NumberMap Call). EachIn (λ place c. Waits rows (after.handovers q) (after.written q) q place c) table) (sym (stages.calls_differ.others q other)) each)
-      (cases_eq q master)
+  -- the new call waits
+  waits_new : Waits v.rows ((after v a).handovers a.master) (with_one_more (v.written a.master) a.entry) a.master place a.call
+  waits_new = record {
+    behind = let within : (v.written a.master).applied ≤ place = omega (arith, last_placed v a) in within;
+    entry = a.entry;
+    stands = slice_get_end (v.written a.master).entries a.entry;
+    own = a.may.own;
+    unmarked = marked_none (v.written a.master).marks place (a.sound.logs.each a.master).marked;
+    row = its_row v a;
+    has_row = a.may.served.has_row;
+    in_row = a.may.served.in_row;
+    last = a.may.served.last;
+    is_last = a.may.served.is_last;
+    here = a.may.served.here;
+    from = omega (arith, last_placed v a);
+    may_stage =
+        stages_same a.master (its_row v a).tablet
+        ∙ serving_stages (v.handovers a.master (its_row v a).tablet).role a.may.served.serves;
+  }
+
+  waits_here : WaitsAfter a.master place a.call
+  waits_here =
+      of_written v a (λ (w : Written). Waits v.rows ((after v a).handovers a.master) w a.master place a.call) a.master (λ at. waits_new)
+      (λ apart. absurd (apart refl))
+
+  -- so do the calls that wait at a master
+  pub waiting_after : (q : ℕ) → EachIn (WaitsBefore q) (v.calls q) → EachIn (WaitsAfter q) ((after v a).calls q)
+  waiting_after q old =
+      let each : EachIn (WaitsAfter q) (v.calls q) =
+      each_weaker (WaitsBefore q) (WaitsAfter q) (v.calls q) (waits_on q) old in
+      of_calls (EachIn (WaitsAfter q)) q
+      (λ at.
+      each_insert (WaitsAfter q) (v.calls q) place a.call each (subst (λ (n : ℕ). WaitsAfter n place a.call) (sym at) waits_here))
+      (λ apart. each)
 
   -- the entries that have calls
-  pub found_staged : IsEntryOf call (entries.Held item) → (q : ℕ) → EachHasCall (before.calls q) (before.written q) → EachHasCall (after.calls q) (after.written q)
-  found_staged own q old =
-      ⊎_elim
-      (λ (at : q ≡ master).
-      let table : insert (before.calls q) (length (before.written q).entries) call ≡ after.calls q =
-      ap (λ (n : ℕ). insert (before.calls n) (length (before.written n).entries) call) at ∙ sym stages.calls_differ.here ∙ ap after.calls (sym at) in
-      let more : with_one_more (before.written q) (entries.Held item) ≡ after.written q =
-      ap (λ (n : ℕ). with_one_more (before.written n) (entries.Held item)) at ∙ sym stages.written_differ.here ∙ ap after.written (sym at) in
-      subst (λ (w : Written). EachHasCall (after.calls q) w) more
-      (subst (λ (table : NumberMap Call). EachHasCall table (with_one_more (before.written q) (entries.Held item))) table
-      (calls_push (before.calls q) (before.written q) call (entries.Held item) own old)))
-      (λ (other : q ≡ master → ⊥).
-      subst (λ (w : Written). EachHasCall (after.calls q) w) (sym (stages.written_differ.others q other))
-      (subst (λ (table : NumberMap Call). EachHasCall table (before.written q)) (sym (stages.calls_differ.others q other)) old))
-      (cases_eq q master)
+  pub found_after : (q : ℕ) → EachHasCall (v.calls q) (v.written q) → EachHasCall ((after v a).calls q) ((after v a).written q)
+  found_after q old =
+      of_calls (λ (calls : NumberMap Call). EachHasCall calls ((after v a).written q)) q
+      (λ at.
+      of_written v a (λ (w : Written). EachHasCall (insert (v.calls q) place a.call) w) q
+      (λ _.
+      subst (λ (n : ℕ). EachHasCall (insert (v.calls q) (length (v.written n).entries) a.call) (with_one_more (v.written q) a.entry)) at
+      (calls_push (v.calls q) (v.written q) a.call a.entry a.may.own old))
+      (λ apart. absurd (apart at)))
+      (λ apart. of_written v a (λ (w : Written). EachHasCall (v.calls q) w) q (λ at. absurd (apart at)) (λ _. old))

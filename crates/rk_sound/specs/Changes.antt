@@ -1,7 +1,8 @@
 -- Changes: the conditions of the small changes of calls, logs and messages, over views. A change is made where its condition holds, and then
 -- each part is kept; that a step meets the conditions of its changes is another matter, told by what it tests and by the parts.
-use Rattle.std.specs.Prelude.{◌≡◌, ◌≢◌, ◌≤◌, ◌<◌, ℕ, ◌+◌, Bool, true, false, List, [], ◌++◌, Option, Some, None, Contains, IfSome, All, length, slice_get, is_some}
+use Rattle.std.specs.Prelude.{◌≡◌, ◌≢◌, ◌≤◌, ◌<◌, ℕ, ◌+◌, Bool, true, false, if◌then◌else◌, List, [], ◌∷◌, ◌++◌, Option, Some, None, Contains, IfSome, All, length, slice_get, is_some}
 use Rattle.rk_types.specs.declared.call.Call.{Call}
+use Rattle.rk_types.specs.declared.call.End.TheVariants as ends
 use Rattle.rk_types.specs.declared.call.Outcome.{Outcome}
 use Rattle.rk_types.specs.declared.history.Placed.{Placed}
 use Rattle.rk_types.specs.declared.lineage.Member.{Member}
@@ -19,7 +20,7 @@ use Rattle.rk_tablet_map.specs.Rows.{row_of}
 use Rattle.rk_tablet_map.specs.declared.row.Row.{Row}
 use Rattle.rk_message.specs.declared.message.Message.{Message}
 use Rattle.rk_world.specs.Ranges.{has_key}
-use Rattle.rk_world.specs.Ends.{end_of_item, outcome_of}
+use Rattle.rk_world.specs.Ends.{end_of_item, items_in, outcome_of}
 use Rattle.rk_world.specs.Lineage.{last_of}
 use Rattle.rk_world.specs.Base.{Base, base_map, map_entry_of}
 use Rattle.rk_world.specs.Requests.{item_of}
@@ -33,7 +34,7 @@ use Rattle.rk_sound.specs.Logs.{LogSays, IsFirstPart, IsKnownBefore, stored_of}
 use Rattle.rk_sound.specs.Handing.{handed_by}
 use Rattle.rk_sound.specs.Calls.{AreHandedOver}
 use Rattle.rk_sound.specs.Counters.{IsNext}
-use Rattle.rk_sound.specs.Rest.{IsLastAsked, call_ends, records_of}
+use Rattle.rk_sound.specs.Rest.{IsEntryOf, IsLast, IsLastAsked, IsRest, call_ends, records_of}
 use Rattle.rk_sound.specs.Messages.{SaysOf, Says}
 use Rattle.rk_sound.specs.Asked.{RequestSays, IsAccepted, IsRequest, WasAsked, HasSeen}
 
@@ -131,6 +132,18 @@ MayEndIn v row call outcome = MayEnd v.base (rests v row) v.journal v.asked call
 abbrev pub HasSegmentLeft : Log → Type 0
 HasSegmentLeft log = length (cut log.entries) + 1 < FIRST_SIDE_SEGMENT
 
+-- the entry of a call may be appended to the log of a master that answers calls for the key, where the log has room; the tablet has
+-- this counter then. Each item of the entry is above all that counts for the row, and the counter above that and the entry. The call
+-- is the last that its client asked, and with its entry what is staged of the row goes on lawfully
+pub record MayAppend (v : View) (master : ℕ) (call : Call) (entry : Entry) (counter : ℕ) : Type 0 where
+  pub served : IsServedIn v master call
+  pub room : HasSegmentLeft (v.logs master)
+  pub own : IsEntryOf call entry
+  pub above : All (λ item. IsNext (truths v served.row ++ rests v served.row) item.version) (items_in entry)
+  pub next : IsNext (truths v served.row ++ (rests v served.row ++ entry ∷ [])) counter
+  pub last : IsLast (v.asked call.client) call
+  pub goes_on : IsRest v.base served.row.range (truths v served.row) (rests v served.row ++ entry ∷ []) v.journal v.asked
+
 -- the version that a master gives next to a key of a row
 abbrev pub next_version : View → ℕ → Row → ℕ
 next_version v master row = (v.handovers master row.tablet).counter
@@ -144,6 +157,10 @@ pub record MayStage (v : View) (master : ℕ) (call : Call) (value : Option (Lis
   pub leaves :
       change_of call.op (outcome_of (end_of_item (next_version v master served.row) value))
       ≡ Some (map_entry_of (item_of call (next_version v master served.row) value) value)
+
+-- how a refused call ends: what it found is absent, or has this version
+abbrev pub refused_as : ℕ → Bool → Outcome
+refused_as found absent = outcome_of (if absent then ends.Absent else ends.Mismatch found)
 
 -- a refusal may be staged where its master answers calls for the key
 pub record MayRefuse (v : View) (master : ℕ) (call : Call) (outcome : Outcome) : Type 0 where

@@ -1,6 +1,6 @@
 -- Small changes of the world that the first laws are about, and what they make of a view. A change of a view has the name of the
 -- change of the world, and its condition stands in `Changes` or `Moves`.
-use Rattle.std.specs.Prelude.{◌==◌, ℕ, ◌+◌, if◌then◌else◌, List, [], ◌∷◌, ◌++◌, length, slice_get, Option}
+use Rattle.std.specs.Prelude.{◌==◌, ℕ, ◌+◌, if◌then◌else◌, List, [], ◌∷◌, ◌++◌, length, slice_get, Option, Bool, Some}
 use Rattle.rk_types.specs.NumberMap.{insert, remove}
 use Rattle.rk_types.specs.declared.call.Call.{Call}
 use Rattle.rk_types.specs.declared.call.Ended.{Ended}
@@ -20,7 +20,7 @@ use Rattle.rk_world.specs.Gather.{Gather, gathering}
 use Rattle.rk_world.specs.Tablet.{Pulling, with_handover}
 use Rattle.rk_world.specs.Master.{with_tablet}
 use Rattle.rk_world.specs.Handovers.{tablet_closed}
-use Rattle.rk_world.specs.Requests.{hash_wanted, item_of, write_staged}
+use Rattle.rk_world.specs.Requests.{hash_wanted, item_of, refusal_of, refusal_staged, write_staged}
 use Rattle.rk_world.specs.Pulls.{hashes_resolved, token_passed}
 use Rattle.rk_world.specs.Rebuilds.{segment_gathered}
 use Rattle.rk_world.specs.MasterTurn.{batch_asked}
@@ -76,24 +76,35 @@ record_accepted_in w place = with_ledger w (with_accepted w.ledger place)
 abbrev pub with_one_more : Written → Entry → Written
 with_one_more written entry = record written { entries = written.entries ++ entry ∷ [] }
 
--- a handover whose counter rose by one
-abbrev pub risen : Handover → Handover
-risen handover = record handover { counter = handover.counter + 1 }
+-- a handover with this counter
+abbrev pub with_counter : ℕ → Handover → Handover
+with_counter counter handover = record handover { counter = counter }
 
--- a write or a removal is staged at a master, for a tablet: its item stands at the end of the log, with the counter as its version,
--- its call waits for that, and the counter rises
+-- the entry of a call is appended to the log of a master, for a tablet: the call waits for it, and the tablet has this counter now
+abbrev pub appended : View → ℕ → ℕ → Call → Entry → ℕ → View
+appended v master tablet call entry counter = record v {
+  logs = put v.logs master (with_entry (v.logs master) entry);
+  written = put v.written master (with_one_more (v.written master) entry);
+  calls = put v.calls master (insert (v.calls master) (length (v.written master).entries) call);
+  handovers = put2 v.handovers master tablet (with_counter counter (v.handovers master tablet));
+}
+
+-- a write or a removal is staged at a master, for a tablet: its item has the counter as its version, and the counter rises
 abbrev pub staged : View → ℕ → ℕ → Call → Option (List ℕ) → View
 staged v master tablet call value =
-    let entry = entries.Held (item_of call (v.handovers master tablet).counter value) in
-    record v {
-      logs = put v.logs master (with_entry (v.logs master) entry);
-      written = put v.written master (with_one_more (v.written master) entry);
-      calls = put v.calls master (insert (v.calls master) (length (v.written master).entries) call);
-      handovers = put2 v.handovers master tablet (risen (v.handovers master tablet));
-    }
+    let counter = (v.handovers master tablet).counter in
+    appended v master tablet call (entries.Held (item_of call counter value)) (counter + 1)
 
 abbrev pub write_staged_in : World → ℕ → ℕ → Call → Option (List ℕ) → World
 write_staged_in w master number call value = with_master w master (write_staged (master_at w master) number call value)
+
+-- a refusal is staged at a master, for a tablet, whose counter stays
+abbrev pub refused : View → ℕ → ℕ → Call → ℕ → Bool → View
+refused v master tablet call found absent =
+    appended v master tablet call (refusal_of call found absent) (v.handovers master tablet).counter
+
+abbrev pub refusal_staged_in : World → ℕ → Call → ℕ → Bool → World
+refusal_staged_in w master call found absent = with_master w master (refusal_staged (master_at w master) call found absent)
 
 -- a handover of a tablet that froze
 abbrev pub as_frozen : Handover → Handover
