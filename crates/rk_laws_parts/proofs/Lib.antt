@@ -44,6 +44,7 @@ pub mod Come
 pub mod Saved
 pub mod CallAppended
 pub mod WriteStaged
+pub mod RefusalStaged
 pub mod PullingChanges
 pub mod HashWanted
 pub mod HashesResolved

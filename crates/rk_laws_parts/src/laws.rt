@@ -1,5 +1,5 @@
 // The headline laws of sound lanes. Each function does nothing: its contract is the law.
-ghost use Rattle.std.specs.Prelude.{◌≡◌, ◌<◌, ◌≤◌, ℕ, true, List, None, Some, Option, Contains, IfSome, length, slice_get};
+ghost use Rattle.std.specs.Prelude.{◌≡◌, ◌<◌, ◌≤◌, ℕ, Bool, true, List, None, Some, Option, Contains, IfSome, length, slice_get};
 ghost use Rattle.rk_log.specs.Cut.{ends};
 ghost use Rattle.rk_log.specs.Log.{IsBackup};
 ghost use Rattle.rk_message.specs.declared.message.Message.{Message};
@@ -11,9 +11,9 @@ ghost use Rattle.rk_types.specs.declared.held.Token.{Token};
 ghost use Rattle.rk_types.specs.declared.lineage.Member.{Member};
 ghost use Rattle.rk_types.specs.Range.{meets};
 ghost use Rattle.rk_sound.specs.Logs.{stored_of};
-ghost use Rattle.rk_sound.specs.Changes.{MayAccept, MayCome, MaySave, MaySend, MayStage};
+ghost use Rattle.rk_sound.specs.Changes.{MayAccept, MayCome, MaySave, MaySend, MayStage, MayRefuse, refused_as};
 ghost use Rattle.rk_sound.specs.Moves.{MayClose, MayFreeze, MayGather, MayMigrate, MayNote, MayPass, MayResolve};
-ghost use Rattle.rk_sound.specs.Small.{batch_asked_in, client_come, hash_wanted_in, hashes_resolved_in, token_passed_in, write_staged_in, message_forgotten, message_sent, record_accepted_in, request_saved, tablet_closed_in, tablet_frozen_in, place_noted_in, migration_begun_in, segment_gathered_in};
+ghost use Rattle.rk_sound.specs.Small.{batch_asked_in, client_come, hash_wanted_in, hashes_resolved_in, token_passed_in, write_staged_in, message_forgotten, message_sent, record_accepted_in, request_saved, tablet_closed_in, tablet_frozen_in, place_noted_in, migration_begun_in, segment_gathered_in, refusal_staged_in};
 ghost use Rattle.rk_sound.specs.View.{view};
 ghost use Rattle.rk_sound.specs.Whole.{IsSound};
 ghost use Rattle.rk_world.specs.World.{World, backup_at, tablet_in, lives, log_in, new_world, written_in};
@@ -25,8 +25,8 @@ pub fn new_lanes_are_sound()
 {}
 
 /// A sound lane stays sound when a message is sent or forgotten, when a client comes, when a request is saved that may be
-/// sent again, when the record of a client's last call is accepted, when a write is staged, when a tablet closes and when it
-/// freezes, when the place of a target is noted, and when a row begins to move, wherever the condition of the change holds;
+/// sent again, when the record of a client's last call is accepted, when a write or a refusal is staged, when a tablet closes and
+/// when it freezes, when the place of a target is noted, and when a row begins to move, wherever the condition of the change holds;
 /// forgetting has none.
 pub fn small_changes_keep_lanes_sound()
     ensures sent { (w : World) (message : Message) → IsSound w → MaySend (view w) message → IsSound (message_sent w message) }
@@ -38,6 +38,9 @@ pub fn small_changes_keep_lanes_sound()
     ensures staged { (w : World) (master : ℕ) (call : Call) (value : Option (List ℕ))
         → IsSound w → (may : MayStage (view w) master call value)
         → IsSound (write_staged_in w master may.served.row.tablet call value) }
+    ensures refused { (w : World) (master : ℕ) (call : Call) (found : ℕ) (absent : Bool)
+        → IsSound w → MayRefuse (view w) master call (refused_as found absent)
+        → IsSound (refusal_staged_in w master call found absent) }
     ensures closed { (w : World) (row : Row) (master term : ℕ)
         → IsSound w → MayClose (view w) row master term → IsSound (tablet_closed_in w master row.tablet term) }
     ensures frozen { (w : World) (master tablet : ℕ)

@@ -4,6 +4,7 @@ use Rattle.rk_laws_parts.proofs.Come.{sound_come}
 use Rattle.rk_laws_parts.proofs.Saved.{sound_saved}
 use Rattle.rk_laws_parts.proofs.Accepted.{sound_accepted}
 use Rattle.rk_laws_parts.proofs.WriteStaged.{sound_staged}
+use Rattle.rk_laws_parts.proofs.RefusalStaged.{sound_refused}
 use Rattle.rk_laws_parts.proofs.Closed.{sound_closed}
 use Rattle.rk_laws_parts.proofs.Frozen.{sound_frozen}
 use Rattle.rk_laws_parts.proofs.PlaceNoted.{sound_noted}
@@ -27,6 +28,9 @@ returns-clause-accepted c = sound_accepted
 
 pub returns-clause-staged : goal.returns-clause-staged
 returns-clause-staged c = sound_staged
+
+pub returns-clause-refused : goal.returns-clause-refused
+returns-clause-refused c = sound_refused
 
 pub returns-clause-closed : goal.returns-clause-closed
 returns-clause-closed c = sound_closed
