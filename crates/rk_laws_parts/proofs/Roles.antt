@@ -29,38 +29,39 @@ terms_look (Opening source sfrom target (Some dfrom)) terms terms' term same at 
 terms_look (Moving source sfrom target dfrom) terms terms' term same at = (same source ∙ at.0, same target ∙ at.1)
 terms_look (Rebuilding lineage to) terms terms' term same at = tt
 
--- each tablet looks as before, and as much is applied
-pub roles_looks : (rows : List Row) (handovers handovers' : ℕ → ℕ → Handover) (written written' : ℕ → Written) (live : ℕ → Bool) → Roles rows handovers written live → ((q r : ℕ) → LooksAs (handovers q r) (handovers' q r)) → ((q : ℕ) → (written' q).applied ≡ (written q).applied) → Roles rows handovers' written' live
-roles_looks rows handovers handovers' written written' live old looks same = record {
-  fitting = λ master.
-      All-weaker
-      (λ row. StillCounts (live master) (handovers master row.tablet).term row.term
-      → RoleFits row master (handovers master row.tablet) (written master).applied)
-      (λ row. StillCounts (live master) (handovers' master row.tablet).term row.term
-      → RoleFits row master (handovers' master row.tablet) (written' master).applied)
-      (λ row fits counts.
-      role_looks row master (handovers master row.tablet) (handovers' master row.tablet) (written master).applied
-      (written' master).applied (looks master row.tablet) (same master)
-      (fits (still_counts (live master) (handovers master row.tablet).term (handovers' master row.tablet).term row.term
-      (looks master row.tablet).term counts)))
-      rows (old.fitting master);
-  ranged = λ master.
-      All-weaker
-      (λ row. StillCounts (live master) (handovers master row.tablet).term row.term
-      → is_member (lineage_of row.phase) master ≡ true → (handovers master row.tablet).range ≡ row.range)
-      (λ row. StillCounts (live master) (handovers' master row.tablet).term row.term
-      → is_member (lineage_of row.phase) master ≡ true → (handovers' master row.tablet).range ≡ row.range)
-      (λ row ranged counts member.
-      (looks master row.tablet).range
-      ∙ ranged (still_counts (live master) (handovers master row.tablet).term (handovers' master row.tablet).term row.term
-      (looks master row.tablet).term counts) member)
-      rows (old.ranged master);
-  at_term =
-      All-weaker
-      (λ row. KeepTerm row.phase (λ q. (handovers q row.tablet).term) row.term)
-      (λ row. KeepTerm row.phase (λ q. (handovers' q row.tablet).term) row.term)
-      (λ row. terms_look row.phase (λ q. (handovers q row.tablet).term) (λ q. (handovers' q row.tablet).term) row.term
-      (λ q. (looks q row.tablet).term))
-      rows old.at_term;
-  known = λ master number lives there. old.known master number lives (sym (looks master number).role.absent ∙ there);
-}
+module _ (rows : List Row) (handovers handovers' : ℕ → ℕ → Handover) (written written' : ℕ → Written) (live : ℕ → Bool) where
+  -- each tablet looks as before, and as much is applied
+  pub roles_looks : Roles rows handovers written live → ((q r : ℕ) → LooksAs (handovers q r) (handovers' q r)) → ((q : ℕ) → (written' q).applied ≡ (written q).applied) → Roles rows handovers' written' live
+  roles_looks old looks same = record {
+    fitting = λ master.
+        All-weaker
+        (λ row. StillCounts (live master) (handovers master row.tablet).term row.term
+        → RoleFits row master (handovers master row.tablet) (written master).applied)
+        (λ row. StillCounts (live master) (handovers' master row.tablet).term row.term
+        → RoleFits row master (handovers' master row.tablet) (written' master).applied)
+        (λ row fits counts.
+        role_looks row master (handovers master row.tablet) (handovers' master row.tablet) (written master).applied
+        (written' master).applied (looks master row.tablet) (same master)
+        (fits (still_counts (live master) (handovers master row.tablet).term (handovers' master row.tablet).term row.term
+        (looks master row.tablet).term counts)))
+        rows (old.fitting master);
+    ranged = λ master.
+        All-weaker
+        (λ row. StillCounts (live master) (handovers master row.tablet).term row.term
+        → is_member (lineage_of row.phase) master ≡ true → (handovers master row.tablet).range ≡ row.range)
+        (λ row. StillCounts (live master) (handovers' master row.tablet).term row.term
+        → is_member (lineage_of row.phase) master ≡ true → (handovers' master row.tablet).range ≡ row.range)
+        (λ row ranged counts member.
+        (looks master row.tablet).range
+        ∙ ranged (still_counts (live master) (handovers master row.tablet).term (handovers' master row.tablet).term row.term
+        (looks master row.tablet).term counts) member)
+        rows (old.ranged master);
+    at_term =
+        All-weaker
+        (λ row. KeepTerm row.phase (λ q. (handovers q row.tablet).term) row.term)
+        (λ row. KeepTerm row.phase (λ q. (handovers' q row.tablet).term) row.term)
+        (λ row. terms_look row.phase (λ q. (handovers q row.tablet).term) (λ q. (handovers' q row.tablet).term) row.term
+        (λ q. (looks q row.tablet).term))
+        rows old.at_term;
+    known = λ master number lives there. old.known master number lives (sym (looks master number).role.absent ∙ there);
+  }
