@@ -1,6 +1,6 @@
 -- Small changes of the world that the first laws are about, and what they make of a view. A change of a view has the name of the
 -- change of the world, and its condition stands in `Changes` or `Moves`.
-use Rattle.std.specs.Prelude.{◌==◌, ℕ, ◌+◌, if◌then◌else◌, List, [], ◌∷◌, ◌++◌, length, slice_get, Option, Bool, Some}
+use Rattle.std.specs.Prelude.{◌==◌, ℕ, ◌+◌, if◌then◌else◌, List, [], ◌∷◌, ◌++◌, length, slice_get, Option, Bool}
 use Rattle.rk_types.specs.NumberMap.{insert, remove}
 use Rattle.rk_types.specs.declared.call.Call.{Call}
 use Rattle.rk_types.specs.declared.call.Ended.{Ended}
