@@ -1,0 +1,5 @@
+pub mod Digits
+pub mod WordLemmas
+pub mod Cuts
+pub mod ScriptLemmas
+pub mod Examples

@@ -1,0 +1,23 @@
+//! The language of scripts: from the bytes of a script to its commands, or to its first refusal.
+//!
+//! It stands on `rk_types`. A script is lines of words: a command with its arguments, a comment, or nothing. What it
+//! promises: [`parse`] answers exactly the commands that the definition of the language names, each with the number of
+//! its line, or exactly the line and the code of its first refusal; only want of memory is free. Words are read where
+//! they stand, and nothing is copied but keys and values.
+#![tactic(auto)]
+
+pub use code::Code;
+pub use command::{Command, Numbered, Reach};
+pub use script::{LONGEST_SCRIPT, ParseError, parse};
+
+mod arguments;
+mod calls;
+mod code;
+mod command;
+mod line;
+mod names;
+mod numbers;
+mod refusal;
+mod script;
+#[cfg(test)]
+mod tests;
