@@ -88,16 +88,19 @@ hex_ascii word e = all_below is_lower_hex hex_below word e
 pub parses_decimal : {E : Type 0} (word : List ℕ) (r : Result ℕ E) → is_decimal word ≡ true → ParsesUnsigned 64 10 word r → MatchResult r (λ number. number ≡ digits_value 10 word) (λ e. 2 ^ 64 ≤ digits_value 10 word)
 parses_decimal word r e parses =
     let parts = decimal_parts word e in
-    parses_digits 10 word r (all_digits 10 is_ascii_digit decimal_digit word parts.0) parts.1 (decimal_no_plus (get_or word 0 0) (first_passes is_ascii_digit word parts.0 parts.1)) parses
+    parses_digits 10 word r (all_digits 10 is_ascii_digit decimal_digit word parts.0) parts.1
+    (decimal_no_plus (get_or word 0 0) (first_passes is_ascii_digit word parts.0 parts.1)) parses
 
 -- std reads sixteen hexadecimal digits, which fit
 pub parses_hex : {E : Type 0} (word : List ℕ) (r : Result ℕ E) → length word ≡ 16 → list_all is_lower_hex word ≡ true → ParsesUnsigned 64 16 word r → MatchResult r (λ number. number ≡ digits_value 16 word) (λ e. ⊥)
 parses_hex {E} word (Ok number) count all parses =
-    parses_digits {E = E} 16 word (Ok number) (all_digits 16 is_lower_hex hex_digit word all) (omega arith) (hex_no_plus (get_or word 0 0) (first_passes is_lower_hex word all (omega arith))) parses
+    parses_digits {E = E} 16 word (Ok number) (all_digits 16 is_lower_hex hex_digit word all) (omega arith)
+    (hex_no_plus (get_or word 0 0) (first_passes is_lower_hex word all (omega arith))) parses
 parses_hex {E} word (Err e) count all parses =
     let digits : AllDigits 16 word = all_digits 16 is_lower_hex hex_digit word all in
     let large : 2 ^ 64 ≤ digits_value 16 word =
-    parses_digits {E = E} 16 word (Err e) digits (omega arith) (hex_no_plus (get_or word 0 0) (first_passes is_lower_hex word all (omega arith))) parses
+    parses_digits {E = E} 16 word (Err e) digits (omega arith)
+    (hex_no_plus (get_or word 0 0) (first_passes is_lower_hex word all (omega arith))) parses
     in
     let small : digits_value 16 word < 16 ^ 16 = subst (λ (n : ℕ). digits_value 16 word < 16 ^ n) count (digits_value-lt 16 word digits) in
     omega (arith, large, small)

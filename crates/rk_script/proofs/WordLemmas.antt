@@ -59,7 +59,8 @@ command_of-many name a b c d e f g more =
     let long : List (List ℕ) = a ∷ b ∷ c ∷ d ∷ e ∷ f ∷ g ∷ more in
     let short : List (List ℕ) = a ∷ b ∷ c ∷ d ∷ e ∷ f ∷ g ∷ [] in
     let calls : call_of short ≡ call_of long =
-    after-same (operation_of b) (λ (o : Operation). call_with o a (c ∷ d ∷ e ∷ f ∷ g ∷ [])) (λ (o : Operation). call_with o a (c ∷ d ∷ e ∷ f ∷ g ∷ more))
+    after-same (operation_of b) (λ (o : Operation). call_with o a (c ∷ d ∷ e ∷ f ∷ g ∷ []))
+    (λ (o : Operation). call_with o a (c ∷ d ∷ e ∷ f ∷ g ∷ more))
     (λ (o : Operation). rw (call_with-many o a c d (e ∷ f ∷ g ∷ []) (omega arith), call_with-many o a c d (e ∷ f ∷ g ∷ more) (omega arith)) refl)
     in
     let plain : after (keyword_of name) (λ (k : Keyword). plain_command k short) ≡ after (keyword_of name) (λ (k : Keyword). plain_command k long) =
@@ -69,7 +70,8 @@ command_of-many name a b c d e f g more =
     cond-same (bytes_eq name (codes "call")) (call_of short) (call_of long)
     (cond (bytes_eq name (codes "advance")) (advance_of short) (after (keyword_of name) (λ (k : Keyword). plain_command k short)))
     (cond (bytes_eq name (codes "advance")) (advance_of long) (after (keyword_of name) (λ (k : Keyword). plain_command k long))) calls
-    (cond-same (bytes_eq name (codes "advance")) (advance_of short) (advance_of long) (after (keyword_of name) (λ (k : Keyword). plain_command k short)) (after (keyword_of name) (λ (k : Keyword). plain_command k long)) refl plain)
+    (cond-same (bytes_eq name (codes "advance")) (advance_of short) (advance_of long)
+    (after (keyword_of name) (λ (k : Keyword). plain_command k short)) (after (keyword_of name) (λ (k : Keyword). plain_command k long)) refl plain)
 
 -- the first words of a line say what all of them say
 pub said_in-take : (line : List ℕ) (words : List (List ℕ)) → said_in line (take MOST_WORDS words) ≡ said_in line words

@@ -1,11 +1,17 @@
 -- What reading a script a line at a time answers, against what its lines say.
-use Rattle.std.specs.Prelude.{◌≡◌, ⊤, ℕ, List, [], ◌∷◌, ◌++◌, Option, Some, None, Result, Ok, Err}
+use Rattle.std.specs.Prelude.{◌≡◌, ◌==◌, ⊤, ℕ, List, [], ◌∷◌, ◌++◌, Option, Some, None, Result, Ok, Err}
+use Rattle.std.specs.List.{slice_split}
 use Rattle.rk_script.specs.declared.code.Code.{Code}
 use Rattle.rk_script.specs.declared.command.Command.{Command}
 use Rattle.rk_script.specs.declared.command.Numbered.{Numbered}
 use Rattle.rk_script.specs.declared.script.ParseError.{ParseError}
 use Rattle.rk_script.specs.declared.script.ParseError.TheVariants.{Refused, NoMemory}
+use Rattle.rk_script.specs.declared.script.TheConstants.{LINE_FEED}
 use Rattle.rk_script.specs.Lines.{said_by}
+
+-- the parts of a script between its line feeds
+abbrev pub parts_of : List ℕ → List (List ℕ)
+parts_of script = slice_split (λ byte. byte == LINE_FEED) script
 
 -- the commands with the one that a line says, if it says one
 abbrev pub with_line : List Numbered → ℕ → Option Command → List Numbered

@@ -3,7 +3,8 @@ ghost use Rattle.std.specs.Char.{is_ascii_digit};
 ghost use Rattle.std.specs.List.{list_all};
 ghost use Rattle.std.specs.Str.{IsAscii};
 ghost use Rattle.std.specs.Str.Parse.{digits_value};
-ghost use Rattle.rk_script.specs.Numbers.{backups_of, client_of, hash_of, is_decimal, is_lower_hex, lane_of, master_of, masters_of, number_in, place_of, table_of, tablet_of, version_of};
+ghost use Rattle.rk_script.specs.Numbers.{hash_of, is_decimal, is_lower_hex, number_in};
+ghost use Rattle.rk_script.specs.Numbers.{backups_of, client_of, lane_of, master_of, masters_of, place_of, table_of, tablet_of, version_of};
 
 use crate::code::Code;
 use rk_types::LANES;

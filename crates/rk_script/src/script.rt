@@ -1,9 +1,8 @@
-ghost use Rattle.std.specs.Prelude.{◌≡◌, ◌≢◌, ◌==◌, ◌+◌, ◌≤◌, ◌<◌, ◌^◌, ◌∷◌, [], length, position, IfOk, IfErr, IfSome, IfNone, OnOk};
-ghost use Rattle.std.specs.List.{slice_split};
+ghost use Rattle.std.specs.Prelude.{◌≡◌, ◌≢◌, ◌==◌, ◌+◌, ◌≤◌, ◌<◌, ◌^◌, ◌∷◌, [], length, position, IfOk, IfErr, IfSome, IfNone, OnOk, vec_len};
 ghost use Rattle.std.specs.Str.Lines.{lines, strip_carriage_return};
 ghost use Rattle.rk_script.specs.Lines.{said_by};
 ghost use Rattle.rk_script.specs.Script.{commands_from, script_of};
-ghost use Rattle.rk_script.specs.Reading.{AddsLine, IsLineRefusal, IsScriptRefusal};
+ghost use Rattle.rk_script.specs.Reading.{AddsLine, IsLineRefusal, IsScriptRefusal, parts_of};
 ghost use Rattle.rk_script.specs.declared.script.ParseError.TheVariants.{NoMemory as no_memory};
 
 use crate::code::Code;
@@ -53,8 +52,8 @@ fn line_end(bytes: &[u8]) -> Option<usize>
 // What stands before the first line feed, and what stands after it.
 #[tactic(auto, using(crate::proofs::Cuts::slice_split_position, crate::proofs::Cuts::slice_split_whole))]
 fn cut_line(bytes: &[u8]) -> Option<(&[u8], &[u8])>
-    ensures whole { IfNone result (slice_split (λ byte. byte == LINE_FEED) bytes.now ≡ bytes.now ∷ []) }
-    ensures cut { IfSome result (λ cut. slice_split (λ byte. byte == LINE_FEED) bytes.now ≡ cut.0.now ∷ slice_split (λ byte. byte == LINE_FEED) cut.1.now) }
+    ensures whole { IfNone result (parts_of bytes.now ≡ bytes.now ∷ []) }
+    ensures cut { IfSome result (λ cut. parts_of bytes.now ≡ cut.0.now ∷ parts_of cut.1.now) }
     ensures shorter { IfSome result (λ cut. length cut.1.now < length bytes.now) }
 {
     match line_end(bytes) {
@@ -86,6 +85,7 @@ fn add_line(
     text: &[u8],
 ) -> Result<(), ParseError>
     ensures ok { OnOk result (AddsLine commands.old.items commands.new.items line text.now) }
+    ensures few { OnOk result (length commands.new.items ≤ length commands.old.items + 1) }
     ensures err { IfErr result (λ e. IsLineRefusal e line (said_by text.now)) }
 {
     match read_line(alloc, text) {
@@ -104,6 +104,7 @@ fn read_lines(alloc: Global, script: &[u8]) -> Result<Vec<Numbered>, ParseError>
     requires { length script.now ≤ LONGEST_SCRIPT }
     ensures ok { IfOk result (λ commands. commands_from 1 (lines script.now) ≡ Ok commands.items) }
     ensures err { IfErr result (λ e. IsScriptRefusal e (commands_from 1 (lines script.now))) }
+    ensures few { IfOk result (λ commands. vec_len commands ≤ length script.now) }
 {
     let mut commands = Vec::new(alloc);
     let mut line: u32 = 1;
@@ -126,6 +127,7 @@ fn read_lines(alloc: Global, script: &[u8]) -> Result<Vec<Numbered>, ParseError>
 pub fn parse(alloc: Global, script: &[u8]) -> Result<Vec<Numbered>, ParseError>
     ensures ok { IfOk result (λ commands. script_of script.now ≡ Ok commands.items) }
     ensures err { IfErr result (λ e. e ≢ ParseError.NoMemory → script_of script.now ≡ Err e) }
+    ensures few { IfOk result (λ commands. vec_len commands ≤ LONGEST_SCRIPT) }
 {
     if script.len() > LONGEST_SCRIPT {
         return Err(ParseError::Refused {
