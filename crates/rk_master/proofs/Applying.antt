@@ -12,7 +12,7 @@ use Rattle.rk_world.specs.Master.{Master}
 use Rattle.rk_world.specs.Worked.{Worked, changed}
 use Rattle.rk_world.specs.Commits.{with_entry_item, with_applied, with_ended, apply_entry, apply_entries, newly_held}
 use Rattle.rk_master.specs.declared.work.Worked.{Worked as Work}
-use Rattle.rk_master.specs.Parts.{worked_of, behind, with_items_of}
+use Rattle.rk_master.specs.Parts.{worked_of, behind, marks_of, with_items_of}
 use Rattle.rk_master.proofs.Keeping.{from_place}
 
 -- nothing is made behind what was sent and served
@@ -21,7 +21,7 @@ behind_changed work master = λ i. record {
   master = master;
   sends = sym (append-nil work.sends.items) i;
   served = sym (append-nil work.served.items) i;
-  marked = [];
+  marked = sym (append-nil (marks_of work.marked)) i;
 }
 
 -- ---- one entry
@@ -115,7 +115,7 @@ applied_next work more master after entry held at made log_is applied_is =
       master = later.master;
       sends = append_assoc work.sends.items first.sends later.sends i;
       served = append_assoc work.served.items first.served later.served i;
-      marked = first.marked ++ later.marked;
+      marked = append_assoc (marks_of work.marked) first.marked later.marked i;
     })
     ∙ ap (λ (xs : List Entry). behind work (apply_entries master xs)) (sym (from_place (take (committed master.log) master.log.entries) master.applied entry (in_part master.log.entries (committed master.log) master.applied held ∙ at)))
   where
@@ -137,5 +137,5 @@ applied_next work more master after entry held at made log_is applied_is =
     served_are : more.served.items ≡ work.served.items ++ first.served
     served_are = ap (λ (w : Worked). w.served) made
 
-    marked_are : [] ≡ first.marked
+    marked_are : marks_of more.marked ≡ marks_of work.marked ++ first.marked
     marked_are = ap (λ (w : Worked). w.marked) made

@@ -11,7 +11,7 @@ use Rattle.rk_world.specs.Master.{Master, is_settled, with_tablet}
 use Rattle.rk_world.specs.Worked.{Worked, changed, then_works}
 use Rattle.rk_world.specs.Waiting.{all_going_on, freezing, tablet_frozen, closing_entry, closing_appended, is_sealed_stored, going_on_in}
 use Rattle.rk_master.specs.declared.work.Worked.{Worked as Work}
-use Rattle.rk_master.specs.Parts.{tablet_of, tablets_of, worked_of}
+use Rattle.rk_master.specs.Parts.{marks_of, tablet_of, tablets_of, worked_of}
 use Rattle.rk_master.specs.Places.{Row}
 use Rattle.rk_master.proofs.Keeping.{from_place}
 
@@ -71,5 +71,10 @@ gone_on master after rows at row there is =
 pub went_on : (work : Work) (master after : Master) (worked : Worked) → worked_of master work ≡ worked → after ≡ all_going_on master master.tablets
     → worked_of after work ≡ then_works worked (λ now. changed (all_going_on now now.tablets))
 went_on work master after worked made is =
-    (λ i. record { master = is i; sends = sym (append-nil work.sends.items) i; served = sym (append-nil work.served.items) i; marked = [] })
+    (λ i. record {
+      master = is i;
+      sends = sym (append-nil work.sends.items) i;
+      served = sym (append-nil work.served.items) i;
+      marked = sym (append-nil (marks_of work.marked)) i;
+    })
     ∙ ap (λ (w : Worked). then_works w (λ now. changed (all_going_on now now.tablets))) made

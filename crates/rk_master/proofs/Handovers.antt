@@ -35,7 +35,7 @@ use Rattle.rk_world.specs.Waiting.{freezing}
 use Rattle.rk_world.specs.Worked.{Worked, changed, sending}
 use Rattle.rk_master.specs.declared.tablet_lane.TabletLane.{TabletLane}
 use Rattle.rk_master.specs.declared.work.Worked.{Worked as Work}
-use Rattle.rk_master.specs.Parts.{IsClosable, IsGrantable, changing, given_up_but, tablet_in, tablet_of, tablets_of, worked_of}
+use Rattle.rk_master.specs.Parts.{IsClosable, IsGrantable, changing, given_up_but, marks_of, tablet_in, tablet_of, tablets_of, worked_of}
 use Rattle.rk_master.specs.Places.{Row, IsAt, IsBetween}
 use Rattle.rk_master.specs.Sides.{items_of_sides}
 use Rattle.rk_master.proofs.Closable.{closable_as}
@@ -264,7 +264,7 @@ prepared_role handover after term range from is = go (ltb handover.term term) is
     go false e = cc e
 
 -- a tablet that stays as it is is found as it was
-kept_itself : (change : ℕ → Tablet → Tablet) (number : ℕ) (tablets : NumberMap Tablet) → ((tablet : Tablet) → change number tablet ≡ tablet)
+pub kept_itself : (change : ℕ → Tablet → Tablet) (number : ℕ) (tablets : NumberMap Tablet) → ((tablet : Tablet) → change number tablet ≡ tablet)
     → get (map (changing change) tablets) number ≡ get tablets number
 kept_itself change number [] stays = refl
 kept_itself change number (entry ∷ tablets) stays = go (is_eq (nat_cmp number entry.0)) refl (kept_itself change number tablets stays)
@@ -275,7 +275,7 @@ kept_itself change number (entry ∷ tablets) stays = go (is_eq (nat_cmp number 
     go false is rest = rest
 
 -- the tablet that a Prepare is about is not given up
-stays_itself : (number : ℕ) (range : Range) (tablet : Tablet) → given_up_but number range number tablet ≡ tablet
+pub stays_itself : (number : ℕ) (range : Range) (tablet : Tablet) → given_up_but number range number tablet ≡ tablet
 stays_itself number range tablet =
     ap (λ (b : Bool). cond (not b && meets tablet.handover.range range) (given_up tablet) tablet) (eq-eqb number number refl)
 
@@ -381,12 +381,13 @@ grant_lawful rows i read master handover grant order at is moved lawful =
 -- ---- what was worked
 
 -- nothing is sent, and nothing served
-pub worked_quietly : (master : Master) (work : Work) → work.sends.items ≡ [] → work.served.items ≡ [] → worked_of master work ≡ changed master
-worked_quietly master work sends served = λ i. record { master = master; sends = sends i; served = served i; marked = [] }
+pub worked_quietly : (master : Master) (work : Work) → work.sends.items ≡ [] → work.served.items ≡ [] → work.marked ≡ None → worked_of master work ≡ changed master
+worked_quietly master work sends served marked = λ i. record { master = master; sends = sends i; served = served i; marked = marks_of (marked i) }
 
 -- a message is sent
-pub worked_sending : (master : Master) (work : Work) (message : Message) → work.sends.items ≡ message ∷ [] → work.served.items ≡ [] → worked_of master work ≡ sending master message
-worked_sending master work message sends served = λ i. record { master = master; sends = sends i; served = served i; marked = [] }
+pub worked_sending : (master : Master) (work : Work) (message : Message) → work.sends.items ≡ message ∷ [] → work.served.items ≡ [] → work.marked ≡ None
+    → worked_of master work ≡ sending master message
+worked_sending master work message sends served marked = λ i. record { master = master; sends = sends i; served = served i; marked = marks_of (marked i) }
 
 -- ---- a tablet that the master does not know
 

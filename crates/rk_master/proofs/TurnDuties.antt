@@ -10,7 +10,7 @@ use Rattle.rk_world.specs.MasterTurn.{duties, pull_of, receiving_duty, tablet_du
 use Rattle.rk_world.specs.Tablet.{Tablet}
 use Rattle.rk_world.specs.Worked.{Worked}
 use Rattle.rk_master.specs.declared.work.Worked.{Worked as Work}
-use Rattle.rk_master.specs.Parts.{behind, tablet_of, tablets_of, worked_of}
+use Rattle.rk_master.specs.Parts.{behind, marks_of, tablet_of, tablets_of, worked_of}
 use Rattle.rk_master.specs.Places.{Row, IsAt}
 use Rattle.rk_master.proofs.Applying.{behind_changed}
 use Rattle.rk_master.proofs.Keeping.{from_place}
@@ -26,10 +26,10 @@ at_read rows i read within is = subst (λ (row : Row). IsAt row.0 rows i) (sym i
 pub asked_so : (work more : Work) (master after : Master) (sends : List Message) (number : ℕ) (tablet asking : Tablet)
     → asking ≡ with_outstanding tablet → after ≡ with_tablet master number asking
     → sends ≡ work.sends.items ++ want_of master number asking asking.pulling.hashes.outstanding
-    → more.sends.items ≡ sends ++ pull_of master number asking ∷ [] → more.served.items ≡ work.served.items
+    → more.sends.items ≡ sends ++ pull_of master number asking ∷ [] → more.served.items ≡ work.served.items → more.marked ≡ work.marked
     → worked_of after more ≡ behind work (receiving_duty master number tablet)
-asked_so work more master after sends number tablet asking asking_is after_is wanted pulled served =
-    (λ i. record { master = after_is i; sends = sends_are i; served = served_are i; marked = [] })
+asked_so work more master after sends number tablet asking asking_is after_is wanted pulled served marked =
+    (λ i. record { master = after_is i; sends = sends_are i; served = served_are i; marked = marked_are i })
     ∙ ap (λ (t : Tablet). behind work (record { master = with_tablet master number t; sends = asks t; served = []; marked = [] })) asking_is
   where
     asks : Tablet → List Message
@@ -43,6 +43,9 @@ asked_so work more master after sends number tablet asking asking_is after_is wa
 
     served_are : more.served.items ≡ work.served.items ++ []
     served_are = served ∙ sym (append-nil work.served.items)
+
+    marked_are : marks_of more.marked ≡ marks_of work.marked ++ []
+    marked_are = ap marks_of marked ∙ sym (append-nil (marks_of work.marked))
 
 -- nothing is done in a role without a duty
 pub no_duty : (work : Work) (master : Master) (number : ℕ) (tablet : Tablet) (role : Role) → (role ≡ roles.Receiving → ⊥)
@@ -74,7 +77,7 @@ duty_done work more master after rows at row there made =
       master = later.master;
       sends = append_assoc work.sends.items first.sends later.sends i;
       served = append_assoc work.served.items first.served later.served i;
-      marked = first.marked ++ later.marked;
+      marked = append_assoc (marks_of work.marked) first.marked later.marked i;
     })
     ∙ ap (λ (xs : List Row). behind work (duties master (tablets_of xs))) (sym (from_place rows at row there))
   where
@@ -96,7 +99,7 @@ duty_done work more master after rows at row there made =
     served_are : more.served.items ≡ work.served.items ++ first.served
     served_are = ap (λ (w : Worked). w.served) made
 
-    marked_are : [] ≡ first.marked
+    marked_are : marks_of more.marked ≡ marks_of work.marked ++ first.marked
     marked_are = ap (λ (w : Worked). w.marked) made
 
 -- none is left behind the last one

@@ -1,5 +1,5 @@
 -- What the parts of a master in code stand for.
-use Rattle.std.specs.Prelude.{IfSome, ⊤, ℕ, ◌==◌, ◌&&◌, not, if◌then◌else◌, List, [], ◌++◌, Option, Some, None, is_some, map, unwrap_or}
+use Rattle.std.specs.Prelude.{IfSome, ⊤, ℕ, ◌==◌, ◌&&◌, not, if◌then◌else◌, List, [], ◌∷◌, ◌++◌, Option, Some, None, is_some, map, unwrap_or}
 use Rattle.std.specs.Int.{w64}
 use Rattle.std.specs.List.{AllByRecursion}
 use Rattle.rk_types.specs.declared.held.Held.{Held}
@@ -23,6 +23,7 @@ use Rattle.rk_world.specs.Tablet.{Tablet, no_tablet}
 use Rattle.rk_world.specs.Master.{Master, tablet_at}
 use Rattle.rk_world.specs.Handovers.{carried_entry, given_up}
 use Rattle.rk_world.specs.Worked.{Worked}
+use Rattle.rk_world.specs.declared.work.Mark.{Mark}
 use Rattle.rk_master.specs.declared.work.Worked.{Worked as Work}
 use Rattle.rk_master.specs.declared.choice.Seen.{Seen}
 use Rattle.rk_master.specs.declared.tablet_lane.TabletLane.{TabletLane}
@@ -57,17 +58,27 @@ abbrev pub seen_of : Option Held → Option Seen
 seen_of None = None
 seen_of (Some item) = Some (record { version = item.version; is_live = is_some item.value })
 
+-- the pieces of a log that a rebuild made, of which there is one at most
+abbrev pub marks_of : Option Mark → List Mark
+marks_of None = []
+marks_of (Some mark) = mark ∷ []
+
 -- the work of a master that is so now
 abbrev pub worked_of : Master → Work → Worked
-worked_of master work = record { master = master; sends = work.sends.items; served = work.served.items; marked = [] }
+worked_of master work = record {
+  master = master;
+  sends = work.sends.items;
+  served = work.served.items;
+  marked = marks_of work.marked;
+}
 
--- work behind what was sent and served before
+-- work behind what was sent, served and marked before
 abbrev pub behind : Work → Worked → Worked
 behind before worked = record {
   master = worked.master;
   sends = before.sends.items ++ worked.sends;
   served = before.served.items ++ worked.served;
-  marked = worked.marked;
+  marked = marks_of before.marked ++ worked.marked;
 }
 
 -- the records after an entry was applied: an item goes into them where it is newer

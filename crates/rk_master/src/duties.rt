@@ -88,6 +88,7 @@ fn send_want(
     ensures sends { OnOk result ((master : Master) → master.number ≡ number
         → work.new.sends.items ≡ work.old.sends.items ++ turns.want_of master row.now.0 (tablet_of row.now.1) hashes) }
     ensures served { work.new.served.items ≡ work.old.served.items }
+    ensures marked { work.new.marked ≡ work.old.marked }
 {
     if hashes.as_slice().is_empty() {
         return Ok(());

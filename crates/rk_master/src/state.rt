@@ -1,4 +1,4 @@
-ghost use Rattle.std.specs.Prelude.{◌≡◌, ◌≤◌, List, [], Option, true, replicate, IfOk};
+ghost use Rattle.std.specs.Prelude.{◌≡◌, ◌≤◌, List, [], None, Option, true, replicate, IfOk};
 ghost use Rattle.rk_log.specs.Known.{nothing};
 ghost use Rattle.std.specs.List.{find};
 ghost use Rattle.std.specs.Option.{option_copied, option_map, option_or};
@@ -60,10 +60,11 @@ impl MasterState {
         })
     }
 
-    /// Nothing is sent, and no call served.
+    /// Nothing is sent, no call served, and nothing marked.
     pub(crate) fn nothing(&self) -> Worked
         ensures sends { result.sends.items ≡ [] }
         ensures served { result.served.items ≡ [] }
+        ensures marked { result.marked ≡ None }
     {
         Worked::nothing(*self.tablets.allocator())
     }

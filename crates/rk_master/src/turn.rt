@@ -31,6 +31,7 @@ fn send_pending(state: &MasterState, work: &mut Worked) -> Result<(), NoMemory>
     requires { IsState state.now }
     ensures sends { OnOk result (work.new.sends.items ≡ work.old.sends.items ++ turns.appends (master_of state.now)) }
     ensures served { OnOk result (work.new.served.items ≡ work.old.served.items) }
+    ensures marked { OnOk result (work.new.marked ≡ work.old.marked) }
 {
     for before in 0..state.backups {
         send_to(state, before + 1, work)?;
@@ -44,6 +45,7 @@ fn send_to(state: &MasterState, backup: u8, work: &mut Worked) -> Result<(), NoM
     ensures sends { OnOk result (work.new.sends.items
         ≡ work.old.sends.items ++ turns.append_of (master_of state.now) backup (pending state.now.log backup)) }
     ensures served { OnOk result (work.new.served.items ≡ work.old.served.items) }
+    ensures marked { OnOk result (work.new.marked ≡ work.old.marked) }
 {
     let Some(piece) = state.log.pending(backup)? else {
         return Ok(());

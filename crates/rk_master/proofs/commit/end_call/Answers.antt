@@ -1,5 +1,5 @@
 use Rattle.std.proofs.Common.{Option, List, [], ◌∷◌, ◌++◌, map, refl, sym, ap, ◌∙◌}
-use Rattle.std.proofs.lemmas.List.{with_items_is}
+use Rattle.std.proofs.lemmas.List.{append-nil, with_items_is}
 use Rattle.rk_types.specs.NumberMap.{NumberMap, get}
 use Rattle.rk_types.specs.declared.call.Answer.TheVariants.{Done}
 use Rattle.rk_types.specs.declared.call.Call.{Call}
@@ -9,7 +9,7 @@ use Rattle.rk_world.specs.Requests.{answering}
 use Rattle.rk_world.specs.Commits.{noting, with_ended}
 use Rattle.rk_world.specs.Master.{Master}
 use Rattle.rk_master.specs.Places.{Row}
-use Rattle.rk_master.specs.Parts.{behind, changing, tablets_of, worked_of}
+use Rattle.rk_master.specs.Parts.{behind, changing, marks_of, tablets_of, worked_of}
 use Rattle.rk_master.specs.State.{master_of}
 use Rattle.rk_master.proofs.Applying.{behind_changed, ended_none}
 use Rattle.rk_master.proofs.commit.end_call.Goals as goal
@@ -32,10 +32,11 @@ returns-clause-ok c = λ ends.
     let message = c.answering.ensures master refl ∙ ap (λ (o : Outcome). answering master call (Done o)) c.outcome_of.ensures in
     let sends = c.in_ok-serve.ensures.sends ∙ c.in_ok-send.ensures.sends ∙ ap (λ (m : Message). c.args.work.now.sends.items ++ m ∷ []) message in
     let served = c.in_ok-serve.ensures.served ∙ (λ i. c.in_ok-send.ensures.served i ++ (record { call = call; outcome = c.outcome_of-2.ensures i }) ∷ []) in
+    let marked = ap marks_of (c.in_ok-serve.ensures.marked ∙ c.in_ok-send.ensures.marked) ∙ sym (append-nil (marks_of c.args.work.now.marked)) in
     (λ i. record {
       master = record master { calls = c.in-Some.ensures.removed i; tablets = tablets i };
       sends = sends i;
       served = served i;
-      marked = [];
+      marked = marked i;
     })
     ∙ ap (λ (o : Option Call). behind c.args.work.now (with_ended master c.args.place o (c.args.end ∷ ends))) (sym waits)

@@ -45,4 +45,5 @@ returns-clause-ok c = λ row at.
     ∙ ap (λ (message : Message). c.send_want.new.work.sends.items ++ message ∷ []) (c.pull_of.ensures master refl) in
     subst (λ (r : Row). worked_of after c.send.new.self ≡ behind c.args.work.now (receiving_duty master r.0 (tablet_of r.1))) it_is
     (asked_so c.args.work.now c.send.new.self master after c.send_want.new.work.sends.items read.0 (tablet_of read.1) (tablet_of lane)
-    c.next_batch.ensures.tablet (ap (λ (ts : NumberMap Tablet). record master { tablets = ts }) tablets) wanted pulled (c.in_ok-send.ensures.served ∙ c.in_ok-send_want.ensures.served))
+    c.next_batch.ensures.tablet (ap (λ (ts : NumberMap Tablet). record master { tablets = ts }) tablets) wanted pulled (c.in_ok-send.ensures.served ∙ c.in_ok-send_want.ensures.served)
+    (c.in_ok-send.ensures.marked ∙ c.in_ok-send_want.ensures.marked))

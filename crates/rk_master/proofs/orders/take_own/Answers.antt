@@ -9,6 +9,6 @@ pub returns-in_default-clause-ok : goal.returns-in_default-clause-ok
 returns-in_default-clause-ok c =
     let master : Master = master_of c.args.state.now in
     let rows : List Row = c.args.state.now.tablets.items in
-    worked_quietly master c.nothing.result c.nothing.ensures.sends c.nothing.ensures.served
+    worked_quietly master c.nothing.result c.nothing.ensures.sends c.nothing.ensures.served c.nothing.ensures.marked
     ∙ own_absent master c.args.tenure
     (none_lent rows c.as_slice.result.now c.args.tenure.tablet c.in_default.field-0 c.as_slice.ensures.value c.in_default.ensures.absent)

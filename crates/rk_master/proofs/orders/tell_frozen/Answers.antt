@@ -12,7 +12,7 @@ returns-then-not-is_frozen_at c =
     let master : Master = master_of c.args.state.now in
     let read : Row = c.index.result.now in
     let tablet = tablet_read c.args.state.now.tablets.items c.args.tenure.tablet c.args.at read c.requires.order c.requires.place c.index.ensures in
-    worked_quietly master c.nothing-work.result c.nothing-work.ensures.sends c.nothing-work.ensures.served
+    worked_quietly master c.nothing-work.result c.nothing-work.ensures.sends c.nothing-work.ensures.served c.nothing-work.ensures.marked
     ∙ not_told master c.args.tenure (tablet_of read.1) tablet (sym c.is_frozen_at.ensures ∙ c.if-not-is_frozen_at.true)
 
 pub returns : goal.returns
@@ -22,4 +22,5 @@ returns c =
     let tablet = tablet_read c.args.state.now.tablets.items c.args.tenure.tablet c.args.at read c.requires.order c.requires.place c.index.ensures in
     let sends = c.in_ok-send.ensures.sends ∙ (λ i. c.nothing-work.ensures.sends i ++ c.in_ok-transfer.ensures master refl i ∷ []) in
     worked_sending master c.send.new.self (transfer master c.args.tenure (tablet_of read.1)) sends (c.in_ok-send.ensures.served ∙ c.nothing-work.ensures.served)
+    (c.in_ok-send.ensures.marked ∙ c.nothing-work.ensures.marked)
     ∙ is_told master c.args.tenure (tablet_of read.1) tablet (sym c.is_frozen_at.ensures ∙ c.if-not-is_frozen_at.false)

@@ -14,7 +14,7 @@ pub returns-in_default-clause-ok : goal.returns-in_default-clause-ok
 returns-in_default-clause-ok c =
     let master : Master = master_of c.args.state.now in
     let rows : List Row = c.args.state.now.tablets.items in
-    worked_quietly master c.nothing.result c.nothing.ensures.sends c.nothing.ensures.served
+    worked_quietly master c.nothing.result c.nothing.ensures.sends c.nothing.ensures.served c.nothing.ensures.marked
     ∙ got_failed master c.args.got no_tablet
     (none_lent rows c.as_slice.result.now c.args.got.tenure.tablet c.in_default.field-0 c.as_slice.ensures.value c.in_default.ensures.absent) refl
 
@@ -25,7 +25,8 @@ returns-then-not-is_receiving_at-clause-ok c =
     let found = subst (λ (xs : List Row). IsAt c.args.got.tenure.tablet xs c.in-Ok.at) c.as_slice.ensures.value c.in-Ok.ensures.found in
     let tablet = tablet_read c.args.state.now.tablets.items c.args.got.tenure.tablet c.in-Ok.at read c.requires.state.tablets.order found c.index.ensures in
     let failed = sym c.is_receiving_at.ensures ∙ c.if-not-is_receiving_at.true in
-    worked_quietly master c.nothing-then-not-is_receiving_at.result c.nothing-then-not-is_receiving_at.ensures.sends c.nothing-then-not-is_receiving_at.ensures.served
+    worked_quietly master c.nothing-then-not-is_receiving_at.result c.nothing-then-not-is_receiving_at.ensures.sends
+    c.nothing-then-not-is_receiving_at.ensures.served c.nothing-then-not-is_receiving_at.ensures.marked
     ∙ got_failed master c.args.got (tablet_of read.1) tablet (ap (λ b. b && is_batch read.1.wanted.outstanding c.args.got.hashes) failed)
 
 pub resolve-requires-clause-place : goal.resolve-requires-clause-place
@@ -40,4 +41,5 @@ resolve-requires-clause-pulls c =
 
 pub returns-clause-ok : goal.returns-clause-ok
 returns-clause-ok c =
-    worked_quietly (master_of c.resolve.new.state) c.nothing-2.result c.nothing-2.ensures.sends c.nothing-2.ensures.served ∙ c.in_ok-resolve.ensures.ok
+    worked_quietly (master_of c.resolve.new.state) c.nothing-2.result c.nothing-2.ensures.sends c.nothing-2.ensures.served c.nothing-2.ensures.marked
+    ∙ c.in_ok-resolve.ensures.ok

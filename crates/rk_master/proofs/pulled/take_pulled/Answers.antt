@@ -12,7 +12,7 @@ pub returns-in_default-clause-ok : goal.returns-in_default-clause-ok
 returns-in_default-clause-ok c =
     let master : Master = master_of c.args.state.now in
     let rows : List Row = c.args.state.now.tablets.items in
-    worked_quietly master c.nothing.result c.nothing.ensures.sends c.nothing.ensures.served
+    worked_quietly master c.nothing.result c.nothing.ensures.sends c.nothing.ensures.served c.nothing.ensures.marked
     ∙ pulled_failed master c.args.pulled no_tablet
     (none_lent rows c.as_slice.result.now c.args.pulled.tenure.tablet c.in_default.field-0 c.as_slice.ensures.value c.in_default.ensures.absent) refl
 
@@ -22,7 +22,8 @@ returns-then-not-awaits-clause-ok c =
     let read : Row = c.index.result.now in
     let found = subst (λ (xs : List Row). IsAt c.args.pulled.tenure.tablet xs c.in-Ok.at) c.as_slice.ensures.value c.in-Ok.ensures.found in
     let tablet = tablet_read c.args.state.now.tablets.items c.args.pulled.tenure.tablet c.in-Ok.at read c.requires.state.tablets.order found c.index.ensures in
-    worked_quietly master c.nothing-then-not-awaits.result c.nothing-then-not-awaits.ensures.sends c.nothing-then-not-awaits.ensures.served
+    worked_quietly master c.nothing-then-not-awaits.result c.nothing-then-not-awaits.ensures.sends
+    c.nothing-then-not-awaits.ensures.served c.nothing-then-not-awaits.ensures.marked
     ∙ pulled_failed master c.args.pulled (tablet_of read.1) tablet (sym c.awaits.ensures ∙ c.if-not-awaits.true)
 
 pub pull_on-requires-clause-place : goal.pull_on-requires-clause-place
@@ -40,5 +41,5 @@ returns-clause-ok c =
     let read : Row = c.index.result.now in
     let found = subst (λ (xs : List Row). IsAt c.args.pulled.tenure.tablet xs c.in-Ok.at) c.as_slice.ensures.value c.in-Ok.ensures.found in
     let tablet = tablet_read c.args.state.now.tablets.items c.args.pulled.tenure.tablet c.in-Ok.at read c.requires.state.tablets.order found c.index.ensures in
-    worked_quietly now c.nothing-2.result c.nothing-2.ensures.sends c.nothing-2.ensures.served
+    worked_quietly now c.nothing-2.result c.nothing-2.ensures.sends c.nothing-2.ensures.served c.nothing-2.ensures.marked
     ∙ pulled_made master now c.args.pulled (tablet_of read.1) tablet (sym c.awaits.ensures ∙ c.if-not-awaits.false) c.in_ok-pull_on.ensures.ok

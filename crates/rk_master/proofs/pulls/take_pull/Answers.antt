@@ -11,7 +11,7 @@ pub returns-in_default : goal.returns-in_default
 returns-in_default c =
     let master : Master = master_of c.args.state.now in
     let rows : List Row = c.args.state.now.tablets.items in
-    worked_quietly master c.nothing.result c.nothing.ensures.sends c.nothing.ensures.served
+    worked_quietly master c.nothing.result c.nothing.ensures.sends c.nothing.ensures.served c.nothing.ensures.marked
     ∙ pull_ignored master c.args.from c.args.pull no_tablet
     (none_lent rows c.as_slice.result.now c.args.pull.tenure.tablet c.in_default.field-0 c.as_slice.ensures.value c.in_default.ensures.absent) refl
 

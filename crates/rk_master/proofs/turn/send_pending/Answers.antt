@@ -13,6 +13,7 @@ loop-before-preserved c =
           sent_next master c.loop-before.work.sends.items c.send_to.new.work.sends.items c.loop-before.before c.args.state.now.backups c.loop-before-test.true c.in_ok-send_to.ensures.sends
           ∙ c.loop-before.invariant.sends;
       served = c.in_ok-send_to.ensures.served ∙ c.loop-before.invariant.served;
+      marked = c.in_ok-send_to.ensures.marked ∙ c.loop-before.invariant.marked;
     }
 
 pub returns-clause-sends : goal.returns-clause-sends

@@ -1,4 +1,5 @@
 use Rattle.std.proofs.Common.{[], ◌∷◌, ◌++◌, refl, ◌∙◌}
+use Rattle.rk_master.specs.Parts.{marks_of}
 use Rattle.rk_master.specs.State.{master_of}
 use Rattle.rk_master.proofs.state.MasterState.tell.Goals as goal
 
@@ -7,4 +8,5 @@ returns c =
     let master = master_of c.args.self.now in
     let sends = c.in_ok-send.ensures.sends ∙ (λ i. c.nothing-work.ensures.sends i ++ c.answering.ensures master refl i ∷ []) in
     let served = c.in_ok-send.ensures.served ∙ c.nothing-work.ensures.served in
-    λ i. record { master = master; sends = sends i; served = served i; marked = [] }
+    let marked = c.in_ok-send.ensures.marked ∙ c.nothing-work.ensures.marked in
+    λ i. record { master = master; sends = sends i; served = served i; marked = marks_of (marked i) }
