@@ -7,14 +7,17 @@ ghost use Rattle.rk_world.specs.Commits.{stored_taken};
 ghost use Rattle.rk_world.specs.Handovers.{close_taken, grant_taken, own_taken, prepare_taken, release_taken};
 ghost use Rattle.rk_world.specs.MasterTurn.{master_turn};
 ghost use Rattle.rk_world.specs.Pulls.{got_taken, pull_taken, pulled_taken, want_taken};
+ghost use Rattle.rk_world.specs.Rebuilds.{copy_taken, rebuild_taken};
 ghost use Rattle.rk_world.specs.Requests.{call_of, request_taken};
 ghost use Rattle.rk_world.specs.Step.{with_added};
 ghost use Rattle.rk_master.specs.Parts.{IsGrantable};
 ghost use Rattle.rk_master.specs.Pulls.{HasFewRecords, HasLawfulItems};
+ghost use Rattle.rk_master.specs.Rebuilding.{CanBeSpelled};
 
 use crate::orders::{take_close, take_grant, take_own, take_prepare, take_release};
 use crate::pulled::{take_got, take_pulled};
 use crate::pulls::{take_pull, take_want};
+use crate::rebuilds::{take_copy, take_rebuild};
 use crate::requests::take_request;
 use crate::state::MasterState;
 use crate::stored::take_stored;
@@ -22,7 +25,9 @@ use crate::tablets::serve;
 use crate::turn::take_turn;
 use crate::work::Worked;
 use rk_log::MOST_BACKUPS;
-use rk_message::{Got, Grant, Prepare, Pull, Pulled, Request, Stored, Tenure, Want};
+use rk_message::{
+    CopySegment, Got, Grant, Prepare, Pull, Pulled, Rebuild, Request, Stored, Tenure, Want,
+};
 use rk_types::{NoMemory, Node, Range};
 use std::alloc::Global;
 use std::marker::Model;
@@ -251,6 +256,48 @@ impl MasterLane {
         }
         self.spent = true;
         let work = take_got(&mut self.state, got)?;
+        self.spent = false;
+        Ok(work)
+    }
+
+    /// Takes the coordinator's order to rebuild a tablet from the logs of its lineage, which applies by a term above that of
+    /// the tablet and of each tablet here whose range meets this one: each other tablet there is given up, a master outside
+    /// the lineage drops the items of the range, and what the logs have is gathered. A master that has nothing to read
+    /// merges at once. What a merge appends must be lawful. After `NoMemory` the master is spent; it also comes where the
+    /// log is full, or an entry does not fit a segment. A few binary searches and two looks at each tablet; where the order
+    /// applies outside the lineage one at each record; and where it merges a step for each own entry from the place on from
+    /// which the own log counts and each byte of the side segments that these name, what [`rk_rebuild::Gather::merge`]
+    /// takes, and the time to spell what is appended.
+    pub fn take_rebuild(&mut self, rebuild: Rebuild) -> Result<Worked, NoMemory>
+        requires { IfSome self.old (λ master. CanBeSpelled (rebuild_taken master rebuild).master) }
+        ensures ok { IfOk result (λ work. IsSomeAnd self.old (λ master. IsWork (rebuild_taken master rebuild) self.new work)) }
+        ensures err { OnErr result (self.new ≡ None) }
+    {
+        if self.spent {
+            return Err(NoMemory);
+        }
+        self.spent = true;
+        let work = take_rebuild(&mut self.state, rebuild)?;
+        self.spent = false;
+        Ok(work)
+    }
+
+    /// Takes the copy of a segment for a rebuild, where that awaits just this one; another one changes nothing. With the
+    /// last one what was gathered is merged: the copies are put at the end of the log, and then the entry that closes the
+    /// rebuild. What a merge appends must be lawful. After `NoMemory` the master is spent; it also comes where the log is
+    /// full, or an entry does not fit a segment. Two binary searches, a look at each member of the lineage, and a step for
+    /// each entry of the segment, or of the log that it ends; and where it merges what that takes in
+    /// [`MasterLane::take_rebuild`].
+    pub fn take_copy(&mut self, copy: CopySegment) -> Result<Worked, NoMemory>
+        requires { IfSome self.old (λ master. CanBeSpelled (copy_taken master copy).master) }
+        ensures ok { IfOk result (λ work. IsSomeAnd self.old (λ master. IsWork (copy_taken master copy) self.new work)) }
+        ensures err { OnErr result (self.new ≡ None) }
+    {
+        if self.spent {
+            return Err(NoMemory);
+        }
+        self.spent = true;
+        let work = take_copy(&mut self.state, copy)?;
         self.spent = false;
         Ok(work)
     }

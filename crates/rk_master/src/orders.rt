@@ -203,8 +203,8 @@ fn receive(state: &mut MasterState, at: usize, grant: Grant) -> Result<(), NoMem
     Ok(())
 }
 
-// The completions after these ends. A search for each of them, and for the first of a client what an insertion takes.
-fn completions_of(alloc: Global, ends: &[Ended]) -> Result<Completions, NoMemory>
+/// The completions after these ends. A search for each of them, and for the first of a client what an insertion takes.
+pub(crate) fn completions_of(alloc: Global, ends: &[Ended]) -> Result<Completions, NoMemory>
     ensures { IfOk result (λ it. it.completions ≡ completions_from [] ends.now) }
 {
     let mut completions = Completions::new(alloc);

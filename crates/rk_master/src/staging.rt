@@ -1,12 +1,14 @@
 // Staging: an entry is put at the end of the log, and the call that it ends waits for it.
 ghost use Rattle.std.specs.Prelude.{◌≡◌, ◌≤◌, ℕ, true, length, IfSome, IsSome, None, OnOk};
+ghost use Rattle.std.specs.List.{All};
 ghost use Rattle.rk_types.specs.NumberMap.{get, insert};
 ghost use Rattle.rk_types.specs.Text.{value_fault};
-ghost use Rattle.rk_entry.specs.Lawful.{IsLawfulEntry};
+ghost use Rattle.rk_entry.specs.Lawful.{IsLawfulEntry, IsLawfulHeld};
 ghost use Rattle.rk_log.specs.Log.{with_entry};
 ghost use Rattle.rk_world.specs.Premises.{IsLawfulCall};
 ghost use Rattle.rk_world.specs.Requests as requests;
 ghost use Rattle.rk_master.specs.Kept.{IsKeptFrom};
+ghost use Rattle.rk_master.specs.Rebuilding.{with_items};
 ghost use Rattle.rk_master.specs.State.{IsState, master_of};
 
 use crate::effects::{item_of, refusal_of};
@@ -15,7 +17,7 @@ use crate::state::MasterState;
 use crate::tablets::next_version;
 use rk_entry::{Entry, entry_len};
 use rk_log::MasterLog;
-use rk_types::{Call, NoMemory, SEGMENT_BYTES, Value};
+use rk_types::{Call, Held, NoMemory, SEGMENT_BYTES, Value};
 
 /// A log with so many bytes takes no more entries.
 pub const MOST_LOG_BYTES: u64 = 1 << 31;
@@ -37,6 +39,24 @@ pub(crate) fn append(
     }
     items.take_in(&entry)?;
     log.append(entry)?;
+    Ok(())
+}
+
+/// Puts items at the end of the log, one after the other, as [`append`] does. For each the time to spell its entry, and
+/// two searches.
+pub(crate) fn append_items(
+    log: &mut MasterLog,
+    items: &mut StagedItems,
+    copies: Vec<Held>,
+) -> Result<(), NoMemory>
+    requires { All IsLawfulHeld copies.items }
+    ensures log { OnOk result (log.new ≡ with_items log.old copies.items) }
+    ensures kept { OnOk result ((applied : ℕ) → applied ≤ length log.old.entries
+        → IsKeptFrom applied items.old.newest log.old.entries → IsKeptFrom applied items.new.newest log.new.entries) }
+{
+    for copy in copies {
+        append(log, items, Entry::Held(copy))?;
+    }
     Ok(())
 }
 

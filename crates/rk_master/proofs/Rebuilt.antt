@@ -1,0 +1,496 @@
+-- What a rebuild does: how it begins, how it goes on, and how it closes.
+use Rattle.std.proofs.Common.{◌≡◌, ℕ, suc, ◌+◌, ◌<◌, ◌≤◌, Bool, true, false, cond, eqb, ltb, ◌&&◌, List, [], ◌∷◌, ◌++◌, fold, drop, map, length, length-append, Option, Some, None, is_some, unwrap_or, append_assoc, get_or, set, refl, sym, ap, ◌∙◌, subst, arith}
+use Rattle.std.specs.Bool.{OnTrue, OnFalse}
+use Rattle.std.specs.List.{All, list_all}
+use Rattle.std.specs.Prelude.{IsSome}
+use Rattle.std.proofs.lemmas.Bool.{cond-true, lt-ltb, eq-eqb, false≢true}
+use Rattle.std.proofs.lemmas.List.{append-nil, set-get_or}
+use Rattle.std.proofs.lemmas.List.Elements.{All-nil, All-cons, All-head, All-tail}
+use Rattle.rk_types.specs.NumberMap.{NumberMap, IsInOrder, get, insert}
+use Rattle.rk_types.proofs.NumberMaps.{get_insert, get_same, in_order_insert, same_map}
+use Rattle.rk_types.specs.declared.held.Held.{Held}
+use Rattle.rk_types.specs.declared.lineage.Member.{Member}
+use Rattle.rk_types.specs.declared.range.Range.{Range}
+use Rattle.rk_entry.specs.Lawful.{IsLawfulEntry, IsLawfulHeld}
+use Rattle.rk_entry.specs.declared.entry.Entry.{Entry}
+use Rattle.rk_entry.specs.declared.entry.Entry.TheVariants as entries
+use Rattle.rk_log.specs.Log.{Log, with_entry}
+use Rattle.rk_transfer.specs.Handover.{carried, in_role, rebuilt, role_carried}
+use Rattle.rk_transfer.specs.declared.handover.Handover.{Handover}
+use Rattle.rk_transfer.specs.declared.role.Role.{Role}
+use Rattle.rk_transfer.specs.declared.role.Role.TheVariants as roles
+use Rattle.rk_message.specs.declared.rebuilding.CopySegment.{CopySegment}
+use Rattle.rk_message.specs.declared.rebuilding.Rebuild.{Rebuild}
+use Rattle.rk_world.specs.declared.work.Merged.{Merged}
+use Rattle.rk_world.specs.declared.work.Mark.{Mark}
+use Rattle.rk_world.specs.declared.work.Reading.{Reading}
+use Rattle.rk_world.specs.Gather.{Gather, gather_begun, next_reading}
+use Rattle.rk_world.specs.Handovers.{is_above, is_greater, with_others_given_up}
+use Rattle.rk_world.specs.Lineage.{own_member}
+use Rattle.rk_world.specs.Master.{Master, tablet_at, with_all, with_appended}
+use Rattle.rk_world.specs.Material.{as_entries, material_of, side_entries}
+use Rattle.rk_world.specs.Merge.{merge}
+use Rattle.rk_world.specs.Rebuilds.{begun_from, copy_taken, merged_at, merging, own_material, own_place, rebuild_begun, rebuild_goes_on, rebuild_taken, rebuilding_on, rebuilt_entry, segment_gathered, with_begun, with_gathered, with_merged, without_foreign}
+use Rattle.rk_world.specs.RoleTests.{is_gathering}
+use Rattle.rk_world.specs.Tablet.{Tablet, no_tablet, pulling_from, with_handover, without_merged}
+use Rattle.rk_world.specs.Worked.{changed}
+use Rattle.rk_master.specs.declared.work.Worked.{Worked as Work}
+use Rattle.rk_master.specs.Parts.{AreClosable, IsClosable, can_close, changing, given_up_but, marks_of, tablet_in, tablet_of, tablets_of, worked_of}
+use Rattle.rk_master.specs.Rebuilding.{CanBeSpelled, gathered_from, is_awaiting, merged_with, own_counted, with_gather, with_items}
+use Rattle.rk_master.specs.Sides.{items_of_sides}
+use Rattle.rk_master.specs.declared.tablet_lane.TabletLane.{TabletLane}
+use Rattle.rk_master.specs.Places.{IsAt, Row}
+use Rattle.rk_master.proofs.Closable.{closable_at}
+use Rattle.rk_master.proofs.Handovers.{changed_read, kept_itself, stays_itself, tablet_read, with_rows}
+use Rattle.rk_master.proofs.Places.{there_too}
+
+-- ---- whether it goes on
+
+-- a test between the same
+same_either : {X : Type 0} (b : Bool) (x : X) → cond b x x ≡ x
+same_either true x = refl
+same_either false x = refl
+
+-- a role that gathers nothing takes no closing entry
+not_carried : (handover : Handover) (place floor : ℕ) → gathered_from handover.role None ≡ None → carried handover handover.term place floor ≡ None
+not_carried handover place floor none =
+    ap (λ (o : Option Handover). cond (eqb handover.term handover.term) o None) (ap (in_role (record handover { counter = floor })) (by_role handover.role none))
+    ∙ same_either (eqb handover.term handover.term) None
+  where
+    by_role : (role : Role) → gathered_from role None ≡ None → role_carried place role ≡ None
+    by_role roles.Absent e = refl
+    by_role roles.Serving e = refl
+    by_role roles.Closing e = refl
+    by_role roles.Frozen e = refl
+    by_role (roles.Wanting from) e = refl
+    by_role roles.Receiving e = refl
+    by_role (roles.Joining entry) e = refl
+    by_role (roles.Rebuilding from None) e = cc e
+    by_role (roles.Rebuilding from (Some entry)) e = refl
+
+-- nothing is merged while there is a segment to read, or in another role
+stays_by : (master : Master) (number : ℕ) (reading : Option Reading) → gathered_from (tablet_at master number).handover.role reading ≡ None
+    → changed master ≡ rebuilding_on master number reading
+stays_by master number (Some reading) none = refl
+stays_by master number None none =
+    let tablet : Tablet = tablet_at master number in
+    let merged : Merged = merged_with tablet (own_material master tablet) in
+    sym (
+    ap (merging master number tablet merged)
+    (not_carried tablet.handover (length (with_all master (as_entries merged.copies)).log.entries) merged.floor none)
+    )
+
+pub stays_so : (master : Master) (number : ℕ) (tablet : Tablet) → tablet_at master number ≡ tablet → gathered_from tablet.handover.role (next_reading tablet.gather) ≡ None
+    → changed master ≡ rebuild_goes_on master number
+stays_so master number tablet there none =
+    stays_by master number (next_reading (tablet_at master number).gather)
+    (ap (λ (t : Tablet). gathered_from t.handover.role (next_reading t.gather)) there ∙ none)
+
+-- what has gathered all from a place on is a rebuild without its closing entry, which has nothing to read
+has_gathered : (role : Role) (reading : Option Reading) (from : ℕ) → gathered_from role reading ≡ Some from → (role ≡ roles.Rebuilding from None) × (reading ≡ None)
+has_gathered roles.Absent reading from e = cc e
+has_gathered roles.Serving reading from e = cc e
+has_gathered roles.Closing reading from e = cc e
+has_gathered roles.Frozen reading from e = cc e
+has_gathered (roles.Wanting place) reading from e = cc e
+has_gathered roles.Receiving reading from e = cc e
+has_gathered (roles.Joining entry) reading from e = cc e
+has_gathered (roles.Rebuilding place (Some entry)) reading from e = cc e
+has_gathered (roles.Rebuilding place None) (Some reading) from e = cc e
+has_gathered (roles.Rebuilding place None) None from e = let same : place ≡ from = cc e in (ap (λ (n : ℕ). roles.Rebuilding n None) same, refl)
+
+-- so it is gathering
+pub is_gathering_so : (role : Role) (reading : Option Reading) (from : ℕ) → gathered_from role reading ≡ Some from → is_gathering role ≡ true
+is_gathering_so role reading from is = ap is_gathering (has_gathered role reading from is).0
+
+-- and its own log counts from there
+pub own_place_so : (role : Role) (reading : Option Reading) (from : ℕ) → gathered_from role reading ≡ Some from → own_place role ≡ from
+own_place_so role reading from is = ap own_place (has_gathered role reading from is).0
+
+-- what has gathered all merges
+pub merges_so : (master : Master) (number : ℕ) (tablet : Tablet) (from : ℕ) (merged : Merged) → tablet_at master number ≡ tablet
+    → gathered_from tablet.handover.role (next_reading tablet.gather) ≡ Some from → merged ≡ merged_with tablet (own_material master tablet)
+    → rebuild_goes_on master number ≡ merged_at master number tablet merged
+merges_so master number tablet from merged there is merged_is =
+    (λ i. rebuilding_on master number (next_reading (there i).gather))
+    ∙ ap (rebuilding_on master number) (has_gathered tablet.handover.role (next_reading tablet.gather) from is).1
+    ∙ (λ i. merged_at master number (there i) (merged_with (there i) (own_material master (there i))))
+    ∙ ap (merged_at master number tablet) (sym merged_is)
+
+-- so it goes on with what was merged of the own log
+pub goes_on_so : (master : Master) (number : ℕ) (tablet : Tablet) (from : ℕ) (merged : Merged) → master.sides ≡ items_of_sides master.log.sides → tablet_at master number ≡ tablet
+    → gathered_from tablet.handover.role (next_reading tablet.gather) ≡ Some from → merged ≡ merged_with tablet (own_counted master.log tablet.handover.range from)
+    → rebuild_goes_on master number ≡ merged_at master number (tablet_at master number) merged
+goes_on_so master number tablet from merged here there is merged_is =
+    let place : own_place tablet.handover.role ≡ from = own_place_so tablet.handover.role (next_reading tablet.gather) from is in
+    merges_so master number tablet from merged there is
+    (merged_is ∙ (λ i. merged_with tablet (material_of tablet.handover.range (side_entries (sym here i)) (drop (sym place i) master.log.entries))))
+    ∙ ap (λ (t : Tablet). merged_at master number t merged) (sym there)
+
+-- ---- a segment is gathered
+
+-- a target whose handover and whose sealed segments stay can be closed as before
+pub closable_same : (rows : List Row) (i : ℕ) (read : Row) (lane : TabletLane) → i < length rows → read ≡ get_or rows i read → AreClosable (tablets_of rows)
+    → lane.handover ≡ read.1.handover → lane.sealed ≡ read.1.sealed → IsClosable (tablet_of lane)
+closable_same rows i read lane within is closable handover sealed =
+    subst (λ (segments : List ℕ). can_close lane.handover.role (record { range = lane.handover.range; term = lane.handover.term; segments = segments })) (sym sealed)
+    (subst (λ (h : Handover). can_close h.role (record { range = h.range; term = h.term; segments = read.1.sealed })) (sym handover)
+    (subst (λ (row : Row). IsClosable (tablet_of row.1)) (sym is) (closable_at rows i read within closable)))
+
+-- a tablet that is as it was stands as it stood
+tablets_same : (rows : List Row) (number i : ℕ) (read : Row) (lane : TabletLane) → IsInOrder rows → IsAt number rows i → read ≡ get_or rows i read → tablet_of lane ≡ tablet_of read.1
+    → tablets_of (set rows i (read.0, lane)) ≡ tablets_of rows
+tablets_same rows number i read lane order at is same =
+    changed_read rows number i read lane order at is
+    ∙ ap (insert (tablets_of rows) number) same
+    ∙ sym (changed_read rows number i read read.1 order at is)
+    ∙ ap (λ (row : Row). tablets_of (set rows i row)) is
+    ∙ ap tablets_of (set-get_or rows i read)
+
+-- the tablet at a place gathered a segment, where it did
+pub gathered_at : (master : Master) (rows : List Row) (i : ℕ) (read : Row) (lane : TabletLane) (copy : CopySegment) (awaited : Bool)
+    → IsInOrder rows → IsAt copy.tenure.tablet rows i → read ≡ get_or rows i read
+    → OnTrue awaited (tablet_of lane ≡ with_gathered (tablet_of read.1) copy)
+    → OnTrue awaited (with_rows master (set rows i (read.0, lane)) ≡ segment_gathered (with_rows master rows) copy)
+gathered_at master rows i read lane copy false order at is gathered = tt
+gathered_at master rows i read lane copy true order at is gathered =
+    ap (λ (tablets : NumberMap Tablet). record master { tablets = tablets })
+    (changed_read rows copy.tenure.tablet i read lane order at is
+    ∙ ap (insert (tablets_of rows) copy.tenure.tablet)
+    (gathered ∙ ap (λ (t : Tablet). with_gathered t copy) (sym (tablet_read rows copy.tenure.tablet i read order at is))))
+
+-- and is as it was, where it did not
+pub ignored_at : (master : Master) (rows : List Row) (i : ℕ) (read : Row) (lane : TabletLane) (copy : CopySegment) (awaited : Bool)
+    → IsInOrder rows → IsAt copy.tenure.tablet rows i → read ≡ get_or rows i read
+    → OnFalse awaited (tablet_of lane ≡ tablet_of read.1)
+    → OnFalse awaited (with_rows master (set rows i (read.0, lane)) ≡ with_rows master rows)
+ignored_at master rows i read lane copy true order at is ignored = tt
+ignored_at master rows i read lane copy false order at is ignored =
+    ap (λ (tablets : NumberMap Tablet). record master { tablets = tablets }) (tablets_same rows copy.tenure.tablet i read lane order at is ignored)
+
+-- by a copy that is awaited the rebuild goes on
+pub copy_gathered : (master now : Master) (copy : CopySegment) (awaited : Bool) → awaited ≡ is_awaiting (tablet_at master copy.tenure.tablet) copy → awaited ≡ true
+    → OnTrue awaited (now ≡ segment_gathered master copy) → rebuild_goes_on now copy.tenure.tablet ≡ copy_taken master copy
+copy_gathered master now copy awaited awaits is gathered =
+    ap (λ (m : Master). rebuild_goes_on m copy.tenure.tablet) (on_true awaited is gathered)
+    ∙ sym (cond-true (is_awaiting (tablet_at master copy.tenure.tablet) copy) (rebuild_goes_on (segment_gathered master copy) copy.tenure.tablet) (changed master) (sym awaits ∙ is))
+  where
+    on_true : (b : Bool) → b ≡ true → OnTrue b (now ≡ segment_gathered master copy) → now ≡ segment_gathered master copy
+    on_true true e it = it
+    on_true false e it = absurd (false≢true e)
+
+-- ---- how it closes
+
+-- a gathering role takes a closing entry
+carries : (role : Role) (place : ℕ) → is_gathering role ≡ true → is_some (role_carried place role) ≡ true
+carries roles.Absent place is = cc is
+carries roles.Serving place is = cc is
+carries roles.Closing place is = cc is
+carries roles.Frozen place is = cc is
+carries (roles.Wanting from) place is = cc is
+carries roles.Receiving place is = cc is
+carries (roles.Joining entry) place is = cc is
+carries (roles.Rebuilding from None) place is = refl
+carries (roles.Rebuilding from (Some entry)) place is = cc is
+
+-- where a role is taken, the handover takes it
+some_role : (handover : Handover) (role : Option Role) → is_some role ≡ true → is_some (in_role handover role) ≡ true
+some_role handover None is = is
+some_role handover (Some role) is = refl
+
+-- so that the move applies
+pub is_carried : (handover : Handover) (place floor : ℕ) → is_gathering handover.role ≡ true → is_some (carried handover handover.term place floor) ≡ true
+is_carried handover place floor is =
+    ap is_some
+    (cond-true (eqb handover.term handover.term) (in_role (record handover { counter = floor }) (role_carried place handover.role)) None
+    (eq-eqb handover.term handover.term refl))
+    ∙ some_role (record handover { counter = floor }) (role_carried place handover.role) (carries handover.role place is)
+
+-- the term and the range stay
+same_in_role : (handover after : Handover) (role : Option Role) → in_role handover role ≡ Some after → (after.term ≡ handover.term) × (after.range ≡ handover.range)
+same_in_role handover after None e = cc e
+same_in_role handover after (Some role) e =
+    let same : record handover { role = role } ≡ after = cc e in
+    (sym (ap (λ (h : Handover). h.term) same), sym (ap (λ (h : Handover). h.range) same))
+
+pub carried_stays : (handover after : Handover) (term place floor : ℕ) → carried handover term place floor ≡ Some after → (after.term ≡ handover.term) × (after.range ≡ handover.range)
+carried_stays handover after term place floor is = go (eqb handover.term term) is
+  where
+    go : (b : Bool) → cond b (in_role (record handover { counter = floor }) (role_carried place handover.role)) None ≡ Some after
+        → (after.term ≡ handover.term) × (after.range ≡ handover.range)
+    go true e = same_in_role (record handover { counter = floor }) after (role_carried place handover.role) e
+    go false e = cc e
+
+-- and the role is still that of a rebuild, which has its closing entry
+carried_role : (handover after : Handover) (term place floor : ℕ) → carried handover term place floor ≡ Some after → (from : ℕ) × (after.role ≡ roles.Rebuilding from (Some place))
+carried_role handover after term place floor is = go (eqb handover.term term) is
+  where
+    taken : (role now : Role) → role_carried place role ≡ Some now → (from : ℕ) × (now ≡ roles.Rebuilding from (Some place))
+    taken roles.Absent now e = cc e
+    taken roles.Serving now e = cc e
+    taken roles.Closing now e = cc e
+    taken roles.Frozen now e = cc e
+    taken (roles.Wanting from) now e = cc e
+    taken roles.Receiving now e = cc e
+    taken (roles.Joining entry) now e = cc e
+    taken (roles.Rebuilding from None) now e = let same : roles.Rebuilding from (Some place) ≡ now = cc e in (from, sym same)
+    taken (roles.Rebuilding from (Some entry)) now e = cc e
+
+    by_role : (role : Option Role) → ((now : Role) → role ≡ Some now → (from : ℕ) × (now ≡ roles.Rebuilding from (Some place)))
+        → in_role (record handover { counter = floor }) role ≡ Some after → (from : ℕ) × (after.role ≡ roles.Rebuilding from (Some place))
+    by_role None made e = cc e
+    by_role (Some now) made e =
+        let same : record handover { counter = floor; role = now } ≡ after = cc e in
+        let rebuilds = made now refl in
+        (rebuilds.0, sym (ap (λ (h : Handover). h.role) same) ∙ rebuilds.1)
+
+    go : (b : Bool) → cond b (in_role (record handover { counter = floor }) (role_carried place handover.role)) None ≡ Some after
+        → (from : ℕ) × (after.role ≡ roles.Rebuilding from (Some place))
+    go true e = by_role (role_carried place handover.role) (taken handover.role) e
+    go false e = cc e
+
+-- which is neither that of one that pulls
+pub not_receiving : (handover after : Handover) (term place floor : ℕ) → carried handover term place floor ≡ Some after → after.role ≡ roles.Receiving → ⊥
+not_receiving handover after term place floor is receives = let rebuilds = carried_role handover after term place floor is in cc (sym rebuilds.1 ∙ receives)
+
+-- nor that of one that has all
+pub not_joining : (handover after : Handover) (term place floor : ℕ) → carried handover term place floor ≡ Some after → after.role ≡ roles.Joining None → ⊥
+not_joining handover after term place floor is joins = let rebuilds = carried_role handover after term place floor is in cc (sym rebuilds.1 ∙ joins)
+
+-- entries that are put at the end of the log of a master
+pub all_put : (master : Master) (put : List Entry) → with_all master put ≡ record master { log = fold with_entry master.log put }
+all_put master [] = refl
+all_put master (entry ∷ put) = all_put (with_appended master entry) put
+
+-- stand there behind those before them, and nothing else changes
+pub put_log : (log : Log) (put : List Entry) → fold with_entry log put ≡ record log { entries = log.entries ++ put }
+put_log log [] = λ i. record log { entries = sym (append-nil log.entries) i }
+put_log log (entry ∷ put) = put_log (with_entry log entry) put ∙ (λ i. record log { entries = append_assoc log.entries (entry ∷ []) put i })
+
+-- the log after a merge: the copies, and then the entry that closes the rebuild
+closing_log : (master : Master) (number : ℕ) (tablet : Tablet) (merged : Merged) → is_gathering tablet.handover.role ≡ true
+    → (merged_at master number tablet merged).master.log.entries ≡ master.log.entries ++ (as_entries merged.copies ++ rebuilt_entry tablet merged ∷ [])
+closing_log master number tablet merged is =
+    by_move (carried tablet.handover tablet.handover.term place merged.floor) (is_carried tablet.handover place merged.floor is)
+    ∙ ap (λ (m : Master). m.log.entries ++ rebuilt_entry tablet merged ∷ []) (all_put master (as_entries merged.copies))
+    ∙ ap (λ (l : Log). l.entries ++ rebuilt_entry tablet merged ∷ []) (put_log master.log (as_entries merged.copies))
+    ∙ append_assoc master.log.entries (as_entries merged.copies) (rebuilt_entry tablet merged ∷ [])
+  where
+    place : ℕ
+    place = length (with_all master (as_entries merged.copies)).log.entries
+
+    by_move : (moved : Option Handover) → is_some moved ≡ true
+        → (merging master number tablet merged moved).master.log.entries ≡ (with_all master (as_entries merged.copies)).log.entries ++ rebuilt_entry tablet merged ∷ []
+    by_move None some = absurd (false≢true some)
+    by_move (Some handover) some = refl
+
+-- what holds of all of two lists holds of all of the first
+all_left : {X : Type 0} (P : X → Type 0) (xs ys : List X) → All P (xs ++ ys) → All P xs
+all_left P [] ys all = All-nil P
+all_left P (x ∷ xs) ys all = All-cons P x xs (All-head P x (xs ++ ys) all) (all_left P xs ys (All-tail P x (xs ++ ys) all))
+
+-- and of all of the second
+pub all_right : {X : Type 0} (P : X → Type 0) (xs ys : List X) → All P (xs ++ ys) → All P ys
+all_right P [] ys all = all
+all_right P (x ∷ xs) ys all = all_right P xs ys (All-tail P x (xs ++ ys) all)
+
+-- items whose entries can be spelled
+items_spelled : (items : List Held) → All IsLawfulEntry (as_entries items) → All IsLawfulHeld items
+items_spelled [] all = All-nil IsLawfulHeld
+items_spelled (item ∷ items) all =
+    All-cons IsLawfulHeld item items (All-head IsLawfulEntry (entries.Held item) (as_entries items) all)
+    (items_spelled items (All-tail IsLawfulEntry (entries.Held item) (as_entries items) all))
+
+-- where the log after a merge can be spelled, what is appended can
+appended_lawful : (master : Master) (number : ℕ) (tablet : Tablet) (merged : Merged) → is_gathering tablet.handover.role ≡ true
+    → CanBeSpelled (merged_at master number tablet merged).master → All IsLawfulEntry (as_entries merged.copies ++ rebuilt_entry tablet merged ∷ [])
+appended_lawful master number tablet merged is lawful =
+    all_right IsLawfulEntry master.log.entries (as_entries merged.copies ++ rebuilt_entry tablet merged ∷ [])
+    (subst (All IsLawfulEntry) (closing_log master number tablet merged is) lawful)
+
+pub copies_lawful : (master : Master) (number : ℕ) (tablet : Tablet) (merged : Merged) → is_gathering tablet.handover.role ≡ true
+    → CanBeSpelled (merged_at master number tablet merged).master → All IsLawfulHeld merged.copies
+copies_lawful master number tablet merged is lawful =
+    items_spelled merged.copies (all_left IsLawfulEntry (as_entries merged.copies) (rebuilt_entry tablet merged ∷ []) (appended_lawful master number tablet merged is lawful))
+
+pub closing_lawful : (master : Master) (number : ℕ) (tablet : Tablet) (merged : Merged) → is_gathering tablet.handover.role ≡ true
+    → CanBeSpelled (merged_at master number tablet merged).master → IsLawfulEntry (rebuilt_entry tablet merged)
+closing_lawful master number tablet merged is lawful =
+    All-head IsLawfulEntry (rebuilt_entry tablet merged) []
+    (all_right IsLawfulEntry (as_entries merged.copies) (rebuilt_entry tablet merged ∷ []) (appended_lawful master number tablet merged is lawful))
+
+-- a rebuild that closes
+pub closes_so : (master : Master) (items log : Log) (tablets : NumberMap Tablet) (number : ℕ) (tablet : Tablet) (merged : Merged) (handover : Handover) (work : Work) (mark : Mark)
+    → master.sides ≡ items_of_sides master.log.sides
+    → items ≡ with_items master.log merged.copies
+    → carried tablet.handover tablet.handover.term (length items.entries) merged.floor ≡ Some handover
+    → log ≡ with_entry items (rebuilt_entry tablet merged)
+    → tablets ≡ insert master.tablets number (with_merged tablet merged handover)
+    → work.sends.items ≡ [] → work.served.items ≡ [] → work.marked ≡ Some mark
+    → mark ≡ record { master = master.number; first = length master.log.entries; past = suc (length items.entries); tablet = number; term = handover.term }
+    → worked_of (record master { log = log; sides = items_of_sides log.sides; tablets = tablets }) work ≡ merged_at master number tablet merged
+closes_so master items log tablets number tablet merged handover work mark here items_are moved log_is tablets_are sends served marked piece =
+    (λ i. record {
+      master = record master { log = log_is i; sides = sides i; tablets = tablets_are i };
+      sends = sends i;
+      served = served i;
+      marked = (ap marks_of marked ∙ ap (λ (m : Mark). m ∷ []) piece) i;
+    })
+    ∙ (λ i. record {
+      master = record (with_appended (put i) (rebuilt_entry tablet merged)) { tablets = insert (put i).tablets number (with_merged tablet merged handover) };
+      sends = [];
+      served = [];
+      marked = (record { master = master.number; first = length master.log.entries; past = suc (length (put i).log.entries); tablet = number; term = handover.term }) ∷ [];
+    })
+    ∙ ap (merging master number tablet merged)
+    (sym (ap (λ (m : Master). carried tablet.handover tablet.handover.term (length m.log.entries) merged.floor) (sym put) ∙ moved))
+  where
+    put : record master { log = items } ≡ with_all master (as_entries merged.copies)
+    put = ap (λ (it : Log). record master { log = it }) items_are ∙ sym (all_put master (as_entries merged.copies))
+
+    sides : items_of_sides log.sides ≡ master.sides
+    sides =
+        ap (λ (l : Log). items_of_sides l.sides) (log_is ∙ ap (λ (l : Log). with_entry l (rebuilt_entry tablet merged)) items_are)
+        ∙ ap (λ (l : Log). items_of_sides l.sides) (put_log master.log (as_entries merged.copies))
+        ∙ sym here
+
+-- the log after a rebuild has closed
+abbrev pub closed_log : Log → List Entry → Entry → Log
+closed_log log put closing = record log { entries = (log.entries ++ put) ++ closing ∷ [] }
+
+-- so it is
+pub log_closes : (log items after : Log) (copies : List Held) (closing : Entry) → items ≡ with_items log copies → after ≡ with_entry items closing
+    → after ≡ closed_log log (as_entries copies) closing
+log_closes log items after copies closing items_are after_is =
+    after_is ∙ ap (λ (l : Log). with_entry l closing) (items_are ∙ put_log log (as_entries copies))
+
+-- and what it has before its last entry is as long as it was, or longer
+pub items_longer : (log items : Log) (copies : List Held) (applied : ℕ) → items ≡ with_items log copies → applied ≤ length log.entries → applied ≤ length items.entries
+items_longer log items copies applied items_are within =
+    let longer : applied ≤ length (log.entries ++ as_entries copies) = omega (arith, within, length-append log.entries (as_entries copies)) in
+    subst (λ (l : Log). applied ≤ length l.entries) (sym (items_are ∙ put_log log (as_entries copies))) longer
+
+-- one more entry is one more place
+pub one_longer : (log items : Log) (entry : Entry) → log ≡ with_entry items entry → length log.entries ≡ suc (length items.entries)
+one_longer log items entry is = ap (λ (l : Log). length l.entries) is ∙ omega (arith, length-append items.entries (entry ∷ []))
+
+-- ---- how it begins
+
+-- what is put under a number once more
+pub insert_again : {X : Type 0} (things : NumberMap X) (number : ℕ) (first last : X) → IsInOrder things → insert (insert things number first) number last ≡ insert things number last
+insert_again {X} things number first last order =
+    same_map (insert (insert things number first) number last) (insert things number last)
+    (in_order_insert (insert things number first) number last (in_order_insert things number first order)) (in_order_insert things number last order)
+    (λ q. get_insert (insert things number first) number last q
+    ∙ ap (cond (eqb q number) (Some last)) (get_insert things number first q)
+    ∙ go q (eqb q number)
+    ∙ sym (get_insert things number last q))
+  where
+    go : (q : ℕ) (b : Bool) → cond b (Some last) (cond b (Some first) (get things q)) ≡ cond b (Some last) (get things q)
+    go q true = refl
+    go q false = refl
+
+-- a greater term begins a rebuild
+pub begins_so : (handover : Handover) (term : ℕ) (range : Range) (from : ℕ) → handover.term < term → is_some (rebuilt handover term range from) ≡ true
+begins_so handover term range from greater =
+    ap (λ (b : Bool). is_some (cond b (Some (record handover { role = roles.Rebuilding from None; term = term; range = range })) None)) (lt-ltb handover.term term greater)
+
+-- and the role is that of a rebuild then
+pub begun_role : (handover after : Handover) (term : ℕ) (range : Range) (from : ℕ) → rebuilt handover term range from ≡ Some after → after.role ≡ roles.Rebuilding from None
+begun_role handover after term range from is = go (ltb handover.term term) is
+  where
+    go : (b : Bool) → cond b (Some (record handover { role = roles.Rebuilding from None; term = term; range = range })) None ≡ Some after → after.role ≡ roles.Rebuilding from None
+    go true e = let same : record handover { role = roles.Rebuilding from None; term = term; range = range } ≡ after = cc e in sym (ap (λ (h : Handover). h.role) same)
+    go false e = cc e
+
+-- a tablet that was put among others is there
+pub handed_there : (rows : List Row) (others : NumberMap Tablet) (number : ℕ) (tablet : Tablet) → tablets_of rows ≡ insert others number tablet → IsSome (get rows number)
+handed_there rows others number tablet is =
+    there_too rows number (ap is_some (ap (λ (tablets : NumberMap Tablet). get tablets number) is ∙ get_same others number tablet number refl))
+
+-- and what the master has of it
+pub handed_tablet : (rows : List Row) (others : NumberMap Tablet) (number : ℕ) (tablet : Tablet) → tablets_of rows ≡ insert others number tablet → tablet_in rows number ≡ tablet
+handed_tablet rows others number tablet is =
+    ap (λ (tablets : NumberMap Tablet). unwrap_or (get tablets number) no_tablet) is
+    ∙ ap (λ (o : Option Tablet). unwrap_or o no_tablet) (get_same others number tablet number refl)
+
+-- by a greater term the rebuild that has begun goes on
+pub rebuild_made : (master now : Master) (rebuild : Rebuild) → now ≡ rebuild_begun master rebuild
+    → (tablet_at master rebuild.tenure.tablet).handover.term < rebuild.tenure.term → list_all (is_above rebuild.range rebuild.tenure.term) master.tablets ≡ true
+    → rebuild_goes_on now rebuild.tenure.tablet ≡ rebuild_taken master rebuild
+rebuild_made master now rebuild now_is greater above =
+    let is : is_greater master rebuild.tenure.tablet rebuild.tenure.term rebuild.range ≡ true =
+    (λ i. lt-ltb (tablet_at master rebuild.tenure.tablet).handover.term rebuild.tenure.term greater i && above i) in
+    ap (λ (m : Master). rebuild_goes_on m rebuild.tenure.tablet) now_is
+    ∙ sym (cond-true (is_greater master rebuild.tenure.tablet rebuild.tenure.term rebuild.range) (rebuild_goes_on (rebuild_begun master rebuild) rebuild.tenure.tablet) (changed master) is)
+
+-- the number of a master stays
+same_number : (master : Master) (range : Range) (own : Option Member) → (without_foreign master range own).number ≡ master.number
+same_number master range None = refl
+same_number master range (Some member) = refl
+
+-- a rebuild that has begun
+pub begun_so : (master first : Master) (others handed after : NumberMap Tablet) (rebuild : Rebuild) (before handover : Handover) (gather : Gather)
+    → first ≡ without_foreign master rebuild.range (own_member rebuild.lineage master.number)
+    → first.tablets ≡ master.tablets
+    → before ≡ (tablet_at master rebuild.tenure.tablet).handover
+    → rebuilt before rebuild.tenure.term rebuild.range (begun_from master (own_member rebuild.lineage master.number)) ≡ Some handover
+    → others ≡ map (changing (given_up_but rebuild.tenure.tablet rebuild.range)) master.tablets
+    → IsInOrder others
+    → handed ≡ insert others rebuild.tenure.tablet (without_merged (with_handover (unwrap_or (get others rebuild.tenure.tablet) no_tablet) handover))
+    → gather ≡ gather_begun rebuild.range rebuild.lineage master.number
+    → after ≡ insert handed rebuild.tenure.tablet (with_gather (unwrap_or (get handed rebuild.tenure.tablet) no_tablet) gather)
+    → record first { tablets = after } ≡ rebuild_begun master rebuild
+begun_so master first others handed after rebuild before handover gather first_is kept before_is moved others_are order handed_is gather_is after_is =
+    (λ i. record first { tablets = whole i })
+    ∙ (λ i. record (first_is i) { tablets = insert others number (begun gather (tablet others)) })
+    ∙ (λ i. record foreign { tablets = insert (now_has i) number (begun (gathers i) (tablet (now_has i))) })
+    ∙ sym (ap (with_begun now rebuild) moved_now)
+  where
+    number : ℕ
+    number = rebuild.tenure.tablet
+
+    own : Option Member
+    own = own_member rebuild.lineage master.number
+
+    foreign : Master
+    foreign = without_foreign master rebuild.range own
+
+    now : Master
+    now = with_others_given_up foreign number rebuild.range
+
+    -- the tablet among others
+    tablet : NumberMap Tablet → Tablet
+    tablet tablets = unwrap_or (get tablets number) no_tablet
+
+    -- as it begins
+    begun : Gather → Tablet → Tablet
+    begun it old = record old { handover = handover; pulling = pulling_from old.pulling.source; gather = it; merged_ends = [] }
+
+    -- with the handover alone
+    handed_so : Tablet
+    handed_so = without_merged (with_handover (tablet others) handover)
+
+    found : tablet handed ≡ handed_so
+    found = ap tablet handed_is ∙ ap (λ (o : Option Tablet). unwrap_or o no_tablet) (get_same others number handed_so number refl)
+
+    whole : after ≡ insert others number (begun gather (tablet others))
+    whole =
+        after_is
+        ∙ (λ i. insert (handed_is i) number (with_gather (found i) gather))
+        ∙ insert_again others number handed_so (begun gather (tablet others)) order
+
+    gathers : gather ≡ gather_begun rebuild.range rebuild.lineage foreign.number
+    gathers = gather_is ∙ ap (gather_begun rebuild.range rebuild.lineage) (sym (same_number master rebuild.range own))
+
+    now_has : others ≡ now.tablets
+    now_has = others_are ∙ ap (map (changing (given_up_but number rebuild.range))) (sym kept ∙ ap (λ (m : Master). m.tablets) first_is)
+
+    same_handover : (tablet_at now number).handover ≡ before
+    same_handover =
+        ap (λ (o : Option Tablet). (unwrap_or o no_tablet).handover) (kept_itself (given_up_but number rebuild.range) number foreign.tablets (stays_itself number rebuild.range))
+        ∙ ap (λ (tablets : NumberMap Tablet). (unwrap_or (get tablets number) no_tablet).handover) (sym (ap (λ (m : Master). m.tablets) first_is) ∙ kept)
+        ∙ sym before_is
+
+    moved_now : rebuilt (tablet_at now number).handover rebuild.tenure.term rebuild.range (begun_from master own) ≡ Some handover
+    moved_now = ap (λ (h : Handover). rebuilt h rebuild.tenure.term rebuild.range (begun_from master own)) same_handover ∙ moved

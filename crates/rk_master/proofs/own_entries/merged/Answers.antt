@@ -1,0 +1,29 @@
+use Rattle.std.proofs.Common.{◌≡◌, List, drop, sym, ap, ◌∙◌, subst}
+use Rattle.std.proofs.lemmas.Result.{IfOk-weaker}
+use denote.Ref.{Bor}
+use Rattle.rk_types.specs.NumberMap.{NumberMap}
+use Rattle.rk_types.specs.declared.range.Range.{Range}
+use Rattle.rk_entry.specs.declared.entry.Entry.{Entry}
+use Rattle.rk_log.specs.Log.{Log}
+use Rattle.rk_rebuild.specs.Lent.{lent}
+use Rattle.rk_world.specs.Material.{named}
+use Rattle.rk_world.specs.Tablet.{Tablet}
+use Rattle.rk_master.specs.Parts.{tablet_of}
+use Rattle.rk_master.specs.Rebuilding.{AreRead, merged_with, own_counted}
+use Rattle.rk_master.proofs.OwnEntries.{own_counts}
+use Rattle.rk_master.proofs.own_entries.merged.Goals as goal
+
+pub returns : goal.returns
+returns c =
+    let log : Log = c.args.log.now in
+    let tablet : Tablet = tablet_of c.args.tablet.now in
+    let range : Range = tablet.handover.range in
+    let own : List Entry = lent c.as_slice-3.result.now in
+    let sides : NumberMap (List Entry) = c.in_ok-sides.sides in
+    let entries : own ≡ drop c.args.from log.entries = ap lent c.as_slice-3.ensures.value ∙ c.in_ok-own.ensures ∙ c.entries_behind.ensures in
+    let numbers = c.as_slice-2.ensures ∙ c.in_ok-numbers.ensures
+    ∙ ap (λ (es : List (Bor Entry)). named range (lent es)) (c.as_slice.ensures.value ∙ sym c.as_slice-3.ensures.value) in
+    let are : AreRead sides log.sides (named range own) = subst (AreRead sides log.sides) numbers c.in_ok-sides.ensures in
+    let counted = ap lent c.as_slice-4.ensures.value ∙ c.in_ok-counted.ensures ∙ own_counts range sides log c.args.from own c.requires entries are in
+    IfOk-weaker c.merge.result _ (λ merged. merged ≡ merged_with tablet (own_counted log range c.args.from))
+    (λ merged is. is ∙ ap (merged_with tablet) counted) c.merge.ensures

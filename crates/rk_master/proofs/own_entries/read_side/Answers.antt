@@ -1,0 +1,6 @@
+use Rattle.std.proofs.Common.{◌∙◌}
+use Rattle.rk_types.specs.NumberMap.{insert}
+use Rattle.rk_master.proofs.own_entries.read_side.Goals as goal
+
+pub returns : goal.returns
+returns c = c.in_ok-insert.ensures.ok ∙ (λ i. insert c.args.read.now (c.from.ensures i) (c.in_ok-side.ensures i))
