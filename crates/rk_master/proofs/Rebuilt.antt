@@ -1,5 +1,5 @@
 -- What a rebuild does: how it begins, how it goes on, and how it closes.
-use Rattle.std.proofs.Common.{◌≡◌, ℕ, suc, ◌+◌, ◌<◌, ◌≤◌, Bool, true, false, cond, eqb, ltb, ◌&&◌, List, [], ◌∷◌, ◌++◌, fold, drop, map, length, length-append, Option, Some, None, is_some, unwrap_or, append_assoc, get_or, set, refl, sym, ap, ◌∙◌, subst, arith}
+use Rattle.std.proofs.Common.{◌≡◌, ℕ, suc, ◌<◌, ◌≤◌, Bool, true, false, cond, eqb, ltb, ◌&&◌, List, [], ◌∷◌, ◌++◌, fold, drop, map, length, length-append, Option, Some, None, is_some, unwrap_or, append_assoc, get_or, set, refl, sym, ap, ◌∙◌, subst, arith}
 use Rattle.std.specs.Bool.{OnTrue, OnFalse}
 use Rattle.std.specs.List.{All, list_all}
 use Rattle.std.specs.Prelude.{IsSome}
@@ -29,7 +29,6 @@ use Rattle.rk_world.specs.Handovers.{is_above, is_greater, with_others_given_up}
 use Rattle.rk_world.specs.Lineage.{own_member}
 use Rattle.rk_world.specs.Master.{Master, tablet_at, with_all, with_appended}
 use Rattle.rk_world.specs.Material.{as_entries, material_of, side_entries}
-use Rattle.rk_world.specs.Merge.{merge}
 use Rattle.rk_world.specs.Rebuilds.{begun_from, copy_taken, merged_at, merging, own_material, own_place, rebuild_begun, rebuild_goes_on, rebuild_taken, rebuilding_on, rebuilt_entry, segment_gathered, with_begun, with_gathered, with_merged, without_foreign}
 use Rattle.rk_world.specs.RoleTests.{is_gathering}
 use Rattle.rk_world.specs.Tablet.{Tablet, no_tablet, pulling_from, with_handover, without_merged}

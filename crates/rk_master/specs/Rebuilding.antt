@@ -36,7 +36,7 @@ abbrev pub side_read : List (List ℕ) → ℕ → List Entry
 side_read sides number =
     if nat_lt number FIRST_SIDE_SEGMENT then [] else entries_of (slice_index_or sides (number - FIRST_SIDE_SEGMENT) [])
 
--- what was read, with a side segment more
+-- what was read, with one more side segment
 abbrev pub with_side_read : List (List ℕ) → NumberMap (List Entry) → ℕ → NumberMap (List Entry)
 with_side_read sides read number = insert read number (side_read sides number)
 
