@@ -135,31 +135,33 @@ grant_looks row old new live handed master grant looks agrees = record {
   told = λ same lives at waits. agrees.told same lives (at ∙ looks.term) (sym looks.role.wanting ∙ waits);
 }
 
-ask_looks : (row : Row) (handovers handovers' : ℕ → ℕ → Handover) (lineage : List Member) (master : ℕ) (to : Node) (tenure : Tenure) → LooksAs (handovers master row.tablet) (handovers' master row.tablet) → AskAgrees row handovers lineage master to tenure → AskAgrees row handovers' lineage master to tenure
-ask_looks row handovers handovers' (source ∷ target ∷ []) master to tenure looks agrees = λ here is.
-    agrees here (of_target row (handovers master row.tablet) (handovers' master row.tablet) tenure looks is)
-ask_looks row handovers handovers' lineage master to tenure looks agrees = agrees
+-- what is said of a target that pulls, and to it, where each tablet looks as before
+module _ (row : Row) (written written' : ℕ → Written) (handovers handovers' : ℕ → ℕ → Handover) (live : ℕ → Bool) (looks : AllLook written written' handovers handovers') where
+  -- what a target asks is of its tablet as before
+  of_target_now : (master : ℕ) (tenure : Tenure) → IsOfTarget row (handovers' master row.tablet) tenure → IsOfTarget row (handovers master row.tablet) tenure
+  of_target_now master tenure =
+      of_target row (handovers master row.tablet) (handovers' master row.tablet) tenure (looks.each master row.tablet)
 
-pulled_looks : (row : Row) (written written' : ℕ → Written) (handovers handovers' : ℕ → ℕ → Handover) (live : ℕ → Bool) (lineage : List Member) (from : Node) (master : ℕ) (pulled : Pulled) → AllLook written written' handovers handovers' → PulledAgrees row written handovers live lineage from master pulled → PulledAgrees row written' handovers' live lineage from master pulled
-pulled_looks row written written' handovers handovers' live (source ∷ target ∷ []) from master pulled looks agrees = λ here lives is.
-    let seen = looks.each master row.tablet in
-    subst
-    (λ (truth : List Entry).
-    IsFromSource source from (as_entries (batch_at pulled.token BATCH_BYTES (scan_items truth))) pulled.entries
-    × (pulled.next ≡ next_token pulled.token BATCH_BYTES (scan_items truth)))
-    (sym (looks.truths row.range source))
-    (agrees here lives (of_target row (handovers master row.tablet) (handovers' master row.tablet) pulled.tenure seen is))
-pulled_looks row written written' handovers handovers' live lineage from master pulled looks agrees = agrees
+  ask_looks : (lineage : List Member) (master : ℕ) (to : Node) (tenure : Tenure) → AskAgrees row handovers lineage master to tenure → AskAgrees row handovers' lineage master to tenure
+  ask_looks (source ∷ target ∷ []) master to tenure agrees = λ here is. agrees here (of_target_now master tenure is)
+  ask_looks lineage master to tenure agrees = agrees
 
-got_looks : (row : Row) (written written' : ℕ → Written) (handovers handovers' : ℕ → ℕ → Handover) (live : ℕ → Bool) (lineage : List Member) (from : Node) (master : ℕ) (got : Got) → AllLook written written' handovers handovers' → GotAgrees row written handovers live lineage from master got → GotAgrees row written' handovers' live lineage from master got
-got_looks row written written' handovers handovers' live (source ∷ target ∷ []) from master got looks agrees = λ here lives is.
-    let seen = looks.each master row.tablet in
-    subst
-    (λ (truth : List Entry).
-    IsFromSource source from (as_entries (flat_map (λ hash. at_hash hash (scan_items truth)) got.hashes)) got.entries)
-    (sym (looks.truths row.range source))
-    (agrees here lives (of_target row (handovers master row.tablet) (handovers' master row.tablet) got.tenure seen is))
-got_looks row written written' handovers handovers' live lineage from master got looks agrees = agrees
+  pulled_looks : (lineage : List Member) (from : Node) (master : ℕ) (pulled : Pulled) → PulledAgrees row written handovers live lineage from master pulled → PulledAgrees row written' handovers' live lineage from master pulled
+  pulled_looks (source ∷ target ∷ []) from master pulled agrees = λ here lives is.
+      subst
+      (λ (truth : List Entry).
+      IsFromSource source from (as_entries (batch_at pulled.token BATCH_BYTES (scan_items truth))) pulled.entries
+      × (pulled.next ≡ next_token pulled.token BATCH_BYTES (scan_items truth)))
+      (sym (looks.truths row.range source)) (agrees here lives (of_target_now master pulled.tenure is))
+  pulled_looks lineage from master pulled agrees = agrees
+
+  got_looks : (lineage : List Member) (from : Node) (master : ℕ) (got : Got) → GotAgrees row written handovers live lineage from master got → GotAgrees row written' handovers' live lineage from master got
+  got_looks (source ∷ target ∷ []) from master got agrees = λ here lives is.
+      subst
+      (λ (truth : List Entry).
+      IsFromSource source from (as_entries (flat_map (λ hash. at_hash hash (scan_items truth)) got.hashes)) got.entries)
+      (sym (looks.truths row.range source)) (agrees here lives (of_target_now master got.tenure is))
+  got_looks lineage from master got agrees = agrees
 
 -- ---- between a rebuilding master and backup 1
 
@@ -226,25 +228,25 @@ module _ (v : View) (logs' : ℕ → Log) (written' : ℕ → Written) (handover
     says.0,
     by_master from (λ m. AskAgrees row v.handovers (lineage_of row.phase) m to pull.tenure)
         (λ m. AskAgrees row handovers' (lineage_of row.phase) m to pull.tenure)
-        (λ m. ask_looks row v.handovers handovers' (lineage_of row.phase) m to pull.tenure (looks.each m row.tablet)) says.1,
+        (λ m. ask_looks row v.written written' v.handovers handovers' v.live looks (lineage_of row.phase) m to pull.tenure) says.1,
   )
   says_of_looks row from to (bodies.Pulled pulled) says = (
     says.0,
     if_master to (λ m. PulledAgrees row v.written v.handovers v.live (lineage_of row.phase) from m pulled)
         (λ m. PulledAgrees row written' handovers' v.live (lineage_of row.phase) from m pulled)
-        (λ m. pulled_looks row v.written written' v.handovers handovers' v.live (lineage_of row.phase) from m pulled looks) says.1,
+        (λ m. pulled_looks row v.written written' v.handovers handovers' v.live looks (lineage_of row.phase) from m pulled) says.1,
   )
   says_of_looks row from to (bodies.Want want) says = (
     says.0,
     by_master from (λ m. AskAgrees row v.handovers (lineage_of row.phase) m to want.tenure)
         (λ m. AskAgrees row handovers' (lineage_of row.phase) m to want.tenure)
-        (λ m. ask_looks row v.handovers handovers' (lineage_of row.phase) m to want.tenure (looks.each m row.tablet)) says.1,
+        (λ m. ask_looks row v.written written' v.handovers handovers' v.live looks (lineage_of row.phase) m to want.tenure) says.1,
   )
   says_of_looks row from to (bodies.Got got) says = (
     says.0,
     if_master to (λ m. GotAgrees row v.written v.handovers v.live (lineage_of row.phase) from m got)
         (λ m. GotAgrees row written' handovers' v.live (lineage_of row.phase) from m got)
-        (λ m. got_looks row v.written written' v.handovers handovers' v.live (lineage_of row.phase) from m got looks) says.1,
+        (λ m. got_looks row v.written written' v.handovers handovers' v.live looks (lineage_of row.phase) from m got) says.1,
   )
   says_of_looks row from to (bodies.Joined tenure) says =
       by_master from
