@@ -8,14 +8,22 @@ use crate::master_lane::MasterLane;
 use crate::staged_calls::StagedCalls;
 use crate::tablet_lane::TabletLane;
 use crate::work::Worked;
-use rk_message::{Body, Message, Pulled, Reply, Request, Stored, Tenure};
+use rk_message::{Body, CopySegment, Message, Pulled, Reply, Request, Stored, Tenure};
+use rk_rebuild::Gather;
 use rk_table::{END, FIRST};
 use rk_transfer::{Handover, Role};
-use rk_types::{Answer, Call, Key, Listed, Node, Op, Outcome, Range, Token, Value};
-use rk_world::Choice;
+use rk_types::{Answer, Call, Key, Listed, Member, Node, Op, Outcome, Range, Token, Value};
+use rk_world::{Choice, Reading};
 use std::alloc::Global;
 use std::process::Abort;
 use std::test::Fail;
+
+// All of a table.
+const RANGE: Range = Range {
+    table: 1,
+    first: 0,
+    last: u64::MAX,
+};
 
 fn put(alloc: Global, client: u32, seq: u64) -> Result<Call, Fail> {
     Ok(Call {
@@ -110,12 +118,7 @@ fn reply(client: u32, seq: u64, outcome: Outcome) -> Message {
 #[test]
 fn clients_are_told_once_the_backup_holds_their_entries(rt: HostRuntime) -> Result<(), Fail> {
     let mut master = MasterLane::new(rt.alloc(), 1, 1)?;
-    let range = Range {
-        table: 1,
-        first: 0,
-        last: u64::MAX,
-    };
-    master.add(7, range)?;
+    master.add(7, RANGE)?;
     let put = asked(rt.alloc(), 1, Op::Put(Value::new(rt.alloc(), b"x")?))?;
     let other = asked(rt.alloc(), 1, Op::CondPut(9, Value::new(rt.alloc(), b"y")?))?;
     assert_eq!(rt; master.handle(1, &put)?.sends.len(), 0);
@@ -138,18 +141,14 @@ fn clients_are_told_once_the_backup_holds_their_entries(rt: HostRuntime) -> Resu
     Ok(())
 }
 
-// A tablet that pulls at term 3.
-fn pulling(alloc: Global) -> TabletLane {
+// A tablet in this role at term 3.
+fn tablet_in(alloc: Global, role: Role) -> TabletLane {
     TabletLane::new(
         alloc,
         Handover {
-            role: Role::Receiving,
+            role,
             term: 3,
-            range: Range {
-                table: 1,
-                first: 0,
-                last: u64::MAX,
-            },
+            range: RANGE,
             counter: 1,
         },
     )
@@ -158,7 +157,7 @@ fn pulling(alloc: Global) -> TabletLane {
 // Four workers take turns, batch by batch.
 #[test]
 fn workers_take_turns(rt: HostRuntime) -> Result<(), Fail> {
-    let mut tablet = pulling(rt.alloc());
+    let mut tablet = tablet_in(rt.alloc(), Role::Receiving);
     for worker in [0, 1, 2, 3, 0] {
         assert_eq!(rt; tablet.worker(), worker);
         tablet.pass(Token { bucket: 5, skip: 1 })?;
@@ -169,7 +168,7 @@ fn workers_take_turns(rt: HostRuntime) -> Result<(), Fail> {
 // A batch that comes again, or at another term, is not awaited.
 #[test]
 fn a_batch_is_awaited_once(rt: HostRuntime) -> Result<(), Fail> {
-    let mut tablet = pulling(rt.alloc());
+    let mut tablet = tablet_in(rt.alloc(), Role::Receiving);
     let pulled = Pulled {
         tenure: Tenure { tablet: 7, term: 3 },
         token: FIRST,
@@ -180,5 +179,42 @@ fn a_batch_is_awaited_once(rt: HostRuntime) -> Result<(), Fail> {
     assert!(rt; !tablet.is_receiving_at(2));
     tablet.pass(pulled.next)?;
     assert!(rt; !tablet.awaits(&pulled));
+    Ok(())
+}
+
+// A segment of master 2 that was never written, told at a term.
+fn never_written(term: u64, segment: u32) -> CopySegment {
+    CopySegment {
+        tenure: Tenure { tablet: 7, term },
+        master: 2,
+        segment,
+        bytes: None,
+    }
+}
+
+// A rebuild gathers the log of master 2, of which no segment was written.
+#[test]
+fn a_rebuild_gathers_what_it_awaits(rt: HostRuntime) -> Result<(), Fail> {
+    let alloc = rt.alloc();
+    let mut lineage = Vec::new(alloc);
+    lineage.push(Member { master: 2, from: 0 })?;
+    let role = Role::Rebuilding {
+        from: 5,
+        entry: None,
+    };
+    let mut tablet = tablet_in(alloc, role);
+    tablet.begin_gather(Gather::new(alloc, RANGE, lineage, 1)?);
+    let first = Reading {
+        master: 2,
+        segment: 1,
+    };
+    assert_eq!(rt; tablet.next_reading(), Some(first));
+    assert_eq!(rt; tablet.gathered_from(), None);
+    assert!(rt; !tablet.gather_segment(&never_written(2, 1))?);
+    assert!(rt; !tablet.gather_segment(&never_written(3, 2))?);
+    assert!(rt; tablet.gather_segment(&never_written(3, 1))?);
+    assert!(rt; !tablet.gather_segment(&never_written(3, 1))?);
+    assert_eq!(rt; tablet.next_reading(), None);
+    assert_eq!(rt; tablet.gathered_from(), Some(5));
     Ok(())
 }
