@@ -20,7 +20,7 @@ floor_step floor (entries.Carried carried) = omega arith
 floor_step floor (entries.Joined joined) = omega arith
 
 -- nor with several
-pub floor_rises : (floor : ℕ) (list : List Entry) → floor ≤ fold floor_by floor list
+floor_rises : (floor : ℕ) (list : List Entry) → floor ≤ fold floor_by floor list
 floor_rises floor [] = omega arith
 floor_rises floor (entry ∷ list) =
     let step = floor_step floor entry in
