@@ -42,6 +42,8 @@ pub mod Accepted
 pub mod Forgotten
 pub mod Come
 pub mod Saved
+pub mod InRest
+pub mod CallAsked
 pub mod CallAppended
 pub mod WriteStaged
 pub mod RefusalStaged

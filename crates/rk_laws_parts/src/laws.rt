@@ -11,11 +11,12 @@ ghost use Rattle.rk_types.specs.declared.held.Token.{Token};
 ghost use Rattle.rk_types.specs.declared.lineage.Member.{Member};
 ghost use Rattle.rk_types.specs.Range.{meets};
 ghost use Rattle.rk_sound.specs.Logs.{stored_of};
-ghost use Rattle.rk_sound.specs.Changes.{MayAccept, MayCome, MaySave, MaySend, MayStage, MayRefuse, refused_as};
+ghost use Rattle.rk_sound.specs.Changes.{MayAccept, MayAsk, MayCome, MaySave, MaySend, MayStage, MayRefuse, refused_as};
 ghost use Rattle.rk_sound.specs.Moves.{MayClose, MayFreeze, MayGather, MayMigrate, MayNote, MayPass, MayResolve};
-ghost use Rattle.rk_sound.specs.Small.{batch_asked_in, client_come, hash_wanted_in, hashes_resolved_in, token_passed_in, write_staged_in, message_forgotten, message_sent, record_accepted_in, request_saved, tablet_closed_in, tablet_frozen_in, place_noted_in, migration_begun_in, segment_gathered_in, refusal_staged_in};
+ghost use Rattle.rk_sound.specs.Small.{batch_asked_in, call_asked_in, client_come, hash_wanted_in, hashes_resolved_in, token_passed_in, write_staged_in, message_forgotten, message_sent, record_accepted_in, request_saved, tablet_closed_in, tablet_frozen_in, place_noted_in, migration_begun_in, segment_gathered_in, refusal_staged_in};
 ghost use Rattle.rk_sound.specs.View.{view};
 ghost use Rattle.rk_sound.specs.Whole.{IsSound};
+ghost use Rattle.rk_world.specs.declared.ledger.LastCall.{LastCall};
 ghost use Rattle.rk_world.specs.World.{World, backup_at, tablet_in, lives, log_in, new_world, written_in};
 
 /// A lane where nothing has happened is sound, with any number of masters and one backup or more.
@@ -24,14 +25,16 @@ pub fn new_lanes_are_sound()
         → 1 ≤ backups → IsSound (new_world lane masters backups) }
 {}
 
-/// A sound lane stays sound when a message is sent or forgotten, when a client comes, when a request is saved that may be
-/// sent again, when the record of a client's last call is accepted, when a write or a refusal is staged, when a tablet closes and
-/// when it freezes, when the place of a target is noted, and when a row begins to move, wherever the condition of the change holds;
-/// forgetting has none.
+/// A sound lane stays sound when a message is sent or forgotten, when a client comes, when it asks a call, when a request is
+/// saved that may be sent again, when the record of a client's last call is accepted, when a write or a refusal is staged, when a
+/// tablet closes and when it freezes, when the place of a target is noted, and when a row begins to move, wherever the condition of
+/// the change holds; forgetting has none.
 pub fn small_changes_keep_lanes_sound()
     ensures sent { (w : World) (message : Message) → IsSound w → MaySend (view w) message → IsSound (message_sent w message) }
     ensures forgotten { (w : World) (number : ℕ) → IsSound w → IsSound (message_forgotten w number) }
     ensures come { (w : World) (client : ℕ) → IsSound w → MayCome (view w) client → IsSound (client_come w client) }
+    ensures asked { (w : World) (client : ℕ) (last : LastCall)
+        → IsSound w → MayAsk (view w) client last → IsSound (call_asked_in w client last) }
     ensures saved { (w : World) (client : ℕ) (message : Message)
         → IsSound w → MaySave (view w) client message → IsSound (request_saved w client message) }
     ensures accepted { (w : World) (place : ℕ) → IsSound w → MayAccept (view w) place → IsSound (record_accepted_in w place) }

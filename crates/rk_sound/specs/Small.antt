@@ -1,6 +1,6 @@
 -- Small changes of the world that the first laws are about, and what they make of a view. A change of a view has the name of the
 -- change of the world, and its condition stands in `Changes` or `Moves`.
-use Rattle.std.specs.Prelude.{◌==◌, ℕ, ◌+◌, if◌then◌else◌, List, [], ◌∷◌, ◌++◌, length, slice_get, Option, Bool}
+use Rattle.std.specs.Prelude.{◌==◌, ℕ, ◌+◌, if◌then◌else◌, List, [], ◌∷◌, ◌++◌, length, slice_get, Option, Some, Bool}
 use Rattle.rk_types.specs.NumberMap.{insert, remove}
 use Rattle.rk_types.specs.declared.call.Call.{Call}
 use Rattle.rk_types.specs.declared.call.Ended.{Ended}
@@ -27,7 +27,8 @@ use Rattle.rk_world.specs.MasterTurn.{batch_asked}
 use Rattle.rk_world.specs.CoordinatorStep.{place_noted}
 use Rattle.rk_world.specs.Migrations.{migration_begun}
 use Rattle.rk_world.specs.Journal.{accepted_at}
-use Rattle.rk_world.specs.Ledger.{with_accepted, with_client, with_request}
+use Rattle.rk_world.specs.declared.ledger.LastCall.{LastCall}
+use Rattle.rk_world.specs.Ledger.{with_accepted, with_asked, with_client, with_request}
 use Rattle.rk_world.specs.Written.{Written}
 use Rattle.rk_world.specs.World.{World, master_at, tablet_in, with_master, with_coordinator, with_ledger, with_wire}
 use Rattle.rk_sound.specs.View.{View}
@@ -57,6 +58,13 @@ message_forgotten w number = with_wire w (without_message number w.wire)
 -- a client comes, and has asked nothing; nothing else is seen of it
 abbrev pub client_come : World → ℕ → World
 client_come w client = with_ledger w (with_client w.ledger client)
+
+-- a client asks a call, which is its last one now
+abbrev pub call_asked : View → ℕ → LastCall → View
+call_asked v client last = record v { asked = put v.asked client (Some last) }
+
+abbrev pub call_asked_in : World → ℕ → LastCall → World
+call_asked_in w client last = with_ledger w (with_asked w.ledger client last)
 
 -- a message is saved that a client may send again
 abbrev pub saved : View → ℕ → Message → View

@@ -1,6 +1,7 @@
 use Rattle.rk_laws_parts.proofs.Sent.{sound_sent}
 use Rattle.rk_laws_parts.proofs.Forgotten.{sound_forgotten}
 use Rattle.rk_laws_parts.proofs.Come.{sound_come}
+use Rattle.rk_laws_parts.proofs.CallAsked.{sound_asked}
 use Rattle.rk_laws_parts.proofs.Saved.{sound_saved}
 use Rattle.rk_laws_parts.proofs.Accepted.{sound_accepted}
 use Rattle.rk_laws_parts.proofs.WriteStaged.{sound_staged}
@@ -19,6 +20,9 @@ returns-clause-forgotten c = sound_forgotten
 
 pub returns-clause-come : goal.returns-clause-come
 returns-clause-come c = λ w client sound may. sound_come w client sound may
+
+pub returns-clause-asked : goal.returns-clause-asked
+returns-clause-asked c = sound_asked
 
 pub returns-clause-saved : goal.returns-clause-saved
 returns-clause-saved c = λ w client message sound may. sound_saved w client message sound may
