@@ -39,6 +39,8 @@ pub mod Rest
 pub mod Sent
 pub mod SameRecords
 pub mod Accepted
+pub mod MoreRecords
+pub mod ReadRecorded
 pub mod Forgotten
 pub mod Come
 pub mod Saved

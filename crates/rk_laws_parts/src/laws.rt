@@ -7,13 +7,14 @@ ghost use Rattle.rk_message.specs.declared.rebuilding.CopySegment.{CopySegment};
 ghost use Rattle.rk_tablet_map.specs.declared.row.Row.{Row};
 ghost use Rattle.rk_transfer.specs.Handover.{is_serving};
 ghost use Rattle.rk_types.specs.declared.call.Call.{Call};
+ghost use Rattle.rk_types.specs.declared.call.Outcome.{Outcome};
 ghost use Rattle.rk_types.specs.declared.held.Token.{Token};
 ghost use Rattle.rk_types.specs.declared.lineage.Member.{Member};
 ghost use Rattle.rk_types.specs.Range.{meets};
 ghost use Rattle.rk_sound.specs.Logs.{stored_of};
-ghost use Rattle.rk_sound.specs.Changes.{MayAccept, MayAsk, MayCome, MaySave, MaySend, MayStage, MayRefuse, refused_as};
+ghost use Rattle.rk_sound.specs.Changes.{MayAccept, MayAsk, MayCome, MaySave, MaySend, MayStage, MayRefuse, refused_as, MayRead};
 ghost use Rattle.rk_sound.specs.Moves.{MayClose, MayFreeze, MayGather, MayMigrate, MayNote, MayPass, MayResolve};
-ghost use Rattle.rk_sound.specs.Small.{batch_asked_in, call_asked_in, client_come, hash_wanted_in, hashes_resolved_in, token_passed_in, write_staged_in, message_forgotten, message_sent, record_accepted_in, request_saved, tablet_closed_in, tablet_frozen_in, place_noted_in, migration_begun_in, segment_gathered_in, refusal_staged_in};
+ghost use Rattle.rk_sound.specs.Small.{batch_asked_in, call_asked_in, client_come, hash_wanted_in, hashes_resolved_in, token_passed_in, write_staged_in, message_forgotten, message_sent, record_accepted_in, request_saved, tablet_closed_in, tablet_frozen_in, place_noted_in, migration_begun_in, segment_gathered_in, refusal_staged_in, recorded_in};
 ghost use Rattle.rk_sound.specs.View.{view};
 ghost use Rattle.rk_sound.specs.Whole.{IsSound};
 ghost use Rattle.rk_world.specs.declared.ledger.LastCall.{LastCall};
@@ -25,10 +26,8 @@ pub fn new_lanes_are_sound()
         → 1 ≤ backups → IsSound (new_world lane masters backups) }
 {}
 
-/// A sound lane stays sound when a message is sent or forgotten, when a client comes, when it asks a call, when a request is
-/// saved that may be sent again, when the record of a client's last call is accepted, when a write or a refusal is staged, when a
-/// tablet closes and when it freezes, when the place of a target is noted, and when a row begins to move, wherever the condition of
-/// the change holds; forgetting has none.
+/// A sound lane stays sound at each of these small changes, wherever the condition of the change holds. A message may always be
+/// forgotten.
 pub fn small_changes_keep_lanes_sound()
     ensures sent { (w : World) (message : Message) → IsSound w → MaySend (view w) message → IsSound (message_sent w message) }
     ensures forgotten { (w : World) (number : ℕ) → IsSound w → IsSound (message_forgotten w number) }
@@ -44,6 +43,8 @@ pub fn small_changes_keep_lanes_sound()
     ensures refused { (w : World) (master : ℕ) (call : Call) (found : ℕ) (absent : Bool)
         → IsSound w → MayRefuse (view w) master call (refused_as found absent)
         → IsSound (refusal_staged_in w master call found absent) }
+    ensures recorded { (w : World) (master : ℕ) (call : Call) (seen : ℕ) (outcome : Outcome)
+        → IsSound w → MayRead (view w) master call seen outcome → IsSound (recorded_in w call outcome seen) }
     ensures closed { (w : World) (row : Row) (master term : ℕ)
         → IsSound w → MayClose (view w) row master term → IsSound (tablet_closed_in w master row.tablet term) }
     ensures frozen { (w : World) (master tablet : ℕ)

@@ -4,6 +4,7 @@ use Rattle.std.specs.Prelude.{◌==◌, ℕ, ◌+◌, if◌then◌else◌, List,
 use Rattle.rk_types.specs.NumberMap.{insert, remove}
 use Rattle.rk_types.specs.declared.call.Call.{Call}
 use Rattle.rk_types.specs.declared.call.Ended.{Ended}
+use Rattle.rk_types.specs.declared.call.Outcome.{Outcome}
 use Rattle.rk_types.specs.declared.held.Token.{Token}
 use Rattle.rk_entry.specs.declared.entry.Entry.{Entry}
 use Rattle.rk_entry.specs.declared.entry.Entry.TheVariants as entries
@@ -26,9 +27,9 @@ use Rattle.rk_world.specs.Rebuilds.{segment_gathered}
 use Rattle.rk_world.specs.MasterTurn.{batch_asked}
 use Rattle.rk_world.specs.CoordinatorStep.{place_noted}
 use Rattle.rk_world.specs.Migrations.{migration_begun}
-use Rattle.rk_world.specs.Journal.{accepted_at}
+use Rattle.rk_world.specs.Journal.{accepted_at, next_record}
 use Rattle.rk_world.specs.declared.ledger.LastCall.{LastCall}
-use Rattle.rk_world.specs.Ledger.{with_accepted, with_asked, with_client, with_request}
+use Rattle.rk_world.specs.Ledger.{with_accepted, with_asked, with_client, with_request, with_record}
 use Rattle.rk_world.specs.Written.{Written}
 use Rattle.rk_world.specs.World.{World, master_at, tablet_in, with_master, with_coordinator, with_ledger, with_wire}
 use Rattle.rk_sound.specs.View.{View}
@@ -79,6 +80,13 @@ accepted v place = record v { journal = accepted_at v.journal place (slice_get v
 
 abbrev pub record_accepted_in : World → ℕ → World
 record_accepted_in w place = with_ledger w (with_accepted w.ledger place)
+
+-- a call gets its record, at the end of the journal
+abbrev pub recorded : View → Call → Outcome → ℕ → View
+recorded v call outcome seen = record v { journal = v.journal ++ next_record v.journal call outcome seen ∷ [] }
+
+abbrev pub recorded_in : World → Call → Outcome → ℕ → World
+recorded_in w call outcome seen = with_ledger w (with_record w.ledger call outcome seen)
 
 -- what a master has written, with one more entry
 abbrev pub with_one_more : Written → Entry → Written

@@ -6,6 +6,7 @@ use Rattle.rk_laws_parts.proofs.Saved.{sound_saved}
 use Rattle.rk_laws_parts.proofs.Accepted.{sound_accepted}
 use Rattle.rk_laws_parts.proofs.WriteStaged.{sound_staged}
 use Rattle.rk_laws_parts.proofs.RefusalStaged.{sound_refused}
+use Rattle.rk_laws_parts.proofs.ReadRecorded.{sound_recorded}
 use Rattle.rk_laws_parts.proofs.Closed.{sound_closed}
 use Rattle.rk_laws_parts.proofs.Frozen.{sound_frozen}
 use Rattle.rk_laws_parts.proofs.PlaceNoted.{sound_noted}
@@ -35,6 +36,9 @@ returns-clause-staged c = sound_staged
 
 pub returns-clause-refused : goal.returns-clause-refused
 returns-clause-refused c = sound_refused
+
+pub returns-clause-recorded : goal.returns-clause-recorded
+returns-clause-recorded c = sound_recorded
 
 pub returns-clause-closed : goal.returns-clause-closed
 returns-clause-closed c = sound_closed
