@@ -41,6 +41,7 @@ pub mod SameRecords
 pub mod Accepted
 pub mod MoreRecords
 pub mod ReadRecorded
+pub mod BytesStored
 pub mod Forgotten
 pub mod Come
 pub mod Saved

@@ -25,7 +25,7 @@ use Rattle.rk_laws_parts.proofs.Segments.{Grows, grows_entry}
 
 -- ---- a log grows at its end
 
-first_part_more : (a b c : List ℕ) → IsFirstPart a b → IsFirstPart b c → IsFirstPart a c
+pub first_part_more : (a b c : List ℕ) → IsFirstPart a b → IsFirstPart b c → IsFirstPart a c
 first_part_more a b c first next = record {
   more = first.more ++ next.more;
   parts = next.parts ∙ ap (λ (l : List ℕ). l ++ next.more) first.parts ∙ append_assoc a first.more next.more;

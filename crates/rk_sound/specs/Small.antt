@@ -1,7 +1,7 @@
 -- Small changes of the world that the first laws are about, and what they make of a view. A change of a view has the name of the
 -- change of the world, and its condition stands in `Changes` or `Moves`.
 use Rattle.std.specs.Prelude.{◌==◌, ℕ, ◌+◌, if◌then◌else◌, List, [], ◌∷◌, ◌++◌, length, slice_get, Option, Some, Bool}
-use Rattle.rk_types.specs.NumberMap.{insert, remove}
+use Rattle.rk_types.specs.NumberMap.{insert, remove, get}
 use Rattle.rk_types.specs.declared.call.Call.{Call}
 use Rattle.rk_types.specs.declared.call.Ended.{Ended}
 use Rattle.rk_types.specs.declared.call.Outcome.{Outcome}
@@ -17,6 +17,7 @@ use Rattle.rk_priority.specs.Hashes.{Hashes, batched, got, wanting}
 use Rattle.rk_message.specs.Wire.{without_message, with_message}
 use Rattle.rk_message.specs.declared.message.Message.{Message}
 use Rattle.rk_message.specs.declared.rebuilding.CopySegment.{CopySegment}
+use Rattle.rk_world.specs.Backup.{with_more}
 use Rattle.rk_world.specs.Gather.{Gather, gathering}
 use Rattle.rk_world.specs.Tablet.{Pulling, with_handover}
 use Rattle.rk_world.specs.Master.{with_tablet}
@@ -31,7 +32,7 @@ use Rattle.rk_world.specs.Journal.{accepted_at, next_record}
 use Rattle.rk_world.specs.declared.ledger.LastCall.{LastCall}
 use Rattle.rk_world.specs.Ledger.{with_accepted, with_asked, with_client, with_request, with_record}
 use Rattle.rk_world.specs.Written.{Written}
-use Rattle.rk_world.specs.World.{World, master_at, tablet_in, with_master, with_coordinator, with_ledger, with_wire}
+use Rattle.rk_world.specs.World.{World, master_at, tablet_in, with_master, with_coordinator, with_ledger, with_stored_by, with_wire}
 use Rattle.rk_sound.specs.View.{View}
 
 -- what is kept for each number, where this is kept for one of them now
@@ -87,6 +88,15 @@ recorded v call outcome seen = record v { journal = v.journal ++ next_record v.j
 
 abbrev pub recorded_in : World → Call → Outcome → ℕ → World
 recorded_in w call outcome seen = with_ledger w (with_record w.ledger call outcome seen)
+
+-- a backup stores these bytes too, behind what it stores of a segment of a master's log
+abbrev pub stored_more : View → ℕ → ℕ → ℕ → List ℕ → View
+stored_more v master backup segment bytes =
+    record v { stored = put v.stored backup (with_more (v.stored backup) master segment bytes) }
+
+abbrev pub bytes_stored_in : World → ℕ → ℕ → ℕ → List ℕ → World
+bytes_stored_in w master backup segment bytes =
+    with_stored_by w backup (λ segments. with_more segments master segment bytes) (get w.backups backup)
 
 -- what a master has written, with one more entry
 abbrev pub with_one_more : Written → Entry → Written

@@ -4,6 +4,7 @@ use Rattle.rk_laws_parts.proofs.Come.{sound_come}
 use Rattle.rk_laws_parts.proofs.CallAsked.{sound_asked}
 use Rattle.rk_laws_parts.proofs.Saved.{sound_saved}
 use Rattle.rk_laws_parts.proofs.Accepted.{sound_accepted}
+use Rattle.rk_laws_parts.proofs.BytesStored.{sound_stored}
 use Rattle.rk_laws_parts.proofs.WriteStaged.{sound_staged}
 use Rattle.rk_laws_parts.proofs.RefusalStaged.{sound_refused}
 use Rattle.rk_laws_parts.proofs.ReadRecorded.{sound_recorded}
@@ -30,6 +31,9 @@ returns-clause-saved c = λ w client message sound may. sound_saved w client mes
 
 pub returns-clause-accepted : goal.returns-clause-accepted
 returns-clause-accepted c = sound_accepted
+
+pub returns-clause-stored : goal.returns-clause-stored
+returns-clause-stored c = sound_stored
 
 pub returns-clause-staged : goal.returns-clause-staged
 returns-clause-staged c = sound_staged
