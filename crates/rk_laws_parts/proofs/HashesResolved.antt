@@ -46,7 +46,7 @@ resolved_cases hashes given hash = go (is_batch hashes.outstanding given) refl
         (sym (list_any-append (λ (h : ℕ). eqb h hash) hashes.resolved hashes.outstanding) ∙ has))
 
 -- what passes a test stands among what does
-passes : {X : Type 0} (p : X → Bool) (xs : List X) (x : X) → Contains xs x → p x ≡ true → Contains (filter p xs) x
+pub passes : {X : Type 0} (p : X → Bool) (xs : List X) (x : X) → Contains xs x → p x ≡ true → Contains (filter p xs) x
 passes p [] x (k, within, is) holds = absurd (omega (arith, within))
 passes {X} p (y ∷ ys) x stands holds =
     ⊎_elim

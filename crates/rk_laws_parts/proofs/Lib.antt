@@ -65,6 +65,9 @@ pub mod RowTurned
 pub mod RoleTaken
 pub mod Closed
 pub mod Frozen
+pub mod InRange
+pub mod ItemsDropped
+pub mod Released
 pub mod PlaceNoted
 pub mod MigrationBegun
 pub mod SmallWorld

@@ -6,9 +6,11 @@ use Rattle.rk_types.specs.declared.call.Call.{Call}
 use Rattle.rk_types.specs.declared.call.Ended.{Ended}
 use Rattle.rk_types.specs.declared.call.Outcome.{Outcome}
 use Rattle.rk_types.specs.declared.held.Token.{Token}
+use Rattle.rk_types.specs.declared.range.Range.{Range}
 use Rattle.rk_entry.specs.declared.entry.Entry.{Entry}
 use Rattle.rk_entry.specs.declared.entry.Entry.TheVariants as entries
 use Rattle.rk_log.specs.Log.{with_entry}
+use Rattle.rk_table.specs.Items.{without}
 use Rattle.rk_transfer.specs.declared.handover.Handover.{Handover}
 use Rattle.rk_transfer.specs.declared.role.Role.TheVariants as roles
 use Rattle.rk_tablet_map.specs.Rows.{replaced}
@@ -21,7 +23,7 @@ use Rattle.rk_world.specs.Backup.{with_more}
 use Rattle.rk_world.specs.Gather.{Gather, gathering}
 use Rattle.rk_world.specs.Tablet.{Pulling, with_handover}
 use Rattle.rk_world.specs.Master.{with_tablet}
-use Rattle.rk_world.specs.Handovers.{tablet_closed}
+use Rattle.rk_world.specs.Handovers.{tablet_closed, tablet_released}
 use Rattle.rk_world.specs.Requests.{hash_wanted, item_of, refusal_of, refusal_staged, write_staged}
 use Rattle.rk_world.specs.Pulls.{hashes_resolved, token_passed}
 use Rattle.rk_world.specs.Rebuilds.{segment_gathered}
@@ -158,6 +160,19 @@ as_closing term handover = record handover { term = term; role = roles.Closing }
 abbrev pub tablet_closed_in : World → ℕ → ℕ → ℕ → World
 tablet_closed_in w master tablet term =
     with_master w master (tablet_closed (master_at w master) tablet (as_closing term (tablet_in w master tablet).handover))
+
+-- a handover of a tablet that is given up
+abbrev pub as_released : Handover → Handover
+as_released handover = record handover { role = roles.Absent }
+
+-- the items of a range are dropped from the records of a master
+abbrev pub items_dropped : View → ℕ → Range → View
+items_dropped v master range = record v { records = put v.records master (without range (v.records master)) }
+
+-- a tablet is given up at a master
+abbrev pub tablet_released_in : World → ℕ → ℕ → World
+tablet_released_in w master tablet =
+    with_master w master (tablet_released (master_at w master) tablet (as_released (tablet_in w master tablet).handover))
 
 -- ---- what a tablet pulls
 
