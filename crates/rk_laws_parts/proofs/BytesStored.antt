@@ -34,7 +34,7 @@ use Rattle.rk_sound.specs.Rebuilds.{AreRead, IsGathered, IsReadPart, MarkedFit, 
 use Rattle.rk_sound.specs.Messages.{CopyIn, SaysOf}
 use Rattle.rk_sound.specs.Whole.{IsSound, LogsOf, MessagesOf, RebuildsOf, SoundView}
 use Rattle.rk_sound.specs.Changes.{MayStore}
-use Rattle.rk_sound.specs.Small.{bytes_stored_in, put, stored_more}
+use Rattle.rk_sound.specs.Small.{bytes_stored_in, stored_more}
 use Rattle.rk_laws_parts.proofs.Put.{put_by, put_is}
 use Rattle.rk_laws_parts.proofs.Grows.{Extends, counting_extends, extends_behind, take_extends, tells_extended}
 use Rattle.rk_laws_parts.proofs.Logs.{first_part_more}
@@ -171,7 +171,8 @@ module _ (v : View) (stored' : ℕ → Segments) (more : StoresMore v.stored sto
   -- a Stored tells no more than is stored
   log_says_more : (from to : Node) (body : Body) → LogSays v.logs v.stored from to body → LogSays v.logs stored' from to body
   log_says_more (nodes.Backup backup) (nodes.Master q) (bodies.Stored told) says =
-      let longer = first_part_length (stored_of v.stored q backup told.segment) (stored_of stored' q backup told.segment) (more q backup told.segment) in
+      let part : ℕ = told.segment in
+      let longer = first_part_length (stored_of v.stored q backup part) (stored_of stored' q backup part) (more q backup part) in
       omega (arith, says, longer)
   log_says_more _ _ _ says = says
 

@@ -42,6 +42,7 @@ pub mod Accepted
 pub mod MoreRecords
 pub mod ReadRecorded
 pub mod BytesStored
+pub mod LengthTold
 pub mod Forgotten
 pub mod Come
 pub mod Saved

@@ -70,7 +70,7 @@ former_never : (role : Role) (term own applied : ℕ) → Holds (bond_of FormerM
 former_never role term own applied holds = holds
 
 -- so a living master is no member of a row that another one rebuilds
-former_gone : (v : View) → RolesOf v → (row : Row) → Contains v.rows row → (lineage : List Member) (to q : ℕ) → row.phase ≡ Rebuilding lineage to → v.live q ≡ true → (q ≡ to → ⊥) → is_member lineage q ≡ true → ⊥
+pub former_gone : (v : View) → RolesOf v → (row : Row) → Contains v.rows row → (lineage : List Member) (to q : ℕ) → row.phase ≡ Rebuilding lineage to → v.live q ≡ true → (q ≡ to → ⊥) → is_member lineage q ≡ true → ⊥
 former_gone v roles row has lineage to q is lives away member =
     let h : Handover = v.handovers q row.tablet in
     let fits : RoleFits row q h (v.written q).applied =

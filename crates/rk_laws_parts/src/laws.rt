@@ -12,9 +12,9 @@ ghost use Rattle.rk_types.specs.declared.held.Token.{Token};
 ghost use Rattle.rk_types.specs.declared.lineage.Member.{Member};
 ghost use Rattle.rk_types.specs.Range.{meets};
 ghost use Rattle.rk_sound.specs.Logs.{stored_of};
-ghost use Rattle.rk_sound.specs.Changes.{MayAccept, MayAsk, MayCome, MaySave, MaySend, MayStage, MayRefuse, refused_as, MayRead, MayStore};
+ghost use Rattle.rk_sound.specs.Changes.{MayAccept, MayAsk, MayCome, MaySave, MaySend, MayStage, MayRefuse, refused_as, MayRead, MayStore, MayTell};
 ghost use Rattle.rk_sound.specs.Moves.{MayClose, MayFreeze, MayGather, MayMigrate, MayNote, MayPass, MayResolve, MayRelease};
-ghost use Rattle.rk_sound.specs.Small.{batch_asked_in, call_asked_in, client_come, hash_wanted_in, hashes_resolved_in, token_passed_in, write_staged_in, message_forgotten, message_sent, record_accepted_in, request_saved, tablet_closed_in, tablet_frozen_in, place_noted_in, migration_begun_in, segment_gathered_in, refusal_staged_in, recorded_in, bytes_stored_in, tablet_released_in};
+ghost use Rattle.rk_sound.specs.Small.{batch_asked_in, call_asked_in, client_come, hash_wanted_in, hashes_resolved_in, token_passed_in, write_staged_in, message_forgotten, message_sent, record_accepted_in, request_saved, tablet_closed_in, tablet_frozen_in, place_noted_in, migration_begun_in, segment_gathered_in, refusal_staged_in, recorded_in, bytes_stored_in, tablet_released_in, length_told_in};
 ghost use Rattle.rk_sound.specs.View.{view};
 ghost use Rattle.rk_sound.specs.Whole.{IsSound};
 ghost use Rattle.rk_world.specs.declared.ledger.LastCall.{LastCall};
@@ -40,6 +40,9 @@ pub fn small_changes_keep_lanes_sound()
     ensures stored { (w : World) (master backup segment : ℕ) (bytes : List ℕ)
         → IsSound w → MayStore (view w) master backup segment bytes
         → IsSound (bytes_stored_in w master backup segment bytes) }
+    ensures told { (w : World) (master backup segment size : ℕ)
+        → IsSound w → MayTell (view w) master backup segment size
+        → IsSound (length_told_in w master backup segment size) }
     ensures staged { (w : World) (master : ℕ) (call : Call) (value : Option (List ℕ))
         → IsSound w → (may : MayStage (view w) master call value)
         → IsSound (write_staged_in w master may.served.row.tablet call value) }

@@ -9,7 +9,7 @@ use Rattle.rk_types.specs.declared.held.Token.{Token}
 use Rattle.rk_types.specs.declared.range.Range.{Range}
 use Rattle.rk_entry.specs.declared.entry.Entry.{Entry}
 use Rattle.rk_entry.specs.declared.entry.Entry.TheVariants as entries
-use Rattle.rk_log.specs.Log.{with_entry}
+use Rattle.rk_log.specs.Log.{with_entry, with_told}
 use Rattle.rk_table.specs.Items.{without}
 use Rattle.rk_transfer.specs.declared.handover.Handover.{Handover}
 use Rattle.rk_transfer.specs.declared.role.Role.TheVariants as roles
@@ -22,7 +22,7 @@ use Rattle.rk_message.specs.declared.rebuilding.CopySegment.{CopySegment}
 use Rattle.rk_world.specs.Backup.{with_more}
 use Rattle.rk_world.specs.Gather.{Gather, gathering}
 use Rattle.rk_world.specs.Tablet.{Pulling, with_handover}
-use Rattle.rk_world.specs.Master.{with_tablet}
+use Rattle.rk_world.specs.Master.{with_tablet, with_known}
 use Rattle.rk_world.specs.Handovers.{tablet_closed, tablet_released}
 use Rattle.rk_world.specs.Requests.{hash_wanted, item_of, refusal_of, refusal_staged, write_staged}
 use Rattle.rk_world.specs.Pulls.{hashes_resolved, token_passed}
@@ -99,6 +99,15 @@ stored_more v master backup segment bytes =
 abbrev pub bytes_stored_in : World → ℕ → ℕ → ℕ → List ℕ → World
 bytes_stored_in w master backup segment bytes =
     with_stored_by w backup (λ segments. with_more segments master segment bytes) (get w.backups backup)
+
+-- a master is told that a backup stores so many bytes of a segment of its log
+abbrev pub length_told : View → ℕ → ℕ → ℕ → ℕ → View
+length_told v master backup segment size =
+    record v { logs = put v.logs master (with_told (v.logs master) backup segment size) }
+
+abbrev pub length_told_in : World → ℕ → ℕ → ℕ → ℕ → World
+length_told_in w master backup segment size =
+    with_master w master (with_known (master_at w master) backup segment size)
 
 -- what a master has written, with one more entry
 abbrev pub with_one_more : Written → Entry → Written

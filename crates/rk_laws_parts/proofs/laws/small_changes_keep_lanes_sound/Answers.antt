@@ -5,6 +5,7 @@ use Rattle.rk_laws_parts.proofs.CallAsked.{sound_asked}
 use Rattle.rk_laws_parts.proofs.Saved.{sound_saved}
 use Rattle.rk_laws_parts.proofs.Accepted.{sound_accepted}
 use Rattle.rk_laws_parts.proofs.BytesStored.{sound_stored}
+use Rattle.rk_laws_parts.proofs.LengthTold.{sound_told}
 use Rattle.rk_laws_parts.proofs.WriteStaged.{sound_staged}
 use Rattle.rk_laws_parts.proofs.RefusalStaged.{sound_refused}
 use Rattle.rk_laws_parts.proofs.ReadRecorded.{sound_recorded}
@@ -35,6 +36,9 @@ returns-clause-accepted c = sound_accepted
 
 pub returns-clause-stored : goal.returns-clause-stored
 returns-clause-stored c = sound_stored
+
+pub returns-clause-told : goal.returns-clause-told
+returns-clause-told c = sound_told
 
 pub returns-clause-staged : goal.returns-clause-staged
 returns-clause-staged c = sound_staged
