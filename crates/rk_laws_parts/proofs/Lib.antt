@@ -69,6 +69,7 @@ pub mod Frozen
 pub mod InRange
 pub mod ItemsDropped
 pub mod Released
+pub mod Owned
 pub mod PlaceNoted
 pub mod MigrationBegun
 pub mod SmallWorld

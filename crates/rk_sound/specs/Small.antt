@@ -23,7 +23,7 @@ use Rattle.rk_world.specs.Backup.{with_more}
 use Rattle.rk_world.specs.Gather.{Gather, gathering}
 use Rattle.rk_world.specs.Tablet.{Pulling, with_handover}
 use Rattle.rk_world.specs.Master.{with_tablet, with_known}
-use Rattle.rk_world.specs.Handovers.{tablet_closed, tablet_released}
+use Rattle.rk_world.specs.Handovers.{tablet_closed, tablet_released, tablet_owned}
 use Rattle.rk_world.specs.Requests.{hash_wanted, item_of, refusal_of, refusal_staged, write_staged}
 use Rattle.rk_world.specs.Pulls.{hashes_resolved, token_passed}
 use Rattle.rk_world.specs.Rebuilds.{segment_gathered}
@@ -182,6 +182,15 @@ items_dropped v master range = record v { records = put v.records master (withou
 abbrev pub tablet_released_in : World → ℕ → ℕ → World
 tablet_released_in w master tablet =
     with_master w master (tablet_released (master_at w master) tablet (as_released (tablet_in w master tablet).handover))
+
+-- a handover of a tablet that serves
+abbrev pub as_serving : Handover → Handover
+as_serving handover = record handover { role = roles.Serving }
+
+-- a tablet is owned by a master, which serves it from now on
+abbrev pub tablet_owned_in : World → ℕ → ℕ → World
+tablet_owned_in w master tablet =
+    with_master w master (tablet_owned (master_at w master) tablet (as_serving (tablet_in w master tablet).handover))
 
 -- ---- what a tablet pulls
 

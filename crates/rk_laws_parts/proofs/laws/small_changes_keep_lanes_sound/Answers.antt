@@ -12,6 +12,7 @@ use Rattle.rk_laws_parts.proofs.ReadRecorded.{sound_recorded}
 use Rattle.rk_laws_parts.proofs.Closed.{sound_closed}
 use Rattle.rk_laws_parts.proofs.Frozen.{sound_frozen}
 use Rattle.rk_laws_parts.proofs.Released.{sound_released}
+use Rattle.rk_laws_parts.proofs.Owned.{sound_owned}
 use Rattle.rk_laws_parts.proofs.PlaceNoted.{sound_noted}
 use Rattle.rk_laws_parts.proofs.MigrationBegun.{sound_migrated}
 use Rattle.rk_laws_parts.proofs.laws.small_changes_keep_lanes_sound.Goals as goal
@@ -57,6 +58,9 @@ returns-clause-frozen c = λ w master tablet sound may. sound_frozen w master ta
 
 pub returns-clause-released : goal.returns-clause-released
 returns-clause-released c = sound_released
+
+pub returns-clause-owned : goal.returns-clause-owned
+returns-clause-owned c = sound_owned
 
 pub returns-clause-noted : goal.returns-clause-noted
 returns-clause-noted c = sound_noted
