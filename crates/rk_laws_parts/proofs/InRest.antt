@@ -20,7 +20,7 @@ use Rattle.rk_sound.specs.Rest.{Waits}
 use Rattle.rk_laws_parts.proofs.Shares.{counts_call}
 
 -- what stands at a place stands behind each place before it
-behind_at : {X : Type 0} (xs : List X) (from place : ℕ) (x : X) → from ≤ place → slice_get xs place ≡ Some x → (k : ℕ) × (slice_get (drop from xs) k ≡ Some x) × (from + k ≡ place)
+pub behind_at : {X : Type 0} (xs : List X) (from place : ℕ) (x : X) → from ≤ place → slice_get xs place ≡ Some x → (k : ℕ) × (slice_get (drop from xs) k ≡ Some x) × (from + k ≡ place)
 behind_at [] from place x behind at = absurd (cc at)
 behind_at (y ∷ xs) zero place x behind at = (place, at, omega arith)
 behind_at (y ∷ xs) (suc from) zero x behind at = absurd (omega (arith, behind))

@@ -72,6 +72,10 @@ pub mod Released
 pub mod Owned
 pub mod PlaceNoted
 pub mod MigrationBegun
+pub mod LeftMasters
+pub mod MarkedApart
+pub mod NoticedPosts
+pub mod CrashNoticed
 pub mod SmallWorld
 pub mod SmallWorldLooks
 pub mod SmallWorldMap

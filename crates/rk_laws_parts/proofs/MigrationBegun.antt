@@ -37,7 +37,7 @@ bystander_invited roles.Frozen term own applied fits = omega (arith, fits)
 bystander_invited (roles.Wanting from) term own applied fits = omega (arith, fits)
 bystander_invited _ term own applied fits = absurd fits
 
-bystander_stays : (role : Role) (term own applied : ℕ) → Holds (bond_of Bystander role) term own applied → Holds (bond_of Bystander role) (term + 1) own applied
+pub bystander_stays : (role : Role) (term own applied : ℕ) → Holds (bond_of Bystander role) term own applied → Holds (bond_of Bystander role) (term + 1) own applied
 bystander_stays roles.Absent term own applied fits = omega (arith, fits)
 bystander_stays roles.Frozen term own applied fits = omega (arith, fits)
 bystander_stays (roles.Wanting from) term own applied fits = omega (arith, fits)

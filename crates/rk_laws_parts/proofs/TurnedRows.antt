@@ -24,7 +24,7 @@ stands_found (first ∷ rest) row apart stands =
     (contains_cases first rest row stands))
 
 -- one behind the first
-behind_first : {X : Type 0} (first : X) (rest : List X) (x : X) → Contains rest x → Contains (first ∷ rest) x
+pub behind_first : {X : Type 0} (first : X) (rest : List X) (x : X) → Contains rest x → Contains (first ∷ rest) x
 behind_first first rest x stands = (suc stands.0, omega (arith, stands.1), stands.2)
 
 -- what stands after a row is replaced is the new one, or stood before

@@ -407,10 +407,11 @@ pub record MayTakeRebuilt (v : View) (row : Row) (lineage : List Member) (to pla
   pub rebuilt : HasRebuilt (v.handovers to row.tablet).role (v.written to).applied place
   pub ends_are : ends ≡ v.merged to row.tablet
 
--- a master may be noticed once it has crashed
+-- a master may be noticed once it has crashed; that no range of a row is empty is so in each lane that is well formed
 pub record MayNotice (v : View) (master : ℕ) : Type 0 where
   pub there : IsMaster v.masters master
   pub crashed : v.live master ≡ false
+  pub ranges : All (λ row. row.range.first ≤ row.range.last) v.rows
 
 -- a master may crash while another one lives
 pub record MayCrash (v : View) (master : ℕ) : Type 0 where

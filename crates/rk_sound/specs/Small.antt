@@ -30,6 +30,7 @@ use Rattle.rk_world.specs.Rebuilds.{segment_gathered}
 use Rattle.rk_world.specs.MasterTurn.{batch_asked}
 use Rattle.rk_world.specs.CoordinatorStep.{place_noted}
 use Rattle.rk_world.specs.Migrations.{migration_begun}
+use Rattle.rk_world.specs.Notices.{notice_one}
 use Rattle.rk_world.specs.Journal.{accepted_at, next_record}
 use Rattle.rk_world.specs.declared.ledger.LastCall.{LastCall}
 use Rattle.rk_world.specs.Ledger.{with_accepted, with_asked, with_client, with_request, with_record}
@@ -259,3 +260,7 @@ place_noted_in w row source sfrom target place =
 -- a row begins to move
 abbrev pub migration_begun_in : World → Row → ℕ → ℕ → ℕ → World
 migration_begun_in w row owner from to = with_coordinator w (migration_begun w.coordinator row owner from to)
+
+-- a crash is noticed: the master is marked as dead, and its rows change
+abbrev pub crash_noticed_in : World → ℕ → World
+crash_noticed_in w dead = with_coordinator w (notice_one w.coordinator dead)

@@ -15,6 +15,7 @@ use Rattle.rk_laws_parts.proofs.Released.{sound_released}
 use Rattle.rk_laws_parts.proofs.Owned.{sound_owned}
 use Rattle.rk_laws_parts.proofs.PlaceNoted.{sound_noted}
 use Rattle.rk_laws_parts.proofs.MigrationBegun.{sound_migrated}
+use Rattle.rk_laws_parts.proofs.CrashNoticed.{sound_crash_noticed}
 use Rattle.rk_laws_parts.proofs.laws.small_changes_keep_lanes_sound.Goals as goal
 
 pub returns-clause-sent : goal.returns-clause-sent
@@ -67,3 +68,6 @@ returns-clause-noted c = sound_noted
 
 pub returns-clause-migrated : goal.returns-clause-migrated
 returns-clause-migrated c = sound_migrated
+
+pub returns-clause-noticed : goal.returns-clause-noticed
+returns-clause-noticed c = λ w dead sound may. sound_crash_noticed w dead sound may
