@@ -55,6 +55,9 @@ pub mod PullingChanges
 pub mod HashWanted
 pub mod HashesResolved
 pub mod TokenPassed
+pub mod Records
+pub mod ItemsPulled
+pub mod Replayed
 pub mod GatheringChanges
 pub mod SegmentGathered
 pub mod Steady

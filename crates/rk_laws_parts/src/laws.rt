@@ -8,13 +8,14 @@ ghost use Rattle.rk_tablet_map.specs.declared.row.Row.{Row};
 ghost use Rattle.rk_transfer.specs.Handover.{is_serving};
 ghost use Rattle.rk_types.specs.declared.call.Call.{Call};
 ghost use Rattle.rk_types.specs.declared.call.Outcome.{Outcome};
+ghost use Rattle.rk_types.specs.declared.held.Held.{Held};
 ghost use Rattle.rk_types.specs.declared.held.Token.{Token};
 ghost use Rattle.rk_types.specs.declared.lineage.Member.{Member};
 ghost use Rattle.rk_types.specs.Range.{meets};
 ghost use Rattle.rk_sound.specs.Logs.{stored_of};
 ghost use Rattle.rk_sound.specs.Changes.{MayAccept, MayAsk, MayCome, MaySave, MaySend, MayStage, MayRefuse, refused_as, MayRead, MayStore, MayTell};
-ghost use Rattle.rk_sound.specs.Moves.{MayClose, MayFreeze, MayGather, MayMigrate, MayNote, MayPass, MayResolve, MayRelease, MayOwn, MayNotice};
-ghost use Rattle.rk_sound.specs.Small.{batch_asked_in, call_asked_in, client_come, hash_wanted_in, hashes_resolved_in, token_passed_in, write_staged_in, message_forgotten, message_sent, record_accepted_in, request_saved, tablet_closed_in, tablet_frozen_in, place_noted_in, migration_begun_in, segment_gathered_in, refusal_staged_in, recorded_in, bytes_stored_in, tablet_released_in, length_told_in, tablet_owned_in, crash_noticed_in};
+ghost use Rattle.rk_sound.specs.Moves.{MayClose, MayFreeze, MayGather, MayMigrate, MayNote, MayPass, MayResolve, MayRelease, MayOwn, MayNotice, MayReplay};
+ghost use Rattle.rk_sound.specs.Small.{batch_asked_in, call_asked_in, client_come, hash_wanted_in, hashes_resolved_in, token_passed_in, write_staged_in, message_forgotten, message_sent, record_accepted_in, request_saved, tablet_closed_in, tablet_frozen_in, place_noted_in, migration_begun_in, segment_gathered_in, refusal_staged_in, recorded_in, bytes_stored_in, tablet_released_in, length_told_in, tablet_owned_in, crash_noticed_in, item_replayed_in};
 ghost use Rattle.rk_sound.specs.View.{view};
 ghost use Rattle.rk_sound.specs.Whole.{IsSound};
 ghost use Rattle.rk_world.specs.declared.ledger.LastCall.{LastCall};
@@ -62,6 +63,9 @@ pub fn small_changes_keep_lanes_sound()
     ensures noted { (w : World) (row : Row) (source sfrom target place : ℕ)
         → IsSound w → MayNote (view w) row source sfrom target place
         → IsSound (place_noted_in w row source sfrom target place) }
+    ensures replayed { (w : World) (row : Row) (source target : Member) (worker : ℕ) (item : Held)
+        → IsSound w → MayReplay (view w) row source target worker item
+        → IsSound (item_replayed_in w target.master row.tablet worker item) }
     ensures migrated { (w : World) (row : Row) (to : ℕ)
         → IsSound w → (may : MayMigrate (view w) row to) → IsSound (migration_begun_in w row may.owner may.from to) }
     ensures noticed { (w : World) (dead : ℕ) → IsSound w → MayNotice (view w) dead → IsSound (crash_noticed_in w dead) }

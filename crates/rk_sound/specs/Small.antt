@@ -5,12 +5,13 @@ use Rattle.rk_types.specs.NumberMap.{insert, remove, get}
 use Rattle.rk_types.specs.declared.call.Call.{Call}
 use Rattle.rk_types.specs.declared.call.Ended.{Ended}
 use Rattle.rk_types.specs.declared.call.Outcome.{Outcome}
+use Rattle.rk_types.specs.declared.held.Held.{Held}
 use Rattle.rk_types.specs.declared.held.Token.{Token}
 use Rattle.rk_types.specs.declared.range.Range.{Range}
 use Rattle.rk_entry.specs.declared.entry.Entry.{Entry}
 use Rattle.rk_entry.specs.declared.entry.Entry.TheVariants as entries
 use Rattle.rk_log.specs.Log.{with_entry, with_told}
-use Rattle.rk_table.specs.Items.{without}
+use Rattle.rk_table.specs.Items.{without, with_newer}
 use Rattle.rk_transfer.specs.declared.handover.Handover.{Handover}
 use Rattle.rk_transfer.specs.declared.role.Role.TheVariants as roles
 use Rattle.rk_tablet_map.specs.Rows.{replaced}
@@ -25,7 +26,7 @@ use Rattle.rk_world.specs.Tablet.{Pulling, with_handover}
 use Rattle.rk_world.specs.Master.{with_tablet, with_known}
 use Rattle.rk_world.specs.Handovers.{tablet_closed, tablet_released, tablet_owned}
 use Rattle.rk_world.specs.Requests.{hash_wanted, item_of, refusal_of, refusal_staged, write_staged}
-use Rattle.rk_world.specs.Pulls.{hashes_resolved, token_passed}
+use Rattle.rk_world.specs.Pulls.{hashes_resolved, item_replayed, token_passed, with_pulled}
 use Rattle.rk_world.specs.Rebuilds.{segment_gathered}
 use Rattle.rk_world.specs.MasterTurn.{batch_asked}
 use Rattle.rk_world.specs.CoordinatorStep.{place_noted}
@@ -232,6 +233,16 @@ passing next = gone_on (λ p. next) (λ p. p.batches + 1) (λ p. p.hashes)
 
 abbrev pub token_passed_in : World → ℕ → ℕ → Token → World
 token_passed_in w master tablet next = with_master w master (token_passed (master_at w master) tablet next)
+
+-- an item is replayed at a master, for a tablet: it goes into the records, where it is newer than what is there, and to the worker's items
+abbrev pub replayed : View → ℕ → ℕ → ℕ → Held → View
+replayed v master tablet worker item = record v {
+  records = put v.records master (with_newer item (v.records master));
+  pullings = put2 v.pullings master tablet (with_pulled (v.pullings master tablet) worker item);
+}
+
+abbrev pub item_replayed_in : World → ℕ → ℕ → ℕ → Held → World
+item_replayed_in w master tablet worker item = with_master w master (item_replayed tablet worker (master_at w master) item)
 
 -- ---- what a tablet gathers
 

@@ -16,6 +16,7 @@ use Rattle.rk_laws_parts.proofs.Owned.{sound_owned}
 use Rattle.rk_laws_parts.proofs.PlaceNoted.{sound_noted}
 use Rattle.rk_laws_parts.proofs.MigrationBegun.{sound_migrated}
 use Rattle.rk_laws_parts.proofs.CrashNoticed.{sound_crash_noticed}
+use Rattle.rk_laws_parts.proofs.Replayed.{sound_replayed}
 use Rattle.rk_laws_parts.proofs.laws.small_changes_keep_lanes_sound.Goals as goal
 
 pub returns-clause-sent : goal.returns-clause-sent
@@ -65,6 +66,9 @@ returns-clause-owned c = sound_owned
 
 pub returns-clause-noted : goal.returns-clause-noted
 returns-clause-noted c = sound_noted
+
+pub returns-clause-replayed : goal.returns-clause-replayed
+returns-clause-replayed c = sound_replayed
 
 pub returns-clause-migrated : goal.returns-clause-migrated
 returns-clause-migrated c = sound_migrated
