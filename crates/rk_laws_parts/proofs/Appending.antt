@@ -43,11 +43,11 @@ pub record Appending (v : View) : Type 0 where
   pub may : MayAppend v master call entry counter
 
 -- the truth of a lineage, by what counts of each member
-abbrev truth_by : Base → (Range → Member → List Entry) → Range → List Member → List Entry
+abbrev pub truth_by : Base → (Range → Member → List Entry) → Range → List Member → List Entry
 truth_by base sure range [] = base_entries base range
 truth_by base sure range (member ∷ members) = flat_map (sure range) (member ∷ members)
 
-truth_is : (base : Base) (written : ℕ → Written) (range : Range) (members : List Member) → lineage_truth base written range members ≡ truth_by base (member_truth written) range members
+pub truth_is : (base : Base) (written : ℕ → Written) (range : Range) (members : List Member) → lineage_truth base written range members ≡ truth_by base (member_truth written) range members
 truth_is base written range [] = refl
 truth_is base written range (member ∷ members) = refl
 

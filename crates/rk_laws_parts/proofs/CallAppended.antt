@@ -37,7 +37,7 @@ use Rattle.rk_laws_parts.proofs.Rows.{rows_grown}
 use Rattle.rk_laws_parts.proofs.Terms.{terms_looks}
 use Rattle.rk_laws_parts.proofs.Cover.{cover_looks, cover_written, covered_by}
 use Rattle.rk_laws_parts.proofs.Roles.{roles_looks}
-use Rattle.rk_laws_parts.proofs.Logs.{logs_grown}
+use Rattle.rk_laws_parts.proofs.Logs.{logs_grown, none_stored}
 use Rattle.rk_laws_parts.proofs.Calls.{calls_alike, calls_more}
 use Rattle.rk_laws_parts.proofs.Counters.{counters_after}
 use Rattle.rk_laws_parts.proofs.Messages.{messages_looks, NeedNoMore}
@@ -121,7 +121,8 @@ module _ (v : View) (a : Appending v) where
   roles = roles_looks v.rows v.handovers now.handovers v.written now.written v.live a.sound.roles (looks v a).each (looks v a).applied
 
   logs : LogsOf now
-  logs = logs_grown v a.master a.entry a.may.room a.sound.logs (segments_call a.call a.entry a.may.own)
+  logs = logs_grown v a.master a.entry a.may.room a.sound.logs
+      (none_stored (v.logs a.master) a.entry (segments_call a.call a.entry a.may.own))
 
   order : OrderOf now (truths v) (rests now)
   order = record {

@@ -59,7 +59,7 @@ drop_extends (suc place) [] behind = record { more = drop (suc place) behind; pa
 drop_extends (suc place) (entry ∷ list) behind = drop_extends place list behind
 
 -- those that bear no mark
-unmarked_extends : (marks : List Mark) (place : ℕ) (list behind : List Entry) → Extends (unmarked marks place list) (unmarked marks place (list ++ behind))
+pub unmarked_extends : (marks : List Mark) (place : ℕ) (list behind : List Entry) → Extends (unmarked marks place list) (unmarked marks place (list ++ behind))
 unmarked_extends marks place [] behind = record { more = unmarked marks place behind; parts = refl }
 unmarked_extends marks place (entry ∷ list) behind = go (is_marked marks place) (unmarked_extends marks (suc place) list behind)
   where

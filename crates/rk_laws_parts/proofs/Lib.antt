@@ -67,6 +67,8 @@ pub mod BeforeTurn
 pub mod RowSays
 pub mod RowTurned
 pub mod RoleTaken
+pub mod Joining
+pub mod ClosingAppended
 pub mod Closed
 pub mod Frozen
 pub mod InRange

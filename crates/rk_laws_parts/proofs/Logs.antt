@@ -25,6 +25,15 @@ use Rattle.rk_laws_parts.proofs.Segments.{Grows, grows_entry}
 
 -- ---- a log grows at its end
 
+-- every backup is known to hold the side segments that an entry names
+abbrev pub AreStored : Log → Entry → Type 0
+AreStored log entry = All (λ segment. is_side_stored log segment ≡ true) (segments_in entry)
+
+-- as it is where the entry names none
+pub none_stored : (log : Log) (entry : Entry) → segments_in entry ≡ [] → AreStored log entry
+none_stored log entry none =
+    subst (All (λ segment. is_side_stored log segment ≡ true)) (sym none) (All-nil (λ segment. is_side_stored log segment ≡ true))
+
 pub first_part_more : (a b c : List ℕ) → IsFirstPart a b → IsFirstPart b c → IsFirstPart a c
 first_part_more a b c first next = record {
   more = first.more ++ next.more;
@@ -70,9 +79,9 @@ piece_grown old new known append grows piece =
           (piece.in_order some);
     }
 
--- one more entry that names no side segment
-log_grown : (log : Log) (written : Written) (stored : ℕ → ℕ → List ℕ) (entry : Entry) → Grows log (with_entry log entry) → segments_in entry ≡ [] → IsLog log written stored → IsLog (with_entry log entry) (with_one_more written entry) stored
-log_grown log written stored entry grows none old = record {
+-- one more entry, which names only side segments that every backup is known to hold
+log_grown : (log : Log) (written : Written) (stored : ℕ → ℕ → List ℕ) (entry : Entry) → Grows log (with_entry log entry) → AreStored log entry → IsLog log written stored → IsLog (with_entry log entry) (with_one_more written entry) stored
+log_grown log written stored entry grows held old = record {
   entries_are = ap (λ (list : List Entry). list ++ entry ∷ []) old.entries_are;
   held = omega (arith, old.held, committed_entry log entry);
   copies = λ backup numbered.
@@ -80,8 +89,7 @@ log_grown log written stored entry grows none old = record {
       (old.copies backup (record { first = numbered.first; last = numbered.last }));
   spelled = old.spelled;
   named =
-      All-push (λ entry. All (λ segment. is_side_stored log segment ≡ true) (segments_in entry)) written.entries entry old.named
-      (subst (All (λ segment. is_side_stored log segment ≡ true)) (sym none) (All-nil (λ segment. is_side_stored log segment ≡ true)));
+      All-push (λ entry. All (λ segment. is_side_stored log segment ≡ true) (segments_in entry)) written.entries entry old.named held;
   marked =
       All-weaker (λ (mark : Mark). mark.past ≤ length written.entries) (λ (mark : Mark). mark.past ≤ length (written.entries ++ entry ∷ []))
       (λ mark past. omega (arith, past, length-append written.entries (entry ∷ []))) written.marks old.marked;
@@ -104,9 +112,9 @@ module _ (v : View) (master : ℕ) (entry : Entry) (few : HasSegmentLeft (v.logs
       (λ apart. piece)
   says_grown _ _ _ says = says
 
-  -- one more entry at the end of a master's log, which names no side segment
-  pub logs_grown : LogsOf v → segments_in entry ≡ [] → Logs logs (put v.written master (with_one_more (v.written master) entry)) v.stored v.wire
-  logs_grown old none = record {
+  -- one more entry at the end of a master's log, which names only side segments that every backup is known to hold
+  pub logs_grown : LogsOf v → AreStored (v.logs master) entry → Logs logs (put v.written master (with_one_more (v.written master) entry)) v.stored v.wire
+  logs_grown old held = record {
     each = λ q.
         ⊎_elim
         (λ (here : q ≡ master).
@@ -115,7 +123,7 @@ module _ (v : View) (master : ℕ) (entry : Entry) (few : HasSegmentLeft (v.logs
         (sym (put_here v.logs master (with_entry (v.logs master) entry) master refl))
         (subst (λ (w : Written). IsLog (with_entry (v.logs master) entry) w (stored_of v.stored master))
         (sym (put_here v.written master (with_one_more (v.written master) entry) master refl))
-        (log_grown (v.logs master) (v.written master) (stored_of v.stored master) entry (grows_entry (v.logs master) entry few) none
+        (log_grown (v.logs master) (v.written master) (stored_of v.stored master) entry (grows_entry (v.logs master) entry few) held
         (old.each master)))))
         (λ (apart : q ≡ master → ⊥).
         subst (λ (l : Log). IsLog l (put v.written master (with_one_more (v.written master) entry) q) (stored_of v.stored q))

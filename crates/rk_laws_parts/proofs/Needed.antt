@@ -1,10 +1,10 @@
 -- What has to be read of the last of two members, beside what its master knew to be stored: it is no more once a write was staged, and
 -- backup 1 stores it.
-use Rattle.std.proofs.Common.{◌≡◌, ℕ, zero, suc, ◌+◌, ◌-◌, ◌<◌, ◌≤◌, ◌⊎◌, Bool, true, false, cond, ◌||◌, List, [], ◌∷◌, ◌++◌, length, map, filter, get_or, Some, refl, sym, ap, ◌∙◌, subst, ⊎_elim, inl, inr, arith}
+use Rattle.std.proofs.Common.{◌≡◌, ℕ, zero, suc, ◌+◌, ◌-◌, ◌<◌, ◌≤◌, ◌⊎◌, Bool, true, false, cond, ◌||◌, List, [], ◌∷◌, ◌++◌, length, map, filter, fold, get_or, Some, refl, sym, ap, ◌∙◌, subst, ⊎_elim, inl, inr, arith}
 use Rattle.std.specs.Prelude.{◌==◌, ◌&&◌, not, nat_le, nat_lt, drop, take, slice_get, slice_index_or}
 use Rattle.std.specs.List.{All, Contains, flat_map, list_any}
 use Rattle.std.proofs.lemmas.Bool.{and_parts, cases_lt, cond-false, cond_both, eq-eqb, eqb-true, false≢true, leb-true, ltb-true, or_right}
-use Rattle.std.proofs.lemmas.List.{append-nil, drop-append-le, length-drop}
+use Rattle.std.proofs.lemmas.List.{append-nil, append_assoc, drop-append-le, length-drop}
 use Rattle.std.proofs.lemmas.List.Concat.{flat_map-append}
 use Rattle.std.proofs.lemmas.List.Elements.{All-cons, All-contains, All-head, All-nil, All-tail, Contains-append_cases, Contains-append_left, Contains-append_right, filter-append}
 use Rattle.std.proofs.lemmas.List.Sums.{prefix_len_passes}
@@ -14,6 +14,7 @@ use Rattle.rk_types.specs.declared.call.Ended.{Ended}
 use Rattle.rk_types.specs.declared.held.Held.{Held}
 use Rattle.rk_types.specs.declared.lineage.Member.{Member}
 use Rattle.rk_types.specs.declared.range.Range.{Range}
+use Rattle.rk_entry.specs.Lists.{is_among}
 use Rattle.rk_entry.specs.Spelling.{spelled}
 use Rattle.rk_entry.specs.declared.entry.Entry.{Entry}
 use Rattle.rk_log.proofs.Cuts.{AreFilled, filled_with, some_segments, spelled_some}
@@ -26,16 +27,17 @@ use Rattle.rk_transfer.specs.declared.handover.Handover.{Handover}
 use Rattle.rk_tablet_map.specs.declared.row.Row.{Row}
 use Rattle.rk_world.specs.Ends.{items_in, items_of, told, told_by}
 use Rattle.rk_world.specs.declared.work.Mark.{Mark}
-use Rattle.rk_world.specs.Marks.{is_marked, unmarked_from}
-use Rattle.rk_world.specs.Material.{counts, counting, log_material, named, named_by, side_entries}
+use Rattle.rk_world.specs.Marks.{is_marked, unmarked, unmarked_from}
+use Rattle.rk_world.specs.Material.{counts, counting, log_material, named, named_by, side_entries, with_number}
 use Rattle.rk_world.specs.Lineage.{is_member}
 use Rattle.rk_world.specs.Gather.{Gather, Gathered}
 use Rattle.rk_world.specs.Written.{Written}
 use Rattle.rk_sound.specs.Rebuilds.{AreGathered, AreRead, HasItemMore, IsGathered, IsNeeded, IsReadPart, IsRebuilder, NeededOf, NeedsEnd, TellNoMore, TellsEndMore, TellsMore, given_up_marks, marked_entries, stored_count}
-use Rattle.rk_sound.specs.Small.{with_one_more}
+use Rattle.rk_sound.specs.Small.{put, with_one_more}
+use Rattle.rk_laws_parts.proofs.Put.{put_by}
 use Rattle.rk_laws_parts.proofs.Gathered.{IsAway}
-use Rattle.rk_laws_parts.proofs.Grows.{Extends, counting_extends, extends_behind, take_extends}
-use Rattle.rk_laws_parts.proofs.Shares.{drop_none, marked_none, named_same, unmarked_from_last, unmarked_from_none}
+use Rattle.rk_laws_parts.proofs.Grows.{Extends, counting_extends, drop_extends, extends_behind, take_extends, unmarked_extends}
+use Rattle.rk_laws_parts.proofs.Shares.{drop_none, marked_none}
 use Rattle.rk_laws_parts.proofs.Rebuilders.{last_member}
 
 -- ---- what was read is enough where no more is needed
@@ -245,27 +247,97 @@ given_up_pushed row from w entry marked =
     (marked_none (given_up_marks row w.marks) (length w.entries)
     (kept_within (λ mark. mark.tablet == row.tablet && nat_lt mark.term row.term) w.marks (length w.entries) marked)))
 
--- and the other tells what it told, where the entry names no side segment
-pub material_pushed : (range : Range) (from : ℕ) (w : Written) (entry : Entry) → named_by range entry ≡ [] → AreAmong (material_at range from w) (material_at range from (with_one_more w entry))
-material_pushed range from w entry none =
+-- numbers with more of them have these before the others
+numbers_extend : (some more : List ℕ) → (others : List ℕ) × (fold with_number some more ≡ some ++ others)
+numbers_extend some [] = ([], sym (append-nil some))
+numbers_extend some (number ∷ more) =
+    cond_both (is_among number some) some (some ++ number ∷ [])
+    (λ next. (others : List ℕ) × (fold with_number next more ≡ some ++ others))
+    (λ e. numbers_extend some more)
+    (λ e.
+    let rest = numbers_extend (some ++ number ∷ []) more in
+    (number ∷ rest.0, rest.1 ∙ append_assoc some (number ∷ []) rest.0))
+
+pub numbers_append : (some a b : List ℕ) → fold with_number some (a ++ b) ≡ fold with_number (fold with_number some a) b
+numbers_append some [] b = refl
+numbers_append some (number ∷ a) b = numbers_append (with_number some number) a b
+
+-- so the side segments that more entries name begin with those that the first ones name
+sides_extend : (range : Range) (sides : ℕ → List Entry) (old new : List Entry) → Extends old new → Extends (counting range (flat_map sides (named range old))) (counting range (flat_map sides (named range new)))
+sides_extend range sides old new grown =
+    let rest = numbers_extend (named range old) (flat_map (named_by range) grown.more) in
+    let parts : named range new ≡ named range old ++ rest.0 =
+    ap (named range) grown.parts
+    ∙ ap (λ (numbers : List ℕ). fold with_number [] numbers) (flat_map-append (named_by range) old grown.more)
+    ∙ numbers_append [] (flat_map (named_by range) old) (flat_map (named_by range) grown.more)
+    ∙ rest.1 in
+    record {
+      more = counting range (flat_map sides rest.0);
+      parts =
+          ap (λ (numbers : List ℕ). counting range (flat_map sides numbers)) parts
+          ∙ ap (counting range) (flat_map-append sides (named range old) rest.0)
+          ∙ filter-append (counts range) (flat_map sides (named range old)) (flat_map sides rest.0);
+    }
+
+-- and the other tells what it told
+pub material_pushed : (range : Range) (from : ℕ) (w : Written) (entry : Entry) → AreAmong (material_at range from w) (material_at range from (with_one_more w entry))
+material_pushed range from w entry =
     let list : List Entry = w.entries ++ entry ∷ [] in
     let side : List Entry → List Entry = λ all. counting range (flat_map (side_entries w.sides) (named range all)) in
-    let old : List Entry = counting range (unmarked_from w.marks from w.entries) in
-    let new : List Entry = counting range (unmarked_from w.marks from list) in
-    let same : side (unmarked_from w.marks from list) ≡ side (unmarked_from w.marks from w.entries) =
-    ap (λ (segments : List ℕ). counting range (flat_map (side_entries w.sides) segments)) named_pushed in
-    subst (λ (sides : List Entry). AreAmong (old ++ side (unmarked_from w.marks from w.entries)) (new ++ sides)) (sym same)
-    (among_front old new (side (unmarked_from w.marks from w.entries))
-    (extended_among old new (counting_extends range w.marks from w.entries list (record { more = entry ∷ []; parts = refl }))))
-  where
-    named_pushed : named range (unmarked_from w.marks from (w.entries ++ entry ∷ [])) ≡ named range (unmarked_from w.marks from w.entries)
-    named_pushed =
-        ⊎_elim
-        (λ (beyond : length w.entries < from). ap (named range) (unmarked_from_none w.marks from w.entries entry beyond))
-        (λ (within : from ≤ length w.entries).
-        ap (named range) (unmarked_from_last w.marks from w.entries entry within)
-        ∙ named_same range entry (unmarked_from w.marks from w.entries) (is_marked w.marks (length w.entries)) none)
-        (cases_lt (length w.entries) from)
+    let old : List Entry = unmarked_from w.marks from w.entries in
+    let new : List Entry = unmarked_from w.marks from list in
+    let behind = drop_extends from w.entries (entry ∷ []) in
+    let rest = unmarked_extends w.marks from (drop from w.entries) behind.more in
+    let grown : Extends old new = record {
+      more = rest.more;
+      parts = ap (unmarked w.marks from) behind.parts ∙ rest.parts;
+    } in
+    among_then (counting range old ++ side old) (counting range new ++ side old) (counting range new ++ side new)
+    (among_front (counting range old) (counting range new) (side old)
+    (extended_among (counting range old) (counting range new)
+    (counting_extends range w.marks from w.entries list (record { more = entry ∷ []; parts = refl }))))
+    (extended_among (counting range new ++ side old) (counting range new ++ side new)
+    (extends_behind (counting range new) (side old) (side new) (sides_extend range (side_entries w.sides) old new grown)))
+
+-- ---- one more entry at a master, which other masters are read beside
+
+module _ (written : ℕ → Written) (master : ℕ) (entry : Entry) (marked : (q : ℕ) → All (λ mark. mark.past ≤ length (written q).entries) (written q).marks) where
+  -- what masters have written with the entry
+  abbrev grown : ℕ → Written
+  grown = put written master (with_one_more (written master) entry)
+
+  -- what is needed of a row, where its first member has written these and its last one those
+  abbrev NeedsBy : Row → Member → Member → Written → Written → EntryEnd → Type 0
+  NeedsBy other first last these those =
+      NeedsEnd other.range (given_up_of other first.from these) (material_at other.range first.from these) last.from those
+
+  -- no more is needed where the first member may have written the entry
+  first_grown : (other : Row) (first last : Member) (those : Written) (end : EntryEnd) → NeedsBy other first last (grown first.master) those end → NeedsBy other first last (written first.master) those end
+  first_grown other first last those end =
+      let old : Written = written first.master in
+      let more : Written = with_one_more old entry in
+      put_by written master (λ w. with_one_more w entry) (λ (w : Written). NeedsBy other first last w those end → NeedsBy other first last old those end)
+      first.master
+      (λ at needs.
+      needs_less other.range (given_up_of other first.from old) (material_at other.range first.from old) (material_at other.range first.from more)
+      last.from those end
+      (material_pushed other.range first.from old entry)
+      (subst (λ (list : List Entry). NeedsEnd other.range list (material_at other.range first.from more) last.from those end)
+      (given_up_pushed other first.from old entry (marked first.master)) needs))
+      (λ apart needs. needs)
+
+  -- so no more is needed of another master than the one that wrote
+  pub needed_grown : (other : Row) (lineage : List Member) (q : ℕ) → (q ≡ master → ⊥) → (end : EntryEnd) → NeededOf other grown lineage q end → NeededOf other written lineage q end
+  needed_grown other [] q away end needed = needed
+  needed_grown other (only ∷ []) q away end needed = needed
+  needed_grown other (first ∷ last ∷ []) q away end needed =
+      let Needs : Written → Type 0 = λ (w : Written). NeedsBy other first last (grown first.master) w end in (
+        needed.0,
+        first_grown other first last (written last.master) end
+            (put_by written master (λ w. with_one_more w entry) (λ (w : Written). Needs w → Needs (written last.master)) last.master
+            (λ at. absurd (away (sym needed.0 ∙ at))) (λ apart needs. needs) needed.1),
+      )
+  needed_grown other (first ∷ second ∷ third ∷ more) q away end needed = needed
 
 -- ---- what is needed is stored
 

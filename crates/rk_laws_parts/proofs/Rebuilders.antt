@@ -22,7 +22,7 @@ use Rattle.rk_world.specs.declared.work.Merged.{Merged}
 use Rattle.rk_world.specs.Ends.{items_of}
 use Rattle.rk_world.specs.declared.work.Mark.{Mark}
 use Rattle.rk_world.specs.Marks.{is_marked, unmarked_from}
-use Rattle.rk_world.specs.Material.{counts, material_of, named, named_by, side_entries}
+use Rattle.rk_world.specs.Material.{material_of, named, named_by, side_entries}
 use Rattle.rk_world.specs.Lineage.{is_member, last_of}
 use Rattle.rk_world.specs.Master.{touches}
 use Rattle.rk_world.specs.Rebuilds.{own_place}
@@ -32,8 +32,9 @@ use Rattle.rk_sound.specs.Rebuilds.{IsMergedOf, has_merged, merged_place, IsPiec
 use Rattle.rk_sound.specs.Logs.{stored_of}
 use Rattle.rk_sound.specs.Small.{with_counter, with_one_more}
 use Rattle.rk_sound.specs.View.{View, truths}
-use Rattle.rk_laws_parts.proofs.Shares.{named_same, names_call, touches_call, unless_marked, unmarked_from_last, unmarked_from_none}
-use Rattle.rk_laws_parts.proofs.Appending.{Appending, within}
+use Rattle.rk_sound.specs.Whole.{SoundView}
+use Rattle.rk_laws_parts.proofs.Shares.{named_same, unless_marked, unmarked_from_last, unmarked_from_none}
+use Rattle.rk_laws_parts.proofs.Applied.{applied_within}
 use Rattle.rk_laws_parts.proofs.Places.{behind_none}
 
 -- the last member of a lineage is one of it
@@ -92,13 +93,19 @@ serving_unmerged role serves merged = false≢true merged
 abbrev AreShared : List Entry → List Held → List Held → Type 0
 AreShared truth table items = (item : Held) → Contains items item → Contains (items_of truth) item × IsFound table item
 
-module _ (v : View) (a : Appending v) (row : Row) (lineage : List Member) (to : ℕ) (Needed : ℕ → EntryEnd → Type 0) where
+-- a master that rebuilds a row, by what is needed, where this counts of its own entries, which are these, and this is its handover
+abbrev pub IsRebuilderWith : (v : View) (row : Row) (lineage : List Member) (to : ℕ) (Needed : ℕ → EntryEnd → Type 0) → List Entry → Written → Handover → Type 0
+IsRebuilderWith v row lineage to Needed own written handover =
+    IsRebuilder row lineage to (truths v row) own Needed (λ q. known_of (v.logs q) READ_BACKUP) (λ q. stored_of v.stored q READ_BACKUP)
+    written handover (v.completions to row.tablet) (v.gathers to row.tablet) (v.merged to row.tablet) (v.records to)
+
+module _ (v : View) (sound : SoundView v) (new : Entry) (row : Row) (lineage : List Member) (to : ℕ) (Needed : ℕ → EntryEnd → Type 0) (names : named_by row.range new ≡ []) where
   -- what the master has written and has of the row, and what it has written with the entry
   abbrev w : Written
   w = v.written to
 
   abbrev more : Written
-  more = with_one_more (v.written to) a.entry
+  more = with_one_more (v.written to) new
 
   abbrev handover : Handover
   handover = v.handovers to row.tablet
@@ -106,17 +113,14 @@ module _ (v : View) (a : Appending v) (row : Row) (lineage : List Member) (to : 
   abbrev from : ℕ
   from = own_place (v.handovers to row.tablet).role
 
-  -- a master that rebuilds the row, by what is needed, where this counts of its own entries, which are these, and this is its handover
-  abbrev pub IsRebuilderWith : List Entry → Written → Handover → Type 0
-  IsRebuilderWith own written handover =
-      IsRebuilder row lineage to (truths v row) own Needed (λ q. known_of (v.logs q) READ_BACKUP) (λ q. stored_of v.stored q READ_BACKUP)
-      written handover (v.completions to row.tablet) (v.gathers to row.tablet) (v.merged to row.tablet) (v.records to)
+  abbrev Rebuilds : List Entry → Written → Handover → Type 0
+  Rebuilds = IsRebuilderWith v row lineage to Needed
 
   marked : All (λ mark. mark.past ≤ length (v.written to).entries) (v.written to).marks
-  marked = (a.sound.logs.each to).marked
+  marked = (sound.logs.each to).marked
 
   -- the piece of a rebuild stands where it did, and still nothing of its range stands behind it
-  piece_stays : (merged : Merged) (entry : ℕ) → touches handover.range a.entry ≡ false → IsPieceOf row.tablet from handover merged w entry → IsPieceOf row.tablet from handover merged more entry
+  piece_stays : (merged : Merged) (entry : ℕ) → touches handover.range new ≡ false → IsPieceOf row.tablet from handover merged w entry → IsPieceOf row.tablet from handover merged more entry
   piece_stays merged entry outside piece =
       let inside : piece.mark.past ≤ length w.entries =
       All-contains (λ (mark : Mark). mark.past ≤ length w.entries) w.marks piece.mark marked piece.marked in
@@ -129,8 +133,8 @@ module _ (v : View) (a : Appending v) (row : Row) (lineage : List Member) (to : 
         term_is = piece.term_is;
         behind = piece.behind;
         alone = piece.alone;
-        stands = piece_push piece.mark.first (suc entry) w.entries (a.entry ∷ []) within ∙ piece.stands;
-        last = behind_none (touches handover.range) w.entries (suc entry) a.entry piece.last outside;
+        stands = piece_push piece.mark.first (suc entry) w.entries (new ∷ []) within ∙ piece.stands;
+        last = behind_none (touches handover.range) w.entries (suc entry) new piece.last outside;
       }
 
   -- what was merged is what it was
@@ -138,7 +142,7 @@ module _ (v : View) (a : Appending v) (row : Row) (lineage : List Member) (to : 
   IsMergedWith own written handover entry =
       IsMergedOf row.tablet from own handover (v.completions to row.tablet) (v.gathers to row.tablet) (v.merged to row.tablet) written entry
 
-  merged_stays : (own : List Entry) (entry : ℕ) → touches handover.range a.entry ≡ false → IsMergedWith own w handover entry → IsMergedWith own more handover entry
+  merged_stays : (own : List Entry) (entry : ℕ) → touches handover.range new ≡ false → IsMergedWith own w handover entry → IsMergedWith own more handover entry
   merged_stays own entry outside merged = record {
     gathered_all = merged.gathered_all;
     merged = merged.merged;
@@ -154,20 +158,20 @@ module _ (v : View) (a : Appending v) (row : Row) (lineage : List Member) (to : 
   records_stay =
       subst
       (λ (sure : List Entry). IsRebuildTable row.range (truths v row) (material_of row.range (side_entries w.sides) (drop from sure)) (v.records to))
-      (sym (take-append-le w.applied w.entries (a.entry ∷ []) (within v a to)))
+      (sym (take-append-le w.applied w.entries (new ∷ []) (applied_within (v.logs to) (v.written to) _ (sound.logs.each to))))
 
   -- the side segments that a master names have what they had
   sides_stay : from ≤ length w.entries → AreShared (truths v row) (v.records to) (named_items row.range from w) → AreShared (truths v row) (v.records to) (named_items row.range from more)
   sides_stay placed =
       subst (AreShared (truths v row) (v.records to))
-      (sym (named_stays row.range from w a.entry (names_call row.range a.call a.entry a.may.own) placed))
+      (sym (named_stays row.range from w new names placed))
 
   -- and a place of its log is one of the longer one
-  place_stays : from ≤ length w.entries → from ≤ length (w.entries ++ a.entry ∷ [])
-  place_stays placed = omega (arith, placed, length-append w.entries (a.entry ∷ []))
+  place_stays : from ≤ length w.entries → from ≤ length (w.entries ++ new ∷ [])
+  place_stays placed = omega (arith, placed, length-append w.entries (new ∷ []))
 
   -- a master that rebuilds a row, and wrote an entry of another one
-  pub rebuilder_apart : (own : List Entry) → counts row.range a.entry ≡ false → IsRebuilderWith own w handover → IsRebuilderWith own more handover
+  pub rebuilder_apart : (own : List Entry) → touches row.range new ≡ false → Rebuilds own w handover → Rebuilds own more handover
   rebuilder_apart own outside was = record {
     range_is = was.range_is;
     gather = was.gather;
@@ -177,21 +181,21 @@ module _ (v : View) (a : Appending v) (row : Row) (lineage : List Member) (to : 
         IfSome_then (merged_place handover.role) was.merged
         (λ entry.
         merged_stays own entry
-        (ap (λ (range : Range). touches range a.entry) was.range_is ∙ touches_call row.range a.call a.entry a.may.own ∙ outside));
+        (ap (λ (range : Range). touches range new) was.range_is ∙ outside));
     items = records_stay was.items;
     sides = sides_stay was.placed was.sides;
     outside = was.outside;
   }
 
   -- a master that is to rebuild the row and still serves it, as a member of its lineage
-  pub rebuilder_serving : (own own' : List Entry) → is_serving handover.role ≡ true → is_member lineage to ≡ true → IsRebuilderWith own w handover → IsRebuilderWith own' more (with_counter a.counter handover)
-  rebuilder_serving own own' serves member was = record {
+  pub rebuilder_serving : (own own' : List Entry) (counter : ℕ) → is_serving handover.role ≡ true → is_member lineage to ≡ true → Rebuilds own w handover → Rebuilds own' more (with_counter counter handover)
+  rebuilder_serving own own' counter serves member was = record {
     range_is = was.range_is;
     gather = was.gather;
     read = was.read;
     placed = place_stays was.placed;
     merged =
-        subst (λ (place : Option ℕ). IfSome place (IsMergedWith own' more (with_counter a.counter handover)))
+        subst (λ (place : Option ℕ). IfSome place (IsMergedWith own' more (with_counter counter handover)))
         (sym (serving_merged handover.role serves)) tt;
     items = records_stay was.items;
     sides = sides_stay was.placed was.sides;

@@ -21,7 +21,7 @@ use Rattle.rk_tablet_map.specs.declared.phase.Phase.TheVariants.{Owned, Opening,
 use Rattle.rk_tablet_map.specs.declared.row.Row.{Row}
 use Rattle.rk_world.specs.declared.work.Mark.{Mark}
 use Rattle.rk_world.specs.Marks.{unmarked_from}
-use Rattle.rk_world.specs.Material.{counting, counts}
+use Rattle.rk_world.specs.Material.{counting, counts, named_by}
 use Rattle.rk_world.specs.Lineage.{is_member, last_of}
 use Rattle.rk_world.specs.Master.{touches}
 use Rattle.rk_world.specs.Rebuilds.{own_place}
@@ -33,8 +33,8 @@ use Rattle.rk_sound.specs.Rows.{AreApart}
 use Rattle.rk_sound.specs.Posts.{Bystander, FormerMember, Holds, Post, StillCounts, bond_of, post_of, rebuilder_post}
 use Rattle.rk_sound.specs.Roles.{RoleFits}
 use Rattle.rk_sound.specs.Logs.{stored_of}
-use Rattle.rk_sound.specs.Rebuilds.{HasOwnRange, IsOfRange, IsRebuilder, MarkFits, MarkedFit, NeededOf, NeedsEnd, READ_BACKUP, StandsLast, TellNoMore, has_merged, marked_entries, member_marked, member_stored, stored_count, RowIsRebuilt}
-use Rattle.rk_sound.specs.Small.{with_counter, with_one_more}
+use Rattle.rk_sound.specs.Rebuilds.{HasOwnRange, IsOfRange, IsRebuilder, MarkFits, MarkedFit, NeededOf, READ_BACKUP, StandsLast, TellNoMore, has_merged, marked_entries, member_marked, member_stored, stored_count, RowIsRebuilt}
+use Rattle.rk_sound.specs.Small.{with_counter}
 use Rattle.rk_sound.specs.View.{View, truths}
 use Rattle.rk_sound.specs.Whole.{RebuildsOf, RolesOf}
 use Rattle.rk_laws_parts.proofs.Put.{put2_by}
@@ -42,7 +42,7 @@ use Rattle.rk_laws_parts.proofs.Appending.{Appending, after, counted_same, dead_
 use Rattle.rk_laws_parts.proofs.Grows.{Extends, counting_extends, extends_behind, extends_itself, stored_push, take_extends, tells_extended}
 use Rattle.rk_laws_parts.proofs.Shares.{names_call, touches_call}
 use Rattle.rk_laws_parts.proofs.Rebuilders.{IsRebuilderWith, last_member, piece_push, rebuilder_apart, rebuilder_serving, serving_unmerged, unmarked_push}
-use Rattle.rk_laws_parts.proofs.Needed.{given_up_of, given_up_pushed, material_at, material_pushed, needed_member, needs_less, rebuilder_weaker}
+use Rattle.rk_laws_parts.proofs.Needed.{needed_grown, needed_member, rebuilder_weaker}
 
 -- a master that rebuilds a row, by what is needed, what masters have written and what backups store
 abbrev pub IsRebuilderBy : (ℕ → EntryEnd → Type 0) → (ℕ → Log) → (ℕ → Written) → (ℕ → Segments) → Row → List Member → ℕ → List Entry → Handover → Completions → Gather → List Ended → List Held → Type 0
@@ -86,6 +86,10 @@ former_gone v roles row has lineage to q is lives away member =
 
 -- ---- the master that rebuilds, by what was needed
 
+-- the entry names no side segment
+names : (v : View) (a : Appending v) (other : Row) → named_by other.range a.entry ≡ []
+names v a other = names_call other.range a.call a.entry a.may.own
+
 module _ (v : View) (a : Appending v) (Needed : ℕ → EntryEnd → Type 0) where
   -- what is known of backups is what it was
   known_after : (q : ℕ) → known_of ((after v a).logs q) READ_BACKUP ≡ known_of (v.logs q) READ_BACKUP
@@ -103,7 +107,7 @@ module _ (v : View) (a : Appending v) (Needed : ℕ → EntryEnd → Type 0) whe
   own_in now other to handover = member_material now.written other.range (member_at to (own_place handover.role))
 
   -- what backups are known to hold is the same, so that it rebuilds is seen by its own entries and its handover
-  seen_after : (other : Row) (lineage : List Member) (to : ℕ) (handover : Handover) → IsRebuilderWith v a other lineage to Needed (own_in (after v a) other to handover) ((after v a).written to) handover → IsRebuilderAt (after v a) other lineage to handover
+  seen_after : (other : Row) (lineage : List Member) (to : ℕ) (handover : Handover) → IsRebuilderWith v other lineage to Needed (own_in (after v a) other to handover) ((after v a).written to) handover → IsRebuilderAt (after v a) other lineage to handover
   seen_after other lineage to handover fit =
       subst
       (λ (known : ℕ → Known). IsRebuilder other lineage to (truths v other) (own_in (after v a) other to handover) Needed known
@@ -121,10 +125,10 @@ module _ (v : View) (a : Appending v) (Needed : ℕ → EntryEnd → Type 0) whe
       let handover : Handover = v.handovers to other.tablet in
       let own : List Entry = own_in v other to handover in
       seen_after other lineage to handover
-      (subst (λ (list : List Entry). IsRebuilderWith v a other lineage to Needed list ((after v a).written to) handover)
+      (subst (λ (list : List Entry). IsRebuilderWith v other lineage to Needed list ((after v a).written to) handover)
       (sym (material_same v a other.range (member_at to (own_place handover.role)) beside))
-      (of_written v a (λ (w : Written). IsRebuilderWith v a other lineage to Needed own w handover) to
-      (λ at. rebuilder_apart v a other lineage to Needed own (beside at) old) (λ apart. old)))
+      (of_written v a (λ (w : Written). IsRebuilderWith v other lineage to Needed own w handover) to
+      (λ at. rebuilder_apart v a.sound a.entry other lineage to Needed (names v a other) own (touches_call other.range a.call a.entry a.may.own ∙ beside at) old) (λ apart. old)))
 
   -- a master goes on to serve the row that it is to rebuild
   rebuilder_here : (other : Row) (lineage : List Member) (to : ℕ) → to ≡ a.master → other ≡ its_row v a → lineage_of other.phase ≡ lineage → WasRebuilder other lineage to → IsRebuilderAt (after v a) other lineage to (with_counter a.counter (v.handovers to other.tablet))
@@ -139,8 +143,8 @@ module _ (v : View) (a : Appending v) (Needed : ℕ → EntryEnd → Type 0) whe
       last_member lineage a.may.served.last to
       (ap last_of (sym is ∙ ap (λ (r : Row). lineage_of r.phase) its) ∙ a.may.served.is_last) (a.may.served.here ∙ sym at) in
       seen_after other lineage to (with_counter a.counter handover)
-      (of_written v a (λ (w : Written). IsRebuilderWith v a other lineage to Needed new w (with_counter a.counter handover)) to
-      (λ _. rebuilder_serving v a other lineage to Needed own new serves member old) (λ apart. absurd (apart at)))
+      (of_written v a (λ (w : Written). IsRebuilderWith v other lineage to Needed new w (with_counter a.counter handover)) to
+      (λ _. rebuilder_serving v a.sound a.entry other lineage to Needed (names v a other) own new a.counter serves member old) (λ apart. absurd (apart at)))
 
   -- so does one that rebuilds a row, by what was needed
   rebuilder_goes_on : (other : Row) → Contains v.rows other → (lineage : List Member) (to : ℕ) → lineage_of other.phase ≡ lineage → WasRebuilder other lineage to → IsRebuilderAt (after v a) other lineage to ((after v a).handovers to other.tablet)
@@ -150,39 +154,9 @@ module _ (v : View) (a : Appending v) (Needed : ℕ → EntryEnd → Type 0) whe
       (λ apart. rebuilder_still other lineage to (λ at. outside v a other has (apart at)) old)
 
 module _ (v : View) (a : Appending v) where
-  -- ---- what has to be read
-
-  -- what is needed of a row, where its first member has written these and its last one those
-  abbrev NeedsBy : Row → Member → Member → Written → Written → EntryEnd → Type 0
-  NeedsBy other first last these those =
-      NeedsEnd other.range (given_up_of other first.from these) (material_at other.range first.from these) last.from those
-
-  -- no more is needed where the first member may have written the entry
-  first_after : (other : Row) (first last : Member) (those : Written) (end : EntryEnd) → NeedsBy other first last ((after v a).written first.master) those end → NeedsBy other first last (v.written first.master) those end
-  first_after other first last those end =
-      let old : Written = v.written first.master in
-      let more : Written = with_one_more old a.entry in
-      of_written v a (λ (w : Written). NeedsBy other first last w those end → NeedsBy other first last old those end) first.master
-      (λ at needs.
-      needs_less other.range (given_up_of other first.from old) (material_at other.range first.from old) (material_at other.range first.from more)
-      last.from those end
-      (material_pushed other.range first.from old a.entry (names_call other.range a.call a.entry a.may.own))
-      (subst (λ (list : List Entry). NeedsEnd other.range list (material_at other.range first.from more) last.from those end)
-      (given_up_pushed other first.from old a.entry (a.sound.logs.each first.master).marked) needs))
-      (λ apart needs. needs)
-
-  -- so no more is needed of another master than the one that wrote
+  -- no more is needed of another master than the one that wrote
   pub needed_after : (other : Row) (lineage : List Member) (q : ℕ) → (q ≡ a.master → ⊥) → (end : EntryEnd) → NeededOf other (after v a).written lineage q end → NeededOf other v.written lineage q end
-  needed_after other [] q away end needed = needed
-  needed_after other (only ∷ []) q away end needed = needed
-  needed_after other (first ∷ last ∷ []) q away end needed =
-      let Needs : Written → Type 0 = λ (w : Written). NeedsBy other first last ((after v a).written first.master) w end in (
-        needed.0,
-        first_after other first last (v.written last.master) end
-            (of_written v a (λ (w : Written). Needs w → Needs (v.written last.master)) last.master
-            (λ at. absurd (away (sym needed.0 ∙ at))) (λ apart needs. needs) needed.1),
-      )
-  needed_after other (first ∷ second ∷ third ∷ more) q away end needed = needed
+  needed_after = needed_grown v.written a.master a.entry (λ q. (a.sound.logs.each q).marked)
 
   -- a master rebuilds a row, by what is needed, in a view
   abbrev RebuildsBy : (ℕ → EntryEnd → Type 0) → View → Row → List Member → ℕ → Type 0

@@ -62,7 +62,7 @@ use Rattle.rk_laws_parts.proofs.Serving.{meets_either}
 use Rattle.rk_laws_parts.proofs.Steady.{all_items_before, idle_or_staged, moving_steady, rebuilding_behind, steady_granted, steady_place, steady_wants}
 
 -- rows of other numbers do not meet
-rows_apart : (v : View) (a b : Row) → SoundView v → Contains v.rows a → Contains v.rows b → (a.tablet ≡ b.tablet → ⊥) → meets a.range b.range ≡ true → ⊥
+pub rows_apart : (v : View) (a b : Row) → SoundView v → Contains v.rows a → Contains v.rows b → (a.tablet ≡ b.tablet → ⊥) → meets a.range b.range ≡ true → ⊥
 rows_apart v a b sound first second other met =
     ⊎_elim
     (λ (is : a ≡ b). other (ap (λ (r : Row). r.tablet) is))

@@ -47,7 +47,7 @@ told_push (Some place) from list behind entry told =
 
 -- what holds of a target's own items holds with those of one more entry, if it is of the range
 module _ (range : Range) (from : ℕ) (list : List Entry) (entry : Entry) (within : from ≤ length list) where
-  own_push : (P : Held → Type 0) → All P (items_of (entries_from range from list)) → (counts range entry ≡ true → All P (items_in entry)) → All P (items_of (entries_from range from (list ++ entry ∷ [])))
+  pub own_push : (P : Held → Type 0) → All P (items_of (entries_from range from list)) → (counts range entry ≡ true → All P (items_in entry)) → All P (items_of (entries_from range from (list ++ entry ∷ [])))
   own_push P old new =
       let own : List Entry = entries_from range from list in
       let parts : entries_from range from (list ++ entry ∷ []) ≡ own ++ counting range (entry ∷ []) =

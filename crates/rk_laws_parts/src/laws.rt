@@ -14,8 +14,8 @@ ghost use Rattle.rk_types.specs.declared.lineage.Member.{Member};
 ghost use Rattle.rk_types.specs.Range.{meets};
 ghost use Rattle.rk_sound.specs.Logs.{stored_of};
 ghost use Rattle.rk_sound.specs.Changes.{MayAccept, MayAsk, MayCome, MaySave, MaySend, MayStage, MayRefuse, refused_as, MayRead, MayStore, MayTell};
-ghost use Rattle.rk_sound.specs.Moves.{MayClose, MayFreeze, MayGather, MayMigrate, MayNote, MayPass, MayResolve, MayRelease, MayOwn, MayNotice, MayReplay};
-ghost use Rattle.rk_sound.specs.Small.{batch_asked_in, call_asked_in, client_come, hash_wanted_in, hashes_resolved_in, token_passed_in, write_staged_in, message_forgotten, message_sent, record_accepted_in, request_saved, tablet_closed_in, tablet_frozen_in, place_noted_in, migration_begun_in, segment_gathered_in, refusal_staged_in, recorded_in, bytes_stored_in, tablet_released_in, length_told_in, tablet_owned_in, crash_noticed_in, item_replayed_in};
+ghost use Rattle.rk_sound.specs.Moves.{MayClose, MayFreeze, MayGather, MayMigrate, MayNote, MayPass, MayResolve, MayRelease, MayOwn, MayNotice, MayReplay, MayJoin};
+ghost use Rattle.rk_sound.specs.Small.{batch_asked_in, call_asked_in, client_come, hash_wanted_in, hashes_resolved_in, token_passed_in, write_staged_in, message_forgotten, message_sent, record_accepted_in, request_saved, tablet_closed_in, tablet_frozen_in, place_noted_in, migration_begun_in, segment_gathered_in, refusal_staged_in, recorded_in, bytes_stored_in, tablet_released_in, length_told_in, tablet_owned_in, crash_noticed_in, item_replayed_in, closing_appended_in};
 ghost use Rattle.rk_sound.specs.View.{view};
 ghost use Rattle.rk_sound.specs.Whole.{IsSound};
 ghost use Rattle.rk_world.specs.declared.ledger.LastCall.{LastCall};
@@ -60,6 +60,8 @@ pub fn small_changes_keep_lanes_sound()
         → IsSound w → MayRelease (view w) row master → IsSound (tablet_released_in w master row.tablet) }
     ensures owned { (w : World) (row : Row) (master : ℕ)
         → IsSound w → MayOwn (view w) row master → IsSound (tablet_owned_in w master row.tablet) }
+    ensures closing { (w : World) (master tablet : ℕ)
+        → IsSound w → MayJoin (view w) master tablet → IsSound (closing_appended_in w master tablet) }
     ensures noted { (w : World) (row : Row) (source sfrom target place : ℕ)
         → IsSound w → MayNote (view w) row source sfrom target place
         → IsSound (place_noted_in w row source sfrom target place) }

@@ -174,12 +174,14 @@ pub record MaySeal (v : View) (master tablet : ℕ) : Type 0 where
   pub receiving : (v.handovers master tablet).role ≡ roles.Receiving
   pub pulled : (v.pullings master tablet).token ≡ end
 
--- the closing entry of a target may be appended once every backup is known to hold what it sealed
+-- the closing entry of a target may be appended once every backup is known to hold what it sealed. The target's range has a hash: so it
+-- is where rows are added with such ranges, since a split leaves no part empty
 pub record MayJoin (v : View) (master tablet : ℕ) : Type 0 where
   pub lives : v.live master ≡ true
   pub joining : (v.handovers master tablet).role ≡ roles.Joining None
   pub room : HasSegmentLeft (v.logs master)
   pub stored : All (λ segment. is_side_stored (v.logs master) segment ≡ true) (v.pullings master tablet).sealed
+  pub some : meets (v.handovers master tablet).range (v.handovers master tablet).range ≡ true
 
 -- the entry that closes the role is applied
 abbrev pub IsClosed : Role → ℕ → Type 0

@@ -35,9 +35,11 @@ use Rattle.rk_world.specs.Notices.{notice_one}
 use Rattle.rk_world.specs.Journal.{accepted_at, next_record}
 use Rattle.rk_world.specs.declared.ledger.LastCall.{LastCall}
 use Rattle.rk_world.specs.Ledger.{with_accepted, with_asked, with_client, with_request, with_record}
+use Rattle.rk_world.specs.Waiting.{closing_appended}
 use Rattle.rk_world.specs.Written.{Written}
-use Rattle.rk_world.specs.World.{World, master_at, tablet_in, with_master, with_coordinator, with_ledger, with_stored_by, with_wire}
+use Rattle.rk_world.specs.World.{World, log_in, master_at, tablet_in, with_master, with_coordinator, with_ledger, with_stored_by, with_wire}
 use Rattle.rk_sound.specs.View.{View}
+use Rattle.rk_sound.specs.Receives.{closing_joined}
 
 -- what is kept for each number, where this is kept for one of them now
 abbrev pub put : {X : Type 0} → (ℕ → X) → ℕ → X → ℕ → X
@@ -193,6 +195,26 @@ as_serving handover = record handover { role = roles.Serving }
 abbrev pub tablet_owned_in : World → ℕ → ℕ → World
 tablet_owned_in w master tablet =
     with_master w master (tablet_owned (master_at w master) tablet (as_serving (tablet_in w master tablet).handover))
+
+-- a handover of a target whose closing entry stands at a place
+abbrev pub as_closed : ℕ → Handover → Handover
+as_closed place handover = record handover { role = roles.Joining (Some place) }
+
+-- the entry that closes the role of a target is appended to its log, and the role notes its place
+abbrev pub closed_off : View → ℕ → ℕ → View
+closed_off v master tablet =
+    let closing = closing_joined (v.handovers master tablet) (v.pullings master tablet).sealed in
+    record v {
+      logs = put v.logs master (with_entry (v.logs master) closing);
+      written = put v.written master (with_one_more (v.written master) closing);
+      handovers = put2 v.handovers master tablet (as_closed (length (v.logs master).entries) (v.handovers master tablet));
+    }
+
+abbrev pub closing_appended_in : World → ℕ → ℕ → World
+closing_appended_in w master tablet =
+    let kept = tablet_in w master tablet in
+    with_master w master
+    (closing_appended (master_at w master) tablet kept (as_closed (length (log_in w master).entries) kept.handover))
 
 -- ---- what a tablet pulls
 

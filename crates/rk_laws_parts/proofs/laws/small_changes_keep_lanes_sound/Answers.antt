@@ -13,6 +13,7 @@ use Rattle.rk_laws_parts.proofs.Closed.{sound_closed}
 use Rattle.rk_laws_parts.proofs.Frozen.{sound_frozen}
 use Rattle.rk_laws_parts.proofs.Released.{sound_released}
 use Rattle.rk_laws_parts.proofs.Owned.{sound_owned}
+use Rattle.rk_laws_parts.proofs.ClosingAppended.{sound_closing}
 use Rattle.rk_laws_parts.proofs.PlaceNoted.{sound_noted}
 use Rattle.rk_laws_parts.proofs.MigrationBegun.{sound_migrated}
 use Rattle.rk_laws_parts.proofs.CrashNoticed.{sound_crash_noticed}
@@ -63,6 +64,9 @@ returns-clause-released c = sound_released
 
 pub returns-clause-owned : goal.returns-clause-owned
 returns-clause-owned c = sound_owned
+
+pub returns-clause-closing : goal.returns-clause-closing
+returns-clause-closing c = λ w master tablet sound may. sound_closing w master tablet sound may
 
 pub returns-clause-noted : goal.returns-clause-noted
 returns-clause-noted c = sound_noted
