@@ -92,3 +92,6 @@ pub mod SmallWorldSound
 pub mod SmallWorldPlayed
 pub mod SmallWorldRoom
 pub mod Holding
+pub mod AddedRows
+pub mod Missed
+pub mod RowAdded

@@ -12,13 +12,16 @@ ghost use Rattle.rk_types.specs.declared.held.Held.{Held};
 ghost use Rattle.rk_types.specs.declared.held.Token.{Token};
 ghost use Rattle.rk_types.specs.declared.lineage.Member.{Member};
 ghost use Rattle.rk_types.specs.Range.{meets};
+ghost use Rattle.rk_types.specs.declared.range.Range.{Range};
 ghost use Rattle.rk_sound.specs.Logs.{stored_of};
 ghost use Rattle.rk_sound.specs.Changes.{MayAccept, MayAsk, MayCome, MaySave, MaySend, MayStage, MayRefuse, refused_as, MayRead, MayStore, MayTell};
-ghost use Rattle.rk_sound.specs.Moves.{MayClose, MayFreeze, MayGather, MayMigrate, MayNote, MayPass, MayResolve, MayRelease, MayOwn, MayNotice, MayReplay, MayJoin};
+ghost use Rattle.rk_sound.specs.Moves.{MayClose, MayFreeze, MayGather, MayMigrate, MayNote, MayPass, MayResolve, MayRelease, MayOwn, MayNotice, MayReplay, MayJoin, MayAdd};
 ghost use Rattle.rk_sound.specs.Small.{batch_asked_in, call_asked_in, client_come, hash_wanted_in, hashes_resolved_in, token_passed_in, write_staged_in, message_forgotten, message_sent, record_accepted_in, request_saved, tablet_closed_in, tablet_frozen_in, place_noted_in, migration_begun_in, segment_gathered_in, refusal_staged_in, recorded_in, bytes_stored_in, tablet_released_in, length_told_in, tablet_owned_in, crash_noticed_in, item_replayed_in, closing_appended_in};
 ghost use Rattle.rk_sound.specs.View.{view};
 ghost use Rattle.rk_sound.specs.Whole.{IsSound};
 ghost use Rattle.rk_world.specs.declared.ledger.LastCall.{LastCall};
+ghost use Rattle.rk_world.specs.Coordinator.{new_row};
+ghost use Rattle.rk_world.specs.Step.{tablet_added};
 ghost use Rattle.rk_world.specs.World.{World, backup_at, tablet_in, lives, log_in, new_world, written_in};
 
 /// A lane where nothing has happened is sound, with any number of masters and one backup or more.
@@ -71,6 +74,8 @@ pub fn small_changes_keep_lanes_sound()
     ensures migrated { (w : World) (row : Row) (to : ℕ)
         → IsSound w → (may : MayMigrate (view w) row to) → IsSound (migration_begun_in w row may.owner may.from to) }
     ensures noticed { (w : World) (dead : ℕ) → IsSound w → MayNotice (view w) dead → IsSound (crash_noticed_in w dead) }
+    ensures added { (w : World) (tablet : ℕ) (range : Range) (master : ℕ)
+        → IsSound w → MayAdd (view w) (new_row tablet range master) master → IsSound (tablet_added w tablet range master) }
 {}
 
 /// A sound lane stays sound when a hash is wanted first, when a batch of the wanted ones is asked for, when hashes are resolved,

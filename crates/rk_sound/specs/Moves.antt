@@ -1,7 +1,7 @@
 -- Moves: the conditions of the small changes of roles, rebuilds and rows, over views. One that takes a row says that it stands there.
-use Rattle.std.specs.Prelude.{◌≡◌, ◌≢◌, ◌≤◌, ◌<◌, ℕ, ◌+◌, Bool, true, false, List, [], ◌∷◌, ◌++◌, Option, Some, None, Contains, All, length, drop, ◌⊎◌, ◌^◌}
+use Rattle.std.specs.Prelude.{◌≡◌, ◌≢◌, ◌≤◌, ◌<◌, ℕ, ◌+◌, Bool, true, false, List, [], ◌∷◌, ◌++◌, Option, Some, None, Contains, All, IfSome, length, drop, ◌⊎◌, ◌^◌, ⊤}
 use Rattle.std.specs.List.{flat_map, list_any}
-use Rattle.rk_types.specs.NumberMap.{get}
+use Rattle.rk_types.specs.NumberMap.{EachIn, get}
 use Rattle.rk_types.specs.Range.{meets}
 use Rattle.rk_types.specs.declared.call.Ended.{Ended}
 use Rattle.rk_types.specs.declared.held.Held.{Held}
@@ -10,6 +10,7 @@ use Rattle.rk_types.specs.declared.lineage.Member.{Member}
 use Rattle.rk_types.specs.declared.range.Range.{Range}
 use Rattle.rk_outside.specs.Segments.{bytes_of as read_bytes}
 use Rattle.rk_entry.specs.declared.entry.Entry.{Entry}
+use Rattle.rk_entry.specs.declared.entry.Entry.TheVariants as entries
 use Rattle.rk_entry.specs.declared.lists.TheConstants.{FIRST_SIDE_SEGMENT}
 use Rattle.rk_log.specs.Cut.{cut}
 use Rattle.rk_log.specs.Log.{is_side_stored, known_of}
@@ -42,8 +43,8 @@ use Rattle.rk_world.specs.Written.{Written, applied_entries, member_truth}
 use Rattle.rk_world.specs.Premises.{IsMaster}
 use Rattle.rk_sound.specs.View.{View, truths}
 use Rattle.rk_sound.specs.Rows.{IsFormed}
-use Rattle.rk_sound.specs.Terms.{IsBelowOthers}
-use Rattle.rk_sound.specs.Cover.{IsWithinRows}
+use Rattle.rk_sound.specs.Terms.{IsBelowOthers, range_in}
+use Rattle.rk_sound.specs.Cover.{IsItemWithin, IsWithinRows}
 use Rattle.rk_sound.specs.Posts.{InvitedTarget, Post, StillCounts, Holds, bond_of, post_of, speaks}
 use Rattle.rk_sound.specs.Roles.{KeepTerm, RoleFits}
 use Rattle.rk_sound.specs.Handing.{is_wanting, target_truth}
@@ -295,13 +296,30 @@ pub record MayMerge (v : View) (master tablet : ℕ) (copies : List Held) (closi
 
 -- ---- rows
 
--- a row may be added for a master that lives and is there, where its number is free and it meets no other
+-- a range is not empty
+abbrev pub HasSome : Range → Type 0
+HasSome range = range.first ≤ range.last
+
+-- the range of an entry, if it has one, is not empty
+abbrev pub HasSomeIn : Entry → Type 0
+HasSomeIn (entries.Carried carried) = HasSome carried.range
+HasSomeIn (entries.Joined joined) = HasSome joined.range
+HasSomeIn entry = ⊤
+
+-- a row may be added for a master that lives and is there, where its number is free and it meets no other. An empty range may seem to
+-- meet one that has nothing of it; and the history may start with items of the new range, if none of them lies in a row. A lane that is
+-- well formed has neither: no range in it is empty, and what its history starts from lies in rows
 pub record MayAdd (v : View) (row : Row) (master : ℕ) : Type 0 where
   pub lives : v.live master ≡ true
   pub there : IsMaster v.masters master
   pub fits : add_fault v.rows row ≡ None
   pub begins : row.phase ≡ Owned master 0
   pub first_term : row.term ≡ 1
+  pub some : HasSome row.range
+  pub entries : (q : ℕ) → All HasSomeIn (v.written q).entries
+  pub tablets : (q tablet : ℕ) → 1 ≤ (v.handovers q tablet).term → HasSome (v.handovers q tablet).range
+  pub orders : EachIn (λ number message. IfSome (range_in message.body) HasSome) v.wire
+  pub base : All (IsItemWithin v.rows) v.base.items
 
 -- a row at another term and phase
 abbrev pub row_at : Row → ℕ → Phase → Row

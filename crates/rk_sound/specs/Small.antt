@@ -14,7 +14,7 @@ use Rattle.rk_log.specs.Log.{with_entry, with_told}
 use Rattle.rk_table.specs.Items.{without, with_newer}
 use Rattle.rk_transfer.specs.declared.handover.Handover.{Handover}
 use Rattle.rk_transfer.specs.declared.role.Role.TheVariants as roles
-use Rattle.rk_tablet_map.specs.Rows.{replaced}
+use Rattle.rk_tablet_map.specs.Rows.{placed, replaced}
 use Rattle.rk_tablet_map.specs.declared.row.Row.{Row}
 use Rattle.rk_priority.specs.Hashes.{Hashes, batched, got, wanting}
 use Rattle.rk_message.specs.Wire.{without_message, with_message}
@@ -30,6 +30,7 @@ use Rattle.rk_world.specs.Pulls.{hashes_resolved, item_replayed, token_passed, w
 use Rattle.rk_world.specs.Rebuilds.{segment_gathered}
 use Rattle.rk_world.specs.MasterTurn.{batch_asked}
 use Rattle.rk_world.specs.CoordinatorStep.{place_noted}
+use Rattle.rk_world.specs.Coordinator.{new_row}
 use Rattle.rk_world.specs.Migrations.{migration_begun}
 use Rattle.rk_world.specs.Notices.{notice_one}
 use Rattle.rk_world.specs.Journal.{accepted_at, next_record}
@@ -280,6 +281,17 @@ abbrev pub segment_gathered_in : World → ℕ → CopySegment → World
 segment_gathered_in w master copy = with_master w master (segment_gathered (master_at w master) copy)
 
 -- ---- rows
+
+-- a handover of a tablet that is served from the start
+abbrev pub as_added : Range → Handover
+as_added range = record { role = roles.Serving; term = 1; range = range; counter = 1 }
+
+-- a row is added, and its master serves it at once
+abbrev pub added : View → ℕ → Range → ℕ → View
+added v tablet range master = record v {
+  rows = placed (new_row tablet range master) v.rows;
+  handovers = put2 v.handovers master tablet (as_added range);
+}
 
 -- a row is turned into another one of its number and range
 abbrev pub turned : View → Row → View

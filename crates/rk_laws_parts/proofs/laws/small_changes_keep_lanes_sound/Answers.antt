@@ -18,6 +18,7 @@ use Rattle.rk_laws_parts.proofs.PlaceNoted.{sound_noted}
 use Rattle.rk_laws_parts.proofs.MigrationBegun.{sound_migrated}
 use Rattle.rk_laws_parts.proofs.CrashNoticed.{sound_crash_noticed}
 use Rattle.rk_laws_parts.proofs.Replayed.{sound_replayed}
+use Rattle.rk_laws_parts.proofs.RowAdded.{sound_added}
 use Rattle.rk_laws_parts.proofs.laws.small_changes_keep_lanes_sound.Goals as goal
 
 pub returns-clause-sent : goal.returns-clause-sent
@@ -79,3 +80,6 @@ returns-clause-migrated c = sound_migrated
 
 pub returns-clause-noticed : goal.returns-clause-noticed
 returns-clause-noticed c = λ w dead sound may. sound_crash_noticed w dead sound may
+
+pub returns-clause-added : goal.returns-clause-added
+returns-clause-added c = sound_added

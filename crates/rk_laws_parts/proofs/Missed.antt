@@ -1,0 +1,124 @@
+-- What entries that do not touch a range tell of it: nothing; and what a history leaves at a key that it has no record of.
+use Rattle.std.proofs.Common.{◌≡◌, ℕ, zero, suc, ◌≤◌, Bool, true, false, cond, ◌&&◌, ◌||◌, eqb, leb, List, [], ◌∷◌, ◌++◌, None, Some, Option, refl, ap, ◌∙◌, arith}
+use Rattle.std.specs.Prelude.{drop, take, filter, fold}
+use Rattle.std.specs.List.{All, flat_map, list_any}
+use Rattle.std.proofs.lemmas.Bool.Decides.{nat_tests}
+use Rattle.std.proofs.lemmas.List.Elements.{All-nil, All-cons, All-head, All-tail}
+use Rattle.rk_types.specs.declared.history.Placed.{Placed}
+use Rattle.rk_types.specs.declared.range.Range.{Range}
+use Rattle.rk_model.proofs.Keys.{name-swap}
+use Rattle.rk_model.specs.History.{Map, is_at, map_after, map_with, with_change}
+use Rattle.rk_model.specs.Machine.{Entry as MapEntry, change_of}
+use Rattle.rk_entry.specs.declared.entry.Entry.{Entry}
+use Rattle.rk_entry.specs.declared.entry.Entry.TheVariants as entries
+use Rattle.rk_world.specs.Marks.{is_marked, unmarked, unmarked_from}
+use Rattle.rk_world.specs.Master.{touches}
+use Rattle.rk_world.specs.Material.{counting, counts, is_joined_in, material_of, named, named_by, with_number}
+use Rattle.rk_world.specs.declared.work.Mark.{Mark}
+
+-- an entry does not touch a range
+abbrev pub Misses : Range → Entry → Type 0
+Misses range entry = touches range entry ≡ false
+
+-- so it is of parts of a log
+pub drop_missed : (range : Range) (n : ℕ) (list : List Entry) → All (Misses range) list → All (Misses range) (drop n list)
+drop_missed range zero list all = all
+drop_missed range (suc n) [] all = all
+drop_missed range (suc n) (entry ∷ list) all = drop_missed range n list (All-tail (Misses range) entry list all)
+
+pub take_missed : (range : Range) (n : ℕ) (list : List Entry) → All (Misses range) list → All (Misses range) (take n list)
+take_missed range zero list all = All-nil (Misses range)
+take_missed range (suc n) [] all = all
+take_missed range (suc n) (entry ∷ list) all =
+    All-cons (Misses range) entry (take n list) (All-head (Misses range) entry list all)
+    (take_missed range n list (All-tail (Misses range) entry list all))
+
+unmarked_missed : (range : Range) (marks : List Mark) (place : ℕ) (list : List Entry) → All (Misses range) list → All (Misses range) (unmarked marks place list)
+unmarked_missed range marks place [] all = all
+unmarked_missed range marks place (entry ∷ list) all =
+    go (is_marked marks place) (unmarked_missed range marks (suc place) list (All-tail (Misses range) entry list all))
+  where
+    go : (b : Bool) → All (Misses range) (unmarked marks (suc place) list) → All (Misses range) (cond b (unmarked marks (suc place) list) (entry ∷ unmarked marks (suc place) list))
+    go true later = later
+    go false later = All-cons (Misses range) entry (unmarked marks (suc place) list) (All-head (Misses range) entry list all) later
+
+pub from_missed : (range : Range) (marks : List Mark) (place : ℕ) (list : List Entry) → All (Misses range) list → All (Misses range) (unmarked_from marks place list)
+from_missed range marks place list all = unmarked_missed range marks place (drop place list) (drop_missed range place list all)
+
+-- none of them touches the range
+pub none_touches : (range : Range) (list : List Entry) → All (Misses range) list → list_any (touches range) list ≡ false
+none_touches range [] all = refl
+none_touches range (entry ∷ list) all =
+    go (touches range entry) (All-head (Misses range) entry list all) (none_touches range list (All-tail (Misses range) entry list all))
+  where
+    go : (b : Bool) → b ≡ false → list_any (touches range) list ≡ false → (b || list_any (touches range) list) ≡ false
+    go true is later = absurd (cc is)
+    go false is later = later
+
+-- nor counts, where the range is not empty
+not_all : (s f l t g m : ℕ) → g ≤ m → (eqb s t && leb f m && leb g l) ≡ false → (eqb s t && leb f g && leb m l) ≡ false
+not_all s f l t g m some apart = grind (arith, nat_tests)
+
+counts_none : (range : Range) (entry : Entry) → range.first ≤ range.last → Misses range entry → counts range entry ≡ false
+counts_none range (entries.Held held) some misses = misses
+counts_none range (entries.Refused refused) some misses = misses
+counts_none range (entries.Carried carried) some misses =
+    not_all carried.range.table carried.range.first carried.range.last range.table range.first range.last some misses
+counts_none range (entries.Joined joined) some misses = refl
+
+pub counting_none : (range : Range) (list : List Entry) → range.first ≤ range.last → All (Misses range) list → counting range list ≡ []
+counting_none range [] some all = refl
+counting_none range (entry ∷ list) some all =
+    go (counts range entry) (counts_none range entry some (All-head (Misses range) entry list all))
+    (counting_none range list some (All-tail (Misses range) entry list all))
+  where
+    go : (b : Bool) → b ≡ false → counting range list ≡ [] → cond b (entry ∷ counting range list) (counting range list) ≡ []
+    go true is later = absurd (cc is)
+    go false is later = later
+
+-- nor names side segments
+names_none : (range : Range) (entry : Entry) → Misses range entry → named_by range entry ≡ []
+names_none range (entries.Held held) misses = refl
+names_none range (entries.Refused refused) misses = refl
+names_none range (entries.Carried carried) misses = refl
+names_none range (entries.Joined joined) misses = ap (λ (b : Bool). cond b joined.segments []) misses
+
+all_names_none : (range : Range) (list : List Entry) → All (Misses range) list → flat_map (named_by range) list ≡ []
+all_names_none range [] all = refl
+all_names_none range (entry ∷ list) all =
+    ap (λ (l : List ℕ). l ++ flat_map (named_by range) list) (names_none range entry (All-head (Misses range) entry list all))
+    ∙ all_names_none range list (All-tail (Misses range) entry list all)
+
+pub material_none : (range : Range) (side : ℕ → List Entry) (list : List Entry) → range.first ≤ range.last → All (Misses range) list → material_of range side list ≡ []
+material_none range side list some all =
+    ap (λ (l : List Entry). l ++ counting range (flat_map side (named range list))) (counting_none range list some all)
+    ∙ ap (λ (l : List ℕ). counting range (flat_map side (fold with_number [] l))) (all_names_none range list all)
+
+-- nor joins
+joins_none : (range : Range) (entry : Entry) → Misses range entry → is_joined_in range entry ≡ false
+joins_none range (entries.Held held) misses = refl
+joins_none range (entries.Refused refused) misses = refl
+joins_none range (entries.Carried carried) misses = refl
+joins_none range (entries.Joined joined) misses = misses
+
+pub joined_none : (range : Range) (list : List Entry) → All (Misses range) list → filter (is_joined_in range) list ≡ []
+joined_none range [] all = refl
+joined_none range (entry ∷ list) all =
+    go (is_joined_in range entry) (joins_none range entry (All-head (Misses range) entry list all))
+    (joined_none range list (All-tail (Misses range) entry list all))
+  where
+    go : (b : Bool) → b ≡ false → filter (is_joined_in range) list ≡ [] → cond b (entry ∷ filter (is_joined_in range) list) (filter (is_joined_in range) list) ≡ []
+    go true is later = absurd (cc is)
+    go false is later = later
+
+-- a history leaves a key as it was that it has no record of
+pub map_elsewhere : (start : Map) (journal : List Placed) (table : ℕ) (key : List ℕ) → All (λ placed. is_at table key placed ≡ false) journal → map_after start journal table key ≡ start table key
+map_elsewhere start [] table key none = refl
+map_elsewhere start (placed ∷ journal) table key none =
+    map_elsewhere (map_with start placed) journal table key (All-tail (λ p. is_at table key p ≡ false) placed journal none)
+    ∙ step (change_of placed.call.op placed.outcome) (All-head (λ p. is_at table key p ≡ false) placed journal none)
+  where
+    step : (change : Option MapEntry) → is_at table key placed ≡ false → with_change start placed.call.table placed.call.key change table key ≡ start table key
+    step None apart = refl
+    step (Some entry) apart =
+        ap (λ (b : Bool). cond b entry (start table key)) (name-swap table placed.call.table key placed.call.key ∙ apart)
