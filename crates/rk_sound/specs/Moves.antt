@@ -175,8 +175,8 @@ pub record MaySeal (v : View) (master tablet : ℕ) : Type 0 where
   pub receiving : (v.handovers master tablet).role ≡ roles.Receiving
   pub pulled : (v.pullings master tablet).token ≡ end
 
--- the closing entry of a target may be appended once every backup is known to hold what it sealed. The target's range has a hash: so it
--- is where rows are added with such ranges, since a split leaves no part empty
+-- the closing entry of a target may be appended once every backup is known to hold what it sealed; that the range of a tablet is not
+-- empty is so in each lane that is well formed
 pub record MayJoin (v : View) (master tablet : ℕ) : Type 0 where
   pub lives : v.live master ≡ true
   pub joining : (v.handovers master tablet).role ≡ roles.Joining None
