@@ -47,10 +47,10 @@ use Rattle.rk_sound.specs.Small.{accepted, record_accepted_in}
 use Rattle.rk_laws_parts.proofs.SameRecords.{AreSameRecords, IsSameRecord, accepted_cases, accepted_same, all_records_same, has_record_same, legal_same, map_after_same, reached_same, record_after, record_before, record_of_same, records_behind, rising_same}
 
 -- a record that stands in a journal stands at a place of it
-stands_at : (journal : List Placed) (placed : Placed) → Contains journal placed → (k : ℕ) × (slice_get journal k ≡ Some placed)
+pub stands_at : (journal : List Placed) (placed : Placed) → Contains journal placed → (k : ℕ) × (slice_get journal k ≡ Some placed)
 stands_at journal placed (k, within, is) = (k, slice_get-get_or journal k placed within ∙ ap Some is)
 
-stands_there : (journal : List Placed) (k : ℕ) (placed : Placed) → slice_get journal k ≡ Some placed → Contains journal placed
+pub stands_there : (journal : List Placed) (k : ℕ) (placed : Placed) → slice_get journal k ≡ Some placed → Contains journal placed
 stands_there journal k placed at = (k, slice_get_within journal k placed at, get_or_from_slice_get journal k placed placed at)
 
 module _ (v : View) (place : ℕ) (sound : SoundView v) (may : MayAccept v place) where

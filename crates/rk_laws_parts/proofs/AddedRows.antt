@@ -12,7 +12,7 @@ use Rattle.rk_laws_parts.proofs.Apart.{contains_cases}
 use Rattle.rk_laws_parts.proofs.Lists.{all_by}
 
 -- one behind the first
-behind_first : (first : Row) (rest : List Row) (x : Row) → Contains rest x → Contains (first ∷ rest) x
+pub behind_first : (first : Row) (rest : List Row) (x : Row) → Contains rest x → Contains (first ∷ rest) x
 behind_first first rest x stands = (suc stands.0, omega (arith, stands.1), stands.2)
 
 -- what stands then is the new one, or stood before
@@ -61,7 +61,7 @@ all_with P row rows here others =
     (stood_placed row x rows stands))
 
 -- tests that are joined by "or" can be turned
-or_turned : (a b c : Bool) → (a || (b || c)) ≡ (b || (a || c))
+pub or_turned : (a b c : Bool) → (a || (b || c)) ≡ (b || (a || c))
 or_turned true true c = refl
 or_turned true false c = refl
 or_turned false b c = refl
@@ -76,7 +76,7 @@ any_placed test row (first ∷ rest) = go (nat_le row.tablet first.tablet) (any_
     go false later = ap (λ (b : Bool). test first || b) later ∙ or_turned (test first) (test row) (list_any test rest)
 
 -- whether a row is found is whether one passes the test
-found_any : (test : Row → Bool) (rows : List Row) → is_some (find test rows) ≡ list_any test rows
+pub found_any : (test : Row → Bool) (rows : List Row) → is_some (find test rows) ≡ list_any test rows
 found_any test [] = refl
 found_any test (first ∷ rest) = go (test first) (found_any test rest)
   where
@@ -91,7 +91,7 @@ known_placed row rows number =
     ∙ any_placed (λ r. eqb r.tablet number) row rows
     ∙ ap (λ (b : Bool). eqb row.tablet number || b) (sym (found_any (λ r. eqb r.tablet number) rows))
 
-or_right : (a b : Bool) → b ≡ true → (a || b) ≡ true
+pub or_right : (a b : Bool) → b ≡ true → (a || b) ≡ true
 or_right true b is = refl
 or_right false b is = is
 
@@ -104,10 +104,10 @@ covered_still row rows table hash is =
     any_placed (λ r. has r.range table hash) row rows ∙ or_right (has row.range table hash) (is_covered rows table hash) is
 
 -- a hash of a range is in none that does not meet it
-outside : (s f l t g m table hash : ℕ) → (eqb s t && leb f m && leb g l) ≡ false → (eqb s table && leb f hash && leb hash l) ≡ true → (eqb t table && leb g hash && leb hash m) ≡ false
+pub outside : (s f l t g m table hash : ℕ) → (eqb s t && leb f m && leb g l) ≡ false → (eqb s table && leb f hash && leb hash l) ≡ true → (eqb t table && leb g hash && leb hash m) ≡ false
 outside s f l t g m table hash apart inside = grind (arith, nat_tests)
 
-or_none : (a b : Bool) → (a || b) ≡ false → (a ≡ false) × (b ≡ false)
+pub or_none : (a b : Bool) → (a || b) ≡ false → (a ≡ false) × (b ≡ false)
 or_none true b is = absurd (cc is)
 or_none false b is = (refl, is)
 

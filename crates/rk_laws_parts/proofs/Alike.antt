@@ -71,11 +71,11 @@ speaks_alike FormerMember term old new alike = alike.same_serving
 speaks_alike Bystander term old new alike = alike.same_serving
 
 -- the second member of a lineage waits alike
-waits_alike : (row : Row) (handovers now : ℕ → ℕ → Handover) (member : Option Member) → AreAlike handovers now → is_waiting (second_has now row member) ≡ is_waiting (second_has handovers row member)
+pub waits_alike : (row : Row) (handovers now : ℕ → ℕ → Handover) (member : Option Member) → AreAlike handovers now → is_waiting (second_has now row member) ≡ is_waiting (second_has handovers row member)
 waits_alike row handovers now None alike = refl
 waits_alike row handovers now (Some member) alike = (alike member.master row.tablet).same_wanting
 
-waits_at_alike : (row : Row) (handovers now : ℕ → ℕ → Handover) (term : ℕ) (member : Option Member) → AreAlike handovers now → is_waiting_at (second_has now row member) term ≡ is_waiting_at (second_has handovers row member) term
+pub waits_at_alike : (row : Row) (handovers now : ℕ → ℕ → Handover) (term : ℕ) (member : Option Member) → AreAlike handovers now → is_waiting_at (second_has now row member) term ≡ is_waiting_at (second_has handovers row member) term
 waits_at_alike row handovers now term None alike = refl
 waits_at_alike row handovers now term (Some member) alike =
     λ i. (alike member.master row.tablet).same_wanting i && eqb ((alike member.master row.tablet).same_term i) term

@@ -52,7 +52,7 @@ key_outside a b table key apart inside = outside a.table a.first a.last b.table 
     outside s f l t g m table hash apart inside = grind (arith, nat_tests)
 
 -- so two ranges that do not meet have no key in common
-no_meeting : (a b : Range) (table : ℕ) (key : List ℕ) → meets a b ≡ false → has_key a table key ≡ true → has_key b table key ≡ true → ⊥
+pub no_meeting : (a b : Range) (table : ℕ) (key : List ℕ) → meets a b ≡ false → has_key a table key ≡ true → has_key b table key ≡ true → ⊥
 no_meeting a b table key apart first second =
     let e : true ≡ false = sym first ∙ key_outside a b table key apart second in absurd (cc)
 

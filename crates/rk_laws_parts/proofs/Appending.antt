@@ -52,7 +52,7 @@ truth_is base written range [] = refl
 truth_is base written range (member ∷ members) = refl
 
 -- the last member is one of the lineage
-last_stands : (members : List Member) (last : Member) → last_of members ≡ Some last → Contains members last
+pub last_stands : (members : List Member) (last : Member) → last_of members ≡ Some last → Contains members last
 last_stands [] last is = absurd (cc)
 last_stands (member ∷ []) last is = let same : member ≡ last = cc in (0, omega arith, same)
 last_stands (member ∷ next ∷ more) last is =

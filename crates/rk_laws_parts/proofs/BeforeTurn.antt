@@ -34,11 +34,11 @@ IsEarly (Owned owner from) = ⊤
 IsEarly (Opening source sfrom target None) = ⊤
 IsEarly phase = ⊥
 
-early_closes : (phase : Phase) (master : ℕ) → IsEarly phase → IsClosing phase master → ⊥
+pub early_closes : (phase : Phase) (master : ℕ) → IsEarly phase → IsClosing phase master → ⊥
 early_closes (Opening source sfrom target (Some dfrom)) master early closes = early
 early_closes _ master early closes = closes
 
-early_rebuilds : (phase : Phase) (master : ℕ) → IsEarly phase → IsOnlyRebuilder (post_of phase master) → ⊥
+pub early_rebuilds : (phase : Phase) (master : ℕ) → IsEarly phase → IsOnlyRebuilder (post_of phase master) → ⊥
 early_rebuilds (Owned owner from) master early only =
     cond_both (eqb owner master) (Owner from) Bystander (λ post. IsOnlyRebuilder post → ⊥) (λ e only. only) (λ e only. only) only
 early_rebuilds (Opening source sfrom target None) master early only =
@@ -48,11 +48,11 @@ early_rebuilds (Opening source sfrom target None) master early only =
     cond_both (eqb target master) InvitedTarget Bystander (λ post. IsOnlyRebuilder post → ⊥) (λ e only. only) (λ e only. only)) only
 early_rebuilds _ master early only = absurd early
 
-early_rebuilt : (phase : Phase) (master : ℕ) → IsEarly phase → IsRebuiltBy phase master → ⊥
+pub early_rebuilt : (phase : Phase) (master : ℕ) → IsEarly phase → IsRebuiltBy phase master → ⊥
 early_rebuilt (Rebuilding lineage to) master early by = early
 early_rebuilt _ master early by = by
 
-early_unmarked : (phase : Phase) (lineage : List Member) (to : ℕ) → IsEarly phase → phase ≡ Rebuilding lineage to → ⊥
+pub early_unmarked : (phase : Phase) (lineage : List Member) (to : ℕ) → IsEarly phase → phase ≡ Rebuilding lineage to → ⊥
 early_unmarked phase lineage to early is = subst IsEarly is early
 
 module _ (v : View) (row : Row) (term : ℕ) (phase : Phase) (sound : SoundView v) (has_row : Contains v.rows row) (early : IsEarly row.phase) where

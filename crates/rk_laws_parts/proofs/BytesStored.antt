@@ -42,17 +42,17 @@ use Rattle.rk_laws_parts.proofs.Rebuilds.{IsRebuilderIn}
 
 -- ---- bytes behind others
 
-first_part_length : (bytes whole : List ℕ) → IsFirstPart bytes whole → length bytes ≤ length whole
+pub first_part_length : (bytes whole : List ℕ) → IsFirstPart bytes whole → length bytes ≤ length whole
 first_part_length bytes whole front =
     subst (λ (all : List ℕ). length bytes ≤ length all) (sym front.parts) (omega (arith, length-append bytes front.more))
 
 -- where two have bytes together, one of them has
-appended_some : {Fact : Type 0} (front bytes : List ℕ) → (front ≢ [] → Fact) → (bytes ≢ [] → Fact) → front ++ bytes ≢ [] → Fact
+pub appended_some : {Fact : Type 0} (front bytes : List ℕ) → (front ≢ [] → Fact) → (bytes ≢ [] → Fact) → front ++ bytes ≢ [] → Fact
 appended_some front [] old new some = old (λ none. some (append-nil front ∙ none))
 appended_some front (byte ∷ bytes) old new some = new (λ none. absurd (cc))
 
 -- a segment that takes bytes has them behind its own
-part_taken : (stored : Option (List ℕ)) (bytes : List ℕ) → stored_bytes (with_part stored bytes) ≡ stored_bytes stored ++ bytes
+pub part_taken : (stored : Option (List ℕ)) (bytes : List ℕ) → stored_bytes (with_part stored bytes) ≡ stored_bytes stored ++ bytes
 part_taken stored [] = sym (append-nil (stored_bytes stored))
 part_taken stored (byte ∷ bytes) = refl
 
@@ -86,12 +86,12 @@ module _ (Needed : EntryEnd → Type 0) (known : Known) (stored stored' : ℕ �
 -- ---- more is stored of each segment
 
 -- backups store more, or as much
-abbrev StoresMore : (ℕ → Segments) → (ℕ → Segments) → Type 0
+abbrev pub StoresMore : (ℕ → Segments) → (ℕ → Segments) → Type 0
 StoresMore stored stored' =
     (master backup segment : ℕ) → IsFirstPart (stored_of stored master backup segment) (stored_of stored' master backup segment)
 
 -- no fewer first entries are stored then
-count_more : (log : Log) (stored stored' : ℕ → List ℕ) → ((segment : ℕ) → IsFirstPart (stored segment) (stored' segment)) → stored_count log stored ≤ stored_count log stored'
+pub count_more : (log : Log) (stored stored' : ℕ → List ℕ) → ((segment : ℕ) → IsFirstPart (stored segment) (stored' segment)) → stored_count log stored ≤ stored_count log stored'
 count_more log stored stored' more =
     prefix_len_weaker (λ (end : EntryEnd). nat_le end.offset (length (stored end.segment)))
     (λ (end : EntryEnd). nat_le end.offset (length (stored' end.segment))) (ends log.entries)

@@ -47,21 +47,21 @@ use Rattle.rk_laws_parts.proofs.Rebuilds.{needed_after, rebuilds_after}
 use Rattle.rk_laws_parts.proofs.Rest.{rest_after}
 
 -- an entry of a call that counts for a row lies in rows
-within_rows : (rows : List Row) (row : Row) (call : Call) (entry : Entry) → IsEntryOf call entry → Contains rows row → counts row.range entry ≡ true → IsEntryWithin rows entry
+pub within_rows : (rows : List Row) (row : Row) (call : Call) (entry : Entry) → IsEntryOf call entry → Contains rows row → counts row.range entry ≡ true → IsEntryWithin rows entry
 within_rows rows row call (entries.Held held) own stands has = covered_by rows row held.table (hash_of held.key) stands has
 within_rows rows row call (entries.Refused refused) own stands has = covered_by rows row refused.table (hash_of refused.key) stands has
 within_rows rows row call (entries.Carried carried) own stands has = absurd own
 within_rows rows row call (entries.Joined joined) own stands has = absurd own
 
 -- and nothing is asked of it as of a Carried or a Joined
-whole_rows : (rows : List Row) (call : Call) (entry : Entry) → IsEntryOf call entry → IsOfWholeRows rows entry
+pub whole_rows : (rows : List Row) (call : Call) (entry : Entry) → IsEntryOf call entry → IsOfWholeRows rows entry
 whole_rows rows call (entries.Held held) own = tt
 whole_rows rows call (entries.Refused refused) own = tt
 whole_rows rows call (entries.Carried carried) own = absurd own
 whole_rows rows call (entries.Joined joined) own = absurd own
 
 -- behind the rest of a row stands an item that is above all that counts for it, or none
-above_pushed : (truth rest : List Entry) (call : Call) (entry : Entry) → IsEntryOf call entry → All (λ item. IsNext (truth ++ rest) item.version) (items_in entry) → AreAbove (items_of truth) (items_of rest) → AreAbove (items_of truth) (items_of (rest ++ entry ∷ []))
+pub above_pushed : (truth rest : List Entry) (call : Call) (entry : Entry) → IsEntryOf call entry → All (λ item. IsNext (truth ++ rest) item.version) (items_in entry) → AreAbove (items_of truth) (items_of rest) → AreAbove (items_of truth) (items_of (rest ++ entry ∷ []))
 above_pushed truth rest call (entries.Held held) own low above =
     subst (AreAbove (items_of truth)) (sym (items_push rest held))
     (above_push (items_of truth) (items_of rest) held above

@@ -40,7 +40,7 @@ use Rattle.rk_laws_parts.proofs.Lists.{all_in}
 use Rattle.rk_laws_parts.proofs.Put.{put_by, put_is, put_other}
 
 -- an accepted mutation has its record
-recorded_there : (journal : List Placed) (call : Call) (client seq : ℕ) → IsAccepted journal call → is_mutation call.op ≡ true → call.client ≡ client → call.seq ≡ seq → has_record journal client seq ≡ true
+pub recorded_there : (journal : List Placed) (call : Call) (client seq : ℕ) → IsAccepted journal call → is_mutation call.op ≡ true → call.client ≡ client → call.seq ≡ seq → has_record journal client seq ≡ true
 recorded_there journal call client seq accepted mutation client_is seq_is =
     let placed : Placed = accepted.placed in
     let stands = accepted.stands in
@@ -260,13 +260,13 @@ module _ (v : View) (client : ℕ) (last : LastCall) (sound : SoundView v) (may 
   }
 
 -- a ledger where a client asked a call has it, and what other clients asked
-asked_put : (ledger : Ledger) (client : ℕ) (last : LastCall) (q : ℕ) → asked_by (with_asked ledger client last) q ≡ put (asked_by ledger) client (Some last) q
+pub asked_put : (ledger : Ledger) (client : ℕ) (last : LastCall) (q : ℕ) → asked_by (with_asked ledger client last) q ≡ put (asked_by ledger) client (Some last) q
 asked_put ledger client last q =
     put_is (asked_by ledger) client (Some last) q (asked_by (with_asked ledger client last) q)
     (λ is. ap (λ (kept : Option (Option LastCall)). unwrap_or kept None) (get_same ledger.clients client (Some last) q is))
     (λ apart. ap (λ (kept : Option (Option LastCall)). unwrap_or kept None) (get_other ledger.clients client (Some last) q apart))
 
-view_is : (w : World) (client : ℕ) (last : LastCall) → view (call_asked_in w client last) ≡ call_asked (view w) client last
+pub view_is : (w : World) (client : ℕ) (last : LastCall) → view (call_asked_in w client last) ≡ call_asked (view w) client last
 view_is w client last i = record (view w) { asked = λ q. asked_put w.ledger client last q i }
 
 pub sound_asked : (w : World) (client : ℕ) (last : LastCall) → IsSound w → MayAsk (view w) client last → IsSound (call_asked_in w client last)

@@ -29,34 +29,34 @@ use Rattle.rk_laws_parts.proofs.Views.{view_taken}
 
 -- ---- roles that may close
 
-closing_present : (role : Role) → role_closed role ≡ Some roles.Closing → is_absent role ≡ false
+pub closing_present : (role : Role) → role_closed role ≡ Some roles.Closing → is_absent role ≡ false
 closing_present roles.Absent closes = absurd (cc)
 closing_present role closes = refl
 
-closing_wants : (role : Role) → role_closed role ≡ Some roles.Closing → is_wanting role ≡ false
+pub closing_wants : (role : Role) → role_closed role ≡ Some roles.Closing → is_wanting role ≡ false
 closing_wants (roles.Wanting from) closes = absurd (cc)
 closing_wants role closes = refl
 
-closing_frozen : (role : Role) → role_closed role ≡ Some roles.Closing → role ≡ roles.Frozen → ⊥
+pub closing_frozen : (role : Role) → role_closed role ≡ Some roles.Closing → role ≡ roles.Frozen → ⊥
 closing_frozen role closes frozen =
     let none : Some roles.Closing ≡ None = sym closes ∙ ap role_closed frozen in absurd (cc none)
 
 -- ---- who may close
 
 -- a lineage has one member, which is this master
-record IsAlone (lineage : List Member) (master : ℕ) : Type 0 where
+pub record IsAlone (lineage : List Member) (master : ℕ) : Type 0 where
   pub only : Member
   pub lineage_is : lineage ≡ only ∷ []
   pub member : is_member lineage master ≡ true
 
 -- what a post that closes at a term says of it
-record Closes (post : Post) (term own applied : ℕ) : Type 0 where
+pub record Closes (post : Post) (term own applied : ℕ) : Type 0 where
   pub owner : IsOwner post own term
   pub fits : Holds (bond_of post roles.Closing) term own applied
   pub says : (old : Handover) → speaks post (as_closing own old) term ≡ true → speaks post old term ≡ true
 
 -- a source that is asked to close
-source_alone : (phase : Phase) (master : ℕ) → IsClosing phase master → IsAlone (lineage_of phase) master × (post_of phase master ≡ OpeningSource)
+pub source_alone : (phase : Phase) (master : ℕ) → IsClosing phase master → IsAlone (lineage_of phase) master × (post_of phase master ≡ OpeningSource)
 source_alone (Opening source sfrom target (Some dfrom)) master is = (
   record { only = _; lineage_is = refl; member = or_left (source == master) false (eq-eqb source master is) },
   cond-true (eqb source master) OpeningSource (cond (eqb target master) (target_post (Some dfrom)) Bystander) (eq-eqb source master is),
@@ -66,11 +66,11 @@ source_alone (Owned owner from) master is = absurd is
 source_alone (Moving source sfrom target dfrom) master is = absurd is
 source_alone (Rebuilding lineage to) master is = absurd is
 
-source_closes : (term own applied : ℕ) → own ≡ term → Closes OpeningSource term own applied
+pub source_closes : (term own applied : ℕ) → own ≡ term → Closes OpeningSource term own applied
 source_closes term own applied same = record { owner = tt; fits = same; says = λ old closing. refl }
 
 -- a master that is to rebuild what was its alone
-heir_alone : (lineage : List Member) (master : ℕ) → IsOnlyRebuilder (rebuilder_post lineage master) → IsAlone lineage master
+pub heir_alone : (lineage : List Member) (master : ℕ) → IsOnlyRebuilder (rebuilder_post lineage master) → IsAlone lineage master
 heir_alone [] master heir = absurd heir
 heir_alone (only ∷ []) master heir =
     cond_both (only.master == master) (OnlyRebuilder only.from) OutsideRebuilder (λ post. IsOnlyRebuilder post → IsAlone (only ∷ []) master)
@@ -82,7 +82,7 @@ heir_alone (first ∷ last ∷ more) master heir =
     (λ e. cond_both (last.master == master) (LastRebuilder last.from) OutsideRebuilder (λ post. IsOnlyRebuilder post → ⊥) (λ e here. here) (λ e here. here))
     heir)
 
-rebuilder_alone : (phase : Phase) (master : ℕ) → IsOnlyRebuilder (post_of phase master) → IsAlone (lineage_of phase) master
+pub rebuilder_alone : (phase : Phase) (master : ℕ) → IsOnlyRebuilder (post_of phase master) → IsAlone (lineage_of phase) master
 rebuilder_alone (Owned owner from) master heir =
     absurd (cond_both (owner == master) (Owner from) Bystander (λ post. IsOnlyRebuilder post → ⊥) (λ e here. here) (λ e here. here) heir)
 rebuilder_alone (Opening source sfrom target None) master heir =
@@ -103,7 +103,7 @@ rebuilder_alone (Rebuilding lineage to) master heir =
     (λ e. cond_both (is_member lineage master) FormerMember Bystander (λ post. IsOnlyRebuilder post → IsAlone lineage master)
     (λ e here. absurd here) (λ e here. absurd here)) heir
 
-rebuilder_closes : (post : Post) (term own applied : ℕ) → IsOnlyRebuilder post → own < term → Closes post term own applied
+pub rebuilder_closes : (post : Post) (term own applied : ℕ) → IsOnlyRebuilder post → own < term → Closes post term own applied
 rebuilder_closes (OnlyRebuilder place) term own applied heir below = record {
   owner = below;
   fits = below;

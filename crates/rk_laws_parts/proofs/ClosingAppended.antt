@@ -90,7 +90,7 @@ use Rattle.rk_laws_parts.proofs.Targets.{AreBelow, bare_pushed, own_push, target
 use Rattle.rk_laws_parts.proofs.Terms.{terms_looks}
 
 -- a post that takes a target that joins takes it with its closing entry too
-fits_closed : (post : Post) (term own applied place : ℕ) → Holds (bond_of post (roles.Joining None)) term own applied → Holds (bond_of post (roles.Joining (Some place))) term own applied
+pub fits_closed : (post : Post) (term own applied place : ℕ) → Holds (bond_of post (roles.Joining None)) term own applied → Holds (bond_of post (roles.Joining (Some place))) term own applied
 fits_closed (Owner from) term own applied place holds = absurd holds
 fits_closed OpeningSource term own applied place holds = absurd holds
 fits_closed InvitedTarget term own applied place holds = absurd holds
@@ -105,7 +105,7 @@ fits_closed FormerMember term own applied place holds = absurd holds
 fits_closed Bystander term own applied place holds = absurd holds
 
 -- so it goes on as it was
-closed_goes_on : (place : ℕ) → GoesOn (roles.Joining None) (roles.Joining (Some place))
+pub closed_goes_on : (place : ℕ) → GoesOn (roles.Joining None) (roles.Joining (Some place))
 closed_goes_on place = record {
   absent = refl;
   wanting = refl;
@@ -835,7 +835,7 @@ module _ (v : View) (row : Row) (master : ℕ) (sound : SoundView v) (has_row : 
       (subst (λ (rests : Row → List Entry). SoundParts now (truths v) rests) (sym rests_same) parts)
 
 -- what the change makes of a view
-closed_off_is : (w : World) (master number : ℕ) → view (closing_appended_in w master number) ≡ closed_off (view w) master number
+pub closed_off_is : (w : World) (master number : ℕ) → view (closing_appended_in w master number) ≡ closed_off (view w) master number
 closed_off_is w master number =
     let kept = tablet_in w master number in
     let handover : Handover = as_closed (length (log_in w master).entries) kept.handover in

@@ -12,7 +12,7 @@ use Rattle.rk_sound.specs.Changes.{MayCome}
 use Rattle.rk_sound.specs.Small.{client_come}
 
 -- a client that comes has asked nothing, and had asked nothing
-asked_same : (ledger : Ledger) (client : ℕ) → asked_by ledger client ≡ None → (q : ℕ) → asked_by (with_client ledger client) q ≡ asked_by ledger q
+pub asked_same : (ledger : Ledger) (client : ℕ) → asked_by ledger client ≡ None → (q : ℕ) → asked_by (with_client ledger client) q ≡ asked_by ledger q
 asked_same ledger client new q =
     ⊎_elim
     (λ (is : q ≡ client).
@@ -21,7 +21,7 @@ asked_same ledger client new q =
     (λ (apart : q ≡ client → ⊥). ap (λ (kept : Option (Option LastCall)). unwrap_or kept None) (get_other ledger.clients client None q apart))
     (cases_eq q client)
 
-view_come : (w : World) (client : ℕ) → asked_by w.ledger client ≡ None → view (client_come w client) ≡ view w
+pub view_come : (w : World) (client : ℕ) → asked_by w.ledger client ≡ None → view (client_come w client) ≡ view w
 view_come w client new i = record (view w) { asked = λ q. asked_same w.ledger client new q i }
 
 pub sound_come : (w : World) (client : ℕ) → IsSound w → MayCome (view w) client → IsSound (client_come w client)

@@ -36,14 +36,14 @@ use Rattle.rk_laws_parts.proofs.RowTurned.{view_turned}
 
 -- ---- a phase and its members
 
-formed_apart : (phase : Phase) → IsFormed phase → AreApart (lineage_of phase)
+pub formed_apart : (phase : Phase) → IsFormed phase → AreApart (lineage_of phase)
 formed_apart (Owned master from) formed = tt
 formed_apart (Opening source sfrom target dfrom) formed = tt
 formed_apart (Moving source sfrom target dfrom) formed = formed
 formed_apart (Rebuilding lineage to) formed = formed
 
 -- a row names its members
-names_members : (phase : Phase) (q : ℕ) → is_member (lineage_of phase) q ≡ true → names phase q ≡ true
+pub names_members : (phase : Phase) (q : ℕ) → is_member (lineage_of phase) q ≡ true → names phase q ≡ true
 names_members (Owned master from) q inside =
     ⊎_elim (λ (e : eqb master q ≡ true). e) (λ (e : false ≡ true). absurd (false≢true e)) (or_cases (eqb master q) false inside)
 names_members (Opening source sfrom target dfrom) q inside =
@@ -60,7 +60,7 @@ names_members (Rebuilding lineage to) q inside = or_right (eqb to q) (is_member 
 -- ---- a row is turned
 
 -- a row passes on to a master that is there
-record Passes (v : View) (dead : ℕ) (phase new : Phase) : Type 0 where
+pub record Passes (v : View) (dead : ℕ) (phase new : Phase) : Type 0 where
   to : ℕ
   is : new ≡ rebuilding phase to
   there : IsMaster v.masters to
@@ -171,7 +171,7 @@ module _ (v : View) (row : Row) (dead : ℕ) (sound : SoundView v) (crashed : v.
 -- ---- rows, one by one
 
 -- what is replaced stands in the same place
-replaced_there : (before after : List Row) (row new : Row) → IsTabletMap (before ++ row ∷ after) → replaced row.tablet new (before ++ row ∷ after) ≡ before ++ new ∷ after
+pub replaced_there : (before after : List Row) (row new : Row) → IsTabletMap (before ++ row ∷ after) → replaced row.tablet new (before ++ row ∷ after) ≡ before ++ new ∷ after
 replaced_there [] after row new apart =
     cond-true (eqb row.tablet row.tablet) (new ∷ after) (row ∷ replaced row.tablet new after) (eq-eqb row.tablet row.tablet refl)
 replaced_there (first ∷ before) after row new apart =
@@ -184,12 +184,12 @@ replaced_there (first ∷ before) after row new apart =
     ∙ ap (λ (rest : List Row). first ∷ rest) (replaced_there before after row new apart.1)
 
 -- a row may stand at the end of the first part, or at the beginning of the second
-one_further : (before after : List Row) (row : Row) → (before ++ row ∷ []) ++ after ≡ before ++ row ∷ after
+pub one_further : (before after : List Row) (row : Row) → (before ++ row ∷ []) ++ after ≡ before ++ row ∷ after
 one_further [] after row = refl
 one_further (first ∷ before) after row = ap (λ (rest : List Row). first ∷ rest) (one_further before after row)
 
 -- what follows from either answer of a test, where it has one
-some_by : (b : Bool) (phase new : Phase) (other : Option Phase) (P : Type 0) → cond b (Some phase) other ≡ Some new → (b ≡ true → new ≡ phase → P) → (other ≡ Some new → P) → P
+pub some_by : (b : Bool) (phase new : Phase) (other : Option Phase) (P : Type 0) → cond b (Some phase) other ≡ Some new → (b ≡ true → new ≡ phase → P) → (other ≡ Some new → P) → P
 some_by true phase new other P is here there = let same : new ≡ phase = cc is in here refl same
 some_by false phase new other P is here there = there is
 

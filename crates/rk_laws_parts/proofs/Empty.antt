@@ -26,11 +26,11 @@ use Rattle.rk_sound.specs.Whole.{NodesOf, TermsOf, CoverOf, RolesOf, LogsOf, Tru
 use Rattle.rk_laws_parts.proofs.Fresh.{each_fresh, there_fresh, each_backup_fresh}
 
 -- nothing is kept
-nothing_kept : {X : Type 0} (Fits : ℕ → X → Type 0) → EachIn Fits []
+pub nothing_kept : {X : Type 0} (Fits : ℕ → X → Type 0) → EachIn Fits []
 nothing_kept Fits number thing e = absurd (cc)
 
 -- an absent tablet is not another
-not_absent : (tablet : Tablet) → tablet ≡ no_tablet → is_absent tablet.handover.role ≡ false → ⊥
+pub not_absent : (tablet : Tablet) → tablet ≡ no_tablet → is_absent tablet.handover.role ≡ false → ⊥
 not_absent tablet is apart =
     let e : true ≡ false = sym (ap (λ (t : Tablet). is_absent t.handover.role) is) ∙ apart in absurd (cc)
 
@@ -40,11 +40,11 @@ unfolding IsStrictlySortedBy
 in_order_none = tt
 
 -- of so many numbers there are so many
-length_numbers : (start count : ℕ) → length (range_with_len start count) ≡ count
+pub length_numbers : (start count : ℕ) → length (range_with_len start count) ≡ count
 length_numbers start zero = refl
 length_numbers start (suc count) = let e = length_numbers (start + 1) count in omega (arith, e)
 
-length_with : {X : Type 0} (thing : ℕ → X) (numbers : List ℕ) → length {A = ℕ × X} (map (λ number. (number, thing number)) numbers) ≡ length numbers
+pub length_with : {X : Type 0} (thing : ℕ → X) (numbers : List ℕ) → length {A = ℕ × X} (map (λ number. (number, thing number)) numbers) ≡ length numbers
 length_with {X} thing [] = refl
 length_with {X} thing (n ∷ numbers) = ap (λ (k : ℕ). suc k) (length_with thing numbers)
 
@@ -53,7 +53,7 @@ length_replicated zero thing = refl
 length_replicated (suc count) thing = ap (λ (k : ℕ). suc k) (length_replicated count thing)
 
 -- a new log, of which nothing is known, with what was written to it and a backup that stores nothing
-log_empty : (known : List Known) (stored : ℕ → ℕ → List ℕ) → ((place : ℕ) → get_or known place nothing ≡ nothing) → ((backup segment : ℕ) → stored backup segment ≡ []) → IsLog (new_log known) (written_by (new_master 0 known) []) stored
+pub log_empty : (known : List Known) (stored : ℕ → ℕ → List ℕ) → ((place : ℕ) → get_or known place nothing ≡ nothing) → ((backup segment : ℕ) → stored backup segment ≡ []) → IsLog (new_log known) (written_by (new_master 0 known) []) stored
 log_empty known stored nothing_known nothing_stored = record {
   entries_are = refl;
   held = omega arith;

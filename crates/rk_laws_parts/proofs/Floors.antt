@@ -13,14 +13,14 @@ use Rattle.rk_world.specs.Merge.{floor_by, floor_of}
 use Rattle.rk_sound.specs.Counters.{IsNext}
 
 -- a floor does not fall with an entry
-floor_step : (floor : ℕ) (entry : Entry) → floor ≤ floor_by floor entry
+pub floor_step : (floor : ℕ) (entry : Entry) → floor ≤ floor_by floor entry
 floor_step floor (entries.Held held) = omega arith
 floor_step floor (entries.Refused refused) = omega arith
 floor_step floor (entries.Carried carried) = omega arith
 floor_step floor (entries.Joined joined) = omega arith
 
 -- nor with several
-floor_rises : (floor : ℕ) (list : List Entry) → floor ≤ fold floor_by floor list
+pub floor_rises : (floor : ℕ) (list : List Entry) → floor ≤ fold floor_by floor list
 floor_rises floor [] = omega arith
 floor_rises floor (entry ∷ list) =
     let step = floor_step floor entry in
@@ -28,7 +28,7 @@ floor_rises floor (entry ∷ list) =
     omega (arith, step, rest)
 
 -- from a floor on, it is above each version
-above_from : (floor : ℕ) (list : List Entry) (item : Held) → Contains (items_of list) item → item.version < fold floor_by floor list
+pub above_from : (floor : ℕ) (list : List Entry) (item : Held) → Contains (items_of list) item → item.version < fold floor_by floor list
 above_from floor [] item at = absurd (none_stands item at)
 above_from floor (entries.Held held ∷ list) item at =
     ⊎_elim
@@ -51,7 +51,7 @@ floor_append floor [] more = floor_rises floor more
 floor_append floor (entry ∷ list) more = floor_append (floor_by floor entry) list more
 
 -- one more item at the end raises it above the item's version
-floor_push : (list : List Entry) (item : Held) → floor_of (list ++ entries.Held item ∷ []) ≡ max (floor_of list) (item.version + 1)
+pub floor_push : (list : List Entry) (item : Held) → floor_of (list ++ entries.Held item ∷ []) ≡ max (floor_of list) (item.version + 1)
 floor_push list item = fold-append floor_by 1 list (entries.Held item ∷ [])
 
 -- so one more item that took the next number as its version has the one after it behind it

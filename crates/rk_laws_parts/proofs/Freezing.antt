@@ -11,7 +11,7 @@ use Rattle.rk_world.specs.Lineage.{is_member}
 use Rattle.rk_sound.specs.Posts.{Owner, OpeningSource, MovingSource, MovingTarget, OnlyRebuilder, FirstRebuilder, LastRebuilder, OutsideRebuilder, FormerMember, Bystander, rebuilder_post, target_post, post_of, bond_of, Holds}
 
 -- the heir of a lineage that closes is its only member
-heir_closes : (lineage : List Member) (master term own applied : ℕ) → Holds (bond_of (rebuilder_post lineage master) roles.Closing) term own applied → is_member lineage master ≡ true
+pub heir_closes : (lineage : List Member) (master term own applied : ℕ) → Holds (bond_of (rebuilder_post lineage master) roles.Closing) term own applied → is_member lineage master ≡ true
 heir_closes [] master term own applied holds = absurd holds
 heir_closes (only ∷ []) master term own applied holds = go (only.master == master) refl holds
   where

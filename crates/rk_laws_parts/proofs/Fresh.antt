@@ -16,16 +16,16 @@ abbrev pub with_numbers : {X : Type 0} → (ℕ → X) → List ℕ → NumberMa
 with_numbers thing numbers = map (λ number. (number, thing number)) numbers
 
 -- what is first in such a table is found where the number is its own
-found_first : {X : Type 0} (thing : ℕ → X) (n : ℕ) (numbers : List ℕ) (q : ℕ) → get (with_numbers thing (n ∷ numbers)) q ≡ cond (eqb q n) (Some (thing n)) (get (with_numbers thing numbers) q)
+pub found_first : {X : Type 0} (thing : ℕ → X) (n : ℕ) (numbers : List ℕ) (q : ℕ) → get (with_numbers thing (n ∷ numbers)) q ≡ cond (eqb q n) (Some (thing n)) (get (with_numbers thing numbers) q)
 found_first thing n numbers q =
     ap (λ (b : Bool). cond b (Some (thing n)) (get (with_numbers thing numbers) q)) (unsigned_tied q n)
 
-found_here : {X : Type 0} (thing : ℕ → X) (n : ℕ) (numbers : List ℕ) (q : ℕ) → q ≡ n → get (with_numbers thing (n ∷ numbers)) q ≡ Some (thing q)
+pub found_here : {X : Type 0} (thing : ℕ → X) (n : ℕ) (numbers : List ℕ) (q : ℕ) → q ≡ n → get (with_numbers thing (n ∷ numbers)) q ≡ Some (thing q)
 found_here thing n numbers q is =
     found_first thing n numbers q ∙ cond-true (eqb q n) (Some (thing n)) (get (with_numbers thing numbers) q) (eq-eqb q n is)
     ∙ ap (λ (k : ℕ). Some (thing k)) (sym is)
 
-found_behind : {X : Type 0} (thing : ℕ → X) (n : ℕ) (numbers : List ℕ) (q : ℕ) → (q ≡ n → ⊥) → get (with_numbers thing (n ∷ numbers)) q ≡ get (with_numbers thing numbers) q
+pub found_behind : {X : Type 0} (thing : ℕ → X) (n : ℕ) (numbers : List ℕ) (q : ℕ) → (q ≡ n → ⊥) → get (with_numbers thing (n ∷ numbers)) q ≡ get (with_numbers thing numbers) q
 found_behind thing n numbers q apart =
     found_first thing n numbers q ∙ cond-false (eqb q n) (Some (thing n)) (get (with_numbers thing numbers) q) (ne_eqb q n apart)
 
@@ -42,7 +42,7 @@ found_numbered {X} thing (n ∷ numbers) q =
     (found_numbered thing numbers q))
     (cases_eq q n)
 
-above : (a b : ℕ) → a ≤ b → (b ≡ a → ⊥) → a + 1 ≤ b
+pub above : (a b : ℕ) → a ≤ b → (b ≡ a → ⊥) → a + 1 ≤ b
 above a b low apart =
     ⊎_elim (λ (h : a < b). omega (arith, h)) (λ (h : b ≤ a). absurd (apart (omega (arith, low, h)))) (cases_lt a b)
 
@@ -63,7 +63,7 @@ pub record IsFresh (number : ℕ) (master : Master) : Type 0 where
   pub nothing_known : (place : ℕ) → get_or known place nothing ≡ nothing
   pub is_new : master ≡ new_master number known
 
-nothing_in : (count place : ℕ) → get_or (replicate count nothing) place nothing ≡ nothing
+pub nothing_in : (count place : ℕ) → get_or (replicate count nothing) place nothing ≡ nothing
 nothing_in zero place = refl
 nothing_in (suc count) zero = refl
 nothing_in (suc count) (suc place) = nothing_in count place

@@ -28,7 +28,7 @@ use Rattle.rk_laws_parts.proofs.Serving.{found_stands}
 use Rattle.rk_laws_parts.proofs.Views.{view_taken}
 
 -- a post that takes a role that closes takes a frozen one at the same terms
-fits_frozen : (post : Post) (term own applied : ℕ) → Holds (bond_of post roles.Closing) term own applied → Holds (bond_of post roles.Frozen) term own applied
+pub fits_frozen : (post : Post) (term own applied : ℕ) → Holds (bond_of post roles.Closing) term own applied → Holds (bond_of post roles.Frozen) term own applied
 fits_frozen (Owner place) term own applied holds = holds
 fits_frozen OpeningSource term own applied holds = holds
 fits_frozen InvitedTarget term own applied holds = absurd holds
@@ -89,7 +89,7 @@ module _ (v : View) (row : Row) (master : ℕ) (sound : SoundView v) (has_row : 
   }
 
 -- the tablet is that of a row
-frozen_of_row : (w : World) (row : Row) (master : ℕ) → IsSound w → Contains (view w).rows row → MayFreeze (view w) master row.tablet → IsSound (tablet_frozen_in w master row.tablet)
+pub frozen_of_row : (w : World) (row : Row) (master : ℕ) → IsSound w → Contains (view w).rows row → MayFreeze (view w) master row.tablet → IsSound (tablet_frozen_in w master row.tablet)
 frozen_of_row w row master sound has may =
     let v : View = view w in
     let new : Handover = as_frozen (v.handovers master row.tablet) in

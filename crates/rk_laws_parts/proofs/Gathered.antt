@@ -31,20 +31,20 @@ AllApart [] = ⊤
 AllApart (member ∷ others) = IsAway member.master others × AllApart others
 
 -- those of a lineage are
-lineage_apart : (lineage : List Member) → AreApart lineage → AllApart lineage
+pub lineage_apart : (lineage : List Member) → AreApart lineage → AllApart lineage
 lineage_apart [] apart = tt
 lineage_apart (only ∷ []) apart = (tt, tt)
 lineage_apart (first ∷ last ∷ []) apart = ((λ same. apart (sym same), tt), (tt, tt))
 lineage_apart (first ∷ second ∷ third ∷ more) apart = absurd apart
 
-away_kept : (keep : Member → Bool) (master : ℕ) (members : List Member) → IsAway master members → IsAway master (filter keep members)
+pub away_kept : (keep : Member → Bool) (master : ℕ) (members : List Member) → IsAway master members → IsAway master (filter keep members)
 away_kept keep master [] away = tt
 away_kept keep master (member ∷ others) away =
     let later = away_kept keep master others away.1 in
     cond_both (keep member) (member ∷ filter keep others) (filter keep others) (IsAway master) (λ e. (away.0, later)) (λ e. later)
 
 -- and so are those of them that are kept
-kept_apart : (keep : Member → Bool) (members : List Member) → AllApart members → AllApart (filter keep members)
+pub kept_apart : (keep : Member → Bool) (members : List Member) → AllApart members → AllApart (filter keep members)
 kept_apart keep [] apart = tt
 kept_apart keep (member ∷ others) apart =
     let later = kept_apart keep others apart.1 in
@@ -58,7 +58,7 @@ read_apart lineage keep members apart is = subst AllApart (sym is) (kept_apart k
 -- ---- one member
 
 -- a member stays the one that it is
-with_main_member : (gathered : Gathered) (bytes : Option (List ℕ)) → (with_main gathered bytes).member ≡ gathered.member
+pub with_main_member : (gathered : Gathered) (bytes : Option (List ℕ)) → (with_main gathered bytes).member ≡ gathered.member
 with_main_member gathered None = refl
 with_main_member gathered (Some bytes) = refl
 
@@ -156,7 +156,7 @@ module _ (Needed : EntryEnd → Type 0) (known : Known) (stored : ℕ → List �
 -- ---- all members
 
 -- there is something, or nothing
-optional : {X : Type 0} (found : Option X) → (found ≡ None) ⊎ ((x : X) × (found ≡ Some x))
+pub optional : {X : Type 0} (found : Option X) → (found ≡ None) ⊎ ((x : X) × (found ≡ Some x))
 optional None = inl refl
 optional (Some x) = inr (x, refl)
 

@@ -26,7 +26,7 @@ use Rattle.rk_laws_parts.proofs.Put.{put2_by}
 use Rattle.rk_laws_parts.proofs.Rebuilds.{IsRebuilderIn}
 
 -- a master that gathers has merged nothing
-gathering_merged : (role : Role) → is_gathering role ≡ true → merged_place role ≡ None
+pub gathering_merged : (role : Role) → is_gathering role ≡ true → merged_place role ≡ None
 gathering_merged (roles.Rebuilding from entry) gathers = gathering_place from entry gathers
   where
     gathering_place : (from : ℕ) (entry : Option ℕ) → is_gathering (roles.Rebuilding from entry) ≡ true → entry ≡ None

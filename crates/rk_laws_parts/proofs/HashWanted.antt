@@ -10,13 +10,13 @@ use Rattle.rk_laws_parts.proofs.Views.{view_pulled}
 use Rattle.rk_laws_parts.proofs.PullingChanges.{none_arrives, view_goes_on}
 
 -- a hash that is wanted resolves none
-wanting_resolves : (hashes : Hashes) (hash : ℕ) → (wanting hashes hash).resolved ≡ hashes.resolved
+pub wanting_resolves : (hashes : Hashes) (hash : ℕ) → (wanting hashes hash).resolved ≡ hashes.resolved
 wanting_resolves hashes hash =
     cond_both (is_known hashes hash) hashes (record hashes { wanted = hashes.wanted ++ hash ∷ [] })
     (λ now. now.resolved ≡ hashes.resolved) (λ known. refl) (λ new. refl)
 
 -- nor does a batch that is asked for
-batch_resolves : (hashes : Hashes) (batch : List ℕ) → (batched_by hashes batch).resolved ≡ hashes.resolved
+pub batch_resolves : (hashes : Hashes) (batch : List ℕ) → (batched_by hashes batch).resolved ≡ hashes.resolved
 batch_resolves hashes [] = refl
 batch_resolves hashes (hash ∷ more) = refl
 

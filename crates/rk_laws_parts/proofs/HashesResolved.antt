@@ -23,17 +23,17 @@ use Rattle.rk_laws_parts.proofs.Views.{view_pulled}
 use Rattle.rk_laws_parts.proofs.PullingChanges.{of_one_row, view_goes_on}
 
 -- one of two tests passes
-either : (a b : Bool) → (a || b) ≡ true → (a ≡ true) ⊎ (b ≡ true)
+pub either : (a b : Bool) → (a || b) ≡ true → (a ≡ true) ⊎ (b ≡ true)
 either true b holds = inl refl
 either false b holds = inr holds
 
 -- the outstanding batch is just what is given, where the test says so
-batch_is : (outstanding given : List ℕ) → is_batch outstanding given ≡ true → outstanding ≡ given
+pub batch_is : (outstanding given : List ℕ) → is_batch outstanding given ≡ true → outstanding ≡ given
 batch_is [] given same = absurd (cc)
 batch_is (hash ∷ more) given same = let decides = bytes_eq-Decides (hash ∷ more) given in decides.0 same
 
 -- a hash that is resolved now was so, or is one of those that came
-resolved_cases : (hashes : Hashes) (given : List ℕ) (hash : ℕ) → contains (got hashes given).resolved hash ≡ true → (contains hashes.resolved hash ≡ true) ⊎ (contains given hash ≡ true)
+pub resolved_cases : (hashes : Hashes) (given : List ℕ) (hash : ℕ) → contains (got hashes given).resolved hash ≡ true → (contains hashes.resolved hash ≡ true) ⊎ (contains given hash ≡ true)
 resolved_cases hashes given hash = go (is_batch hashes.outstanding given) refl
   where
     go : (b : Bool) → is_batch hashes.outstanding given ≡ b → contains (cond b (record { resolved = hashes.resolved ++ hashes.outstanding; outstanding = []; wanted = hashes.wanted }) hashes).resolved hash ≡ true → (contains hashes.resolved hash ≡ true) ⊎ (contains given hash ≡ true)
@@ -61,7 +61,7 @@ passes {X} p (y ∷ ys) x stands holds =
     go false kept = kept
 
 -- an item stands among those that have given hashes, where its own is one of these
-of_hashes : (items : List Held) (given : List ℕ) (item : Held) → Contains items item → contains given (item_hash item) ≡ true → Contains (flat_map (λ hash. at_hash hash items) given) item
+pub of_hashes : (items : List Held) (given : List ℕ) (item : Held) → Contains items item → contains given (item_hash item) ≡ true → Contains (flat_map (λ hash. at_hash hash items) given) item
 of_hashes items [] item stands has = absurd (cc)
 of_hashes items (hash ∷ more) item stands has =
     ⊎_elim
@@ -74,7 +74,7 @@ of_hashes items (hash ∷ more) item stands has =
     (of_hashes items more item stands later))
     (either (eqb hash (item_hash item)) (contains more (item_hash item)) has)
 
-goes_on : (v : View) (row : Row) (source target : Member) (hashes : List ℕ) → MayResolve v row source target hashes → GoesOn v row source target (resolving hashes (v.pullings target.master row.tablet))
+pub goes_on : (v : View) (row : Row) (source target : Member) (hashes : List ℕ) → MayResolve v row source target hashes → GoesOn v row source target (resolving hashes (v.pullings target.master row.tablet))
 goes_on v row source target hashes may = record {
   at_end = λ joins had. had.at_end;
   arrived = λ item stands arrives.

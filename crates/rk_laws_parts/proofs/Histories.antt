@@ -45,14 +45,14 @@ abbrev pub record_for : Call → Outcome → Placed
 record_for call outcome = record { call = call; outcome = outcome; stamp = 0; accepted = false }
 
 -- the records that ends will make, with one more
-records_push : (asked : ℕ → Option LastCall) (list : List Ended) (end : Ended) (last : LastCall) (call : Call) → asked end.client ≡ Some last → last.call ≡ call → records_of asked (list ++ end ∷ []) ≡ records_of asked list ++ record_for call (outcome_of end.end) ∷ []
+pub records_push : (asked : ℕ → Option LastCall) (list : List Ended) (end : Ended) (last : LastCall) (call : Call) → asked end.client ≡ Some last → last.call ≡ call → records_of asked (list ++ end ∷ []) ≡ records_of asked list ++ record_for call (outcome_of end.end) ∷ []
 records_push asked list end last call kept same =
     flat_map-append (λ end. record_of_last end (asked end.client)) list (end ∷ [])
     ∙ ap (λ (o : Option LastCall). records_of asked list ++ (record_of_last end o ++ [])) kept
     ∙ ap (λ (c : Call). records_of asked list ++ record_for c (outcome_of end.end) ∷ []) same
 
 -- the map has of an item that was put what the item is
-record_put : (item : Held) (value : Option (List ℕ)) → item.value ≡ value → record_of (Some item) ≡ map_record_of (map_entry_of item value)
+pub record_put : (item : Held) (value : Option (List ℕ)) → item.value ≡ value → record_of (Some item) ≡ map_record_of (map_entry_of item value)
 record_put item None is = ap (λ (o : Option (List ℕ)). record_of (Some (record item { value = o }))) is
 record_put item (Some value) is = ap (λ (o : Option (List ℕ)). record_of (Some (record item { value = o }))) is
 
@@ -96,7 +96,7 @@ module _ (start : Map) (journal records : List Placed) (call : Call) (outcome : 
       ∙ map_after-append start (journal ++ records) (record_for call outcome ∷ [])
 
 -- the items of truth and rest, with one more entry behind
-items_pushed : (truth rest : List Entry) (entry : Entry) → items_of (truth ++ (rest ++ entry ∷ [])) ≡ items_of (truth ++ rest) ++ items_in entry
+pub items_pushed : (truth rest : List Entry) (entry : Entry) → items_of (truth ++ (rest ++ entry ∷ [])) ≡ items_of (truth ++ rest) ++ items_in entry
 items_pushed truth rest entry =
     ap items_of (sym (append_assoc truth rest (entry ∷ [])))
     ∙ flat_map-append items_in (truth ++ rest) (entry ∷ [])

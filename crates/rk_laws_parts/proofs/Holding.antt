@@ -11,7 +11,7 @@ use Rattle.rk_world.specs.Written.{Written}
 use Rattle.rk_sound.specs.Logs.{IsLog}
 
 -- what is known to be stored is stored
-told_stored : (known : Known) (stored : ℕ → List ℕ) → ((segment : ℕ) → known_length known segment ≤ length (stored segment)) → (found : Option EntryEnd) → IfSome found (λ end. end.offset ≤ known_length known end.segment) → IfSome found (λ end. end.offset ≤ length (stored end.segment))
+pub told_stored : (known : Known) (stored : ℕ → List ℕ) → ((segment : ℕ) → known_length known segment ≤ length (stored segment)) → (found : Option EntryEnd) → IfSome found (λ end. end.offset ≤ known_length known end.segment) → IfSome found (λ end. end.offset ≤ length (stored end.segment))
 told_stored known stored told None holds = tt
 told_stored known stored told (Some end) holds = omega (arith, holds, told end.segment)
 

@@ -38,13 +38,13 @@ AreIn range items = All (IsIn range) items
 
 -- ---- items of what counts for a range
 
-entry_in : (range : Range) (entry : Entry) → counts range entry ≡ true → AreIn range (items_in entry)
+pub entry_in : (range : Range) (entry : Entry) → counts range entry ≡ true → AreIn range (items_in entry)
 entry_in range (entries.Held held) counted = All-cons (IsIn range) held [] counted (All-nil (IsIn range))
 entry_in range (entries.Refused refused) counted = All-nil (IsIn range)
 entry_in range (entries.Carried carried) counted = All-nil (IsIn range)
 entry_in range (entries.Joined joined) counted = All-nil (IsIn range)
 
-entries_in : (range : Range) (list : List Entry) → All (λ entry. counts range entry ≡ true) list → AreIn range (items_of list)
+pub entries_in : (range : Range) (list : List Entry) → All (λ entry. counts range entry ≡ true) list → AreIn range (items_of list)
 entries_in range [] counted = All-nil (IsIn range)
 entries_in range (entry ∷ list) counted =
     All-append (IsIn range) (items_in entry) (items_of list)
@@ -55,7 +55,7 @@ entries_in range (entry ∷ list) counted =
 pub target_in : (range : Range) (from : ℕ) (list : List Entry) → AreIn range (items_of (entries_from range from list))
 target_in range from list = entries_in range (counting range (drop from list)) (filter_passes (counts range) (drop from list))
 
-material_in : (range : Range) (side : ℕ → List Entry) (list : List Entry) → AreIn range (items_of (material_of range side list))
+pub material_in : (range : Range) (side : ℕ → List Entry) (list : List Entry) → AreIn range (items_of (material_of range side list))
 material_in range side list =
     entries_in range (material_of range side list)
     (All-append (λ entry. counts range entry ≡ true) (counting range list) (counting range (flat_map side (named range list)))
@@ -73,7 +73,7 @@ applied_in range from w = material_in range (side_entries w.sides) (drop from (a
 
 -- ---- items in scan order
 
-newest_in : (range : Range) (items : List Held) → AreIn range items → AreIn range (newest_items items)
+pub newest_in : (range : Range) (items : List Held) → AreIn range items → AreIn range (newest_items items)
 newest_in range items all =
     All-weaker (Contains (newest_items items)) (IsIn range)
     (λ item stands.
@@ -81,7 +81,7 @@ newest_in range items all =
     (newest_is items item.table item.key item (((newest_items_are items).newest item).0 stands)).stands)
     (newest_items items) (All-contains_itself (newest_items items))
 
-with_in : (range : Range) (item : Held) (items : List Held) → is_in range item ≡ true → AreIn range items → AreIn range (with_item item items)
+pub with_in : (range : Range) (item : Held) (items : List Held) → is_in range item ≡ true → AreIn range items → AreIn range (with_item item items)
 with_in range item items inside all =
     let before : List Held = filter (λ other. is_before other item) items in
     let behind : List Held = filter (λ other. is_before item other) items in
@@ -90,7 +90,7 @@ with_in range item items inside all =
     (All-cons (IsIn range) item behind inside
     (All-filter (λ other. is_before item other) (IsIn range) items all))
 
-ordered_in : (range : Range) (items done : List Held) → AreIn range items → AreIn range done → AreIn range (fold (λ found item. with_item item found) done items)
+pub ordered_in : (range : Range) (items done : List Held) → AreIn range items → AreIn range done → AreIn range (fold (λ found item. with_item item found) done items)
 ordered_in range [] done all found = found
 ordered_in range (item ∷ items) done all found =
     ordered_in range items (with_item item done) (All-tail (IsIn range) item items all)
@@ -111,11 +111,11 @@ stood range items item left =
     (All-filter (λ held. not (is_in range held)) (Contains items) items (All-contains_itself items)) left
 
 -- so where none passed a test, none does now
-neither : (a b : Bool) → (a || b) ≡ false → b ≡ false
+pub neither : (a b : Bool) → (a || b) ≡ false → b ≡ false
 neither true b none = absurd (cc)
 neither false b none = none
 
-nor : (a b c : Bool) → (a || b) ≡ false → c ≡ false → (a || c) ≡ false
+pub nor : (a b c : Bool) → (a || b) ≡ false → c ≡ false → (a || c) ≡ false
 nor true b c none later = absurd (cc)
 nor false b c none later = later
 
@@ -128,7 +128,7 @@ none_left test keep (item ∷ items) none = go (keep item) (none_left test keep 
     go false later = later
 
 -- whether an item is in a range is told by its key
-in_by_key : (range : Range) (item other : Held) → is_of item.table item.key other ≡ true → is_in range other ≡ is_in range item
+pub in_by_key : (range : Range) (item other : Held) → is_of item.table item.key other ≡ true → is_in range other ≡ is_in range item
 in_by_key range item other same =
     let both = and_parts _ _ same in
     let table : other.table ≡ item.table = eqb-true _ _ both.0 in

@@ -68,7 +68,7 @@ module _ (P : Entry → Type 0) (range : Range) (marks : List Mark) where
       at_place from (drop from list) found.0 entry all found.1 (ap (is_marked marks) found.2 ∙ free) inside
 
 -- the rest of a lineage is that of its last member
-lineage_last : (written : ℕ → Written) (range : Range) (members : List Member) (last : Member) → last_of members ≡ Some last → lineage_rest written range members ≡ member_rest written range last
+pub lineage_last : (written : ℕ → Written) (range : Range) (members : List Member) (last : Member) → last_of members ≡ Some last → lineage_rest written range members ≡ member_rest written range last
 lineage_last written range [] last is = absurd (cc is)
 lineage_last written range (only ∷ []) last is = let same : only ≡ last = cc is in ap (member_rest written range) same
 lineage_last written range (first ∷ next ∷ more) last is = lineage_last written range (next ∷ more) last is

@@ -45,7 +45,7 @@ use Rattle.rk_laws_parts.proofs.Steady.{rebuilding_behind}
 -- ---- who has all items of a tablet
 
 -- an heir that has them is of the lineage
-heir_has_all : (lineage : List Member) (master term : ℕ) (handover : Handover) → has_all_items (rebuilder_post lineage master) handover term ≡ true → is_member lineage master ≡ true
+pub heir_has_all : (lineage : List Member) (master term : ℕ) (handover : Handover) → has_all_items (rebuilder_post lineage master) handover term ≡ true → is_member lineage master ≡ true
 heir_has_all [] master term handover has = absurd (cc)
 heir_has_all (only ∷ []) master term handover has = go (only.master == master) refl has
   where
@@ -60,7 +60,7 @@ heir_has_all (first ∷ last ∷ more) master term handover has = go (first.mast
     go false false is has = absurd (cc)
 
 -- and so is each master that has them
-has_all_member : (phase : Phase) (master term : ℕ) (handover : Handover) → has_all_items (post_of phase master) handover term ≡ true → is_member (lineage_of phase) master ≡ true
+pub has_all_member : (phase : Phase) (master term : ℕ) (handover : Handover) → has_all_items (post_of phase master) handover term ≡ true → is_member (lineage_of phase) master ≡ true
 has_all_member (Owned owner from) master term handover has = go (owner == master) refl has
   where
     go : (b : Bool) → (owner == master) ≡ b → has_all_items (if b then Owner from else Bystander) handover term ≡ true → is_member (lineage_of (Owned owner from)) master ≡ true
@@ -87,7 +87,7 @@ has_all_member (Rebuilding lineage to) master term handover has = go (to == mast
     go false false has = absurd (cc)
 
 -- none of them is absent
-absent_has_none : (post : Post) (handover : Handover) (term applied : ℕ) → has_all_items post handover term ≡ true → Holds (bond_of post roles.Absent) term handover.term applied → ⊥
+pub absent_has_none : (post : Post) (handover : Handover) (term applied : ℕ) → has_all_items post handover term ≡ true → Holds (bond_of post roles.Absent) term handover.term applied → ⊥
 absent_has_none (Owner place) handover term applied has holds = holds
 absent_has_none OpeningSource handover term applied has holds = holds
 absent_has_none MovingSource handover term applied has holds = holds
@@ -101,11 +101,11 @@ absent_has_none OutsideRebuilder handover term applied has holds = absurd (cc)
 absent_has_none FormerMember handover term applied has holds = absurd (cc)
 absent_has_none Bystander handover term applied has holds = absurd (cc)
 
-not_absent : (role : Role) → (role ≡ roles.Absent → ⊥) → is_absent role ≡ false
+pub not_absent : (role : Role) → (role ≡ roles.Absent → ⊥) → is_absent role ≡ false
 not_absent roles.Absent none = absurd (none refl)
 not_absent role none = refl
 
-granted_present : (role : Role) → is_granted role ≡ true → is_absent role ≡ false
+pub granted_present : (role : Role) → is_granted role ≡ true → is_absent role ≡ false
 granted_present roles.Absent granted = absurd (cc)
 granted_present role granted = refl
 

@@ -72,7 +72,7 @@ module _ (item : Held) where
       Contains-append_right items (all_of (with_one lists place)) item (one_stands lists place (omega (arith, within)))
 
 -- what a target copied that pulls
-copied_are : (role : Role) (pulling : Pulling) (sides : List (List Held)) → role ≡ roles.Receiving → copied_items role pulling sides ≡ flat_map (λ items. items) pulling.sides
+pub copied_are : (role : Role) (pulling : Pulling) (sides : List (List Held)) → role ≡ roles.Receiving → copied_items role pulling sides ≡ flat_map (λ items. items) pulling.sides
 copied_are role pulling sides is = ap (λ (r : Role). copied_items r pulling sides) is
 
 -- ---- targets

@@ -36,7 +36,7 @@ pub record IsSecond (phase : Phase) (master term own : ℕ) : Type 0 where
   pub behind : (lineage : List Member) → phase ≡ Rebuilding lineage master → own < term
 
 -- two numbers differ where a test says so
-differ : (a b : ℕ) → (a == b) ≡ false → a ≡ b → ⊥
+pub differ : (a b : ℕ) → (a == b) ≡ false → a ≡ b → ⊥
 differ a b other same = false≢true (sym other ∙ eq-eqb a b same)
 
 module _ (master term own applied : ℕ) where
@@ -132,7 +132,7 @@ stands_kept {X} p (y ∷ xs) x at passes =
     (contains_cases y xs x at))
 
 -- an item among some to which others were put is one of either
-put_cases : (some others : List Held) (item : Held) → Contains (fold (λ items new. with_item new items) some others) item → Contains some item ⊎ Contains others item
+pub put_cases : (some others : List Held) (item : Held) → Contains (fold (λ items new. with_item new items) some others) item → Contains some item ⊎ Contains others item
 put_cases some [] item at = inl at
 put_cases some (new ∷ others) item at =
     ⊎_elim

@@ -8,18 +8,18 @@ use Rattle.rk_world.specs.Coordinator.{Coordinator, is_noticed, lowest_left}
 use Rattle.rk_world.specs.Premises.{IsMaster}
 
 -- a number within a range
-record IsBetween (start count number : ℕ) : Type 0 where
+pub record IsBetween (start count number : ℕ) : Type 0 where
   first : start ≤ number
   before : number < start + count
 
 -- a number that passes is not one that fails
-passes_apart : (test : ℕ → Bool) (number other : ℕ) → test number ≡ true → test other ≡ false → number ≡ other → ⊥
+pub passes_apart : (test : ℕ → Bool) (number other : ℕ) → test number ≡ true → test other ≡ false → number ≡ other → ⊥
 passes_apart test number other passes fails same =
     let both : true ≡ false = sym passes ∙ ap test same ∙ fails in
     absurd (cc both)
 
 -- the first number of a range that passes, where some number there passes, is within it
-first_between : (test : ℕ → Bool) (start count number : ℕ) → IsBetween start count number → test number ≡ true → IsBetween start count (unwrap_or (find test (range_with_len start count)) 0)
+pub first_between : (test : ℕ → Bool) (start count number : ℕ) → IsBetween start count number → test number ≡ true → IsBetween start count (unwrap_or (find test (range_with_len start count)) 0)
 first_between test start zero number within passes = absurd (omega (arith, within.first, within.before))
 first_between test start (suc count) number within passes =
     go (test start) refl

@@ -150,7 +150,7 @@ module _ (log : Log) (backup segment size : ℕ) (numbered : IsBackup log backup
 -- ---- who is read
 
 -- what holds of the members of what is gathered
-members_by : (P : Member → Type 0) (members : List Gathered) → All P (map (λ gathered. gathered.member) members) → All (λ gathered. P gathered.member) members
+pub members_by : (P : Member → Type 0) (members : List Gathered) → All P (map (λ gathered. gathered.member) members) → All (λ gathered. P gathered.member) members
 members_by P [] all = All-nil _
 members_by P (gathered ∷ members) all =
     let others : List Member = map (λ g. g.member) members in
@@ -158,7 +158,7 @@ members_by P (gathered ∷ members) all =
     (members_by P members (All-tail P gathered.member others all))
 
 -- each member of a lineage is one
-each_member : (lineage : List Member) → All (λ member. is_member lineage member.master ≡ true) lineage
+pub each_member : (lineage : List Member) → All (λ member. is_member lineage member.master ≡ true) lineage
 each_member lineage k d within =
     let member : Member = slice_index_or lineage k d in
     list_any_at (λ (other : Member). other.master == member.master) lineage k d within (eq-eqb member.master member.master refl)
@@ -352,7 +352,7 @@ module _ (v : View) (master backup segment size : ℕ) (sound : SoundView v) (ma
   }
 
 -- what a told length makes of a view: the log alone is seen, whatever tablet is named
-told_is : (w : World) (master backup segment size : ℕ) → view (length_told_in w master backup segment size) ≡ length_told (view w) master backup segment size
+pub told_is : (w : World) (master backup segment size : ℕ) → view (length_told_in w master backup segment size) ≡ length_told (view w) master backup segment size
 told_is w master backup segment size =
     view_master w master (with_known (master_at w master) backup segment size) 0 (tablet_in w master 0) refl refl (λ r apart. refl)
     ∙ (λ i. record (length_told (view w) master backup segment size) {

@@ -41,17 +41,17 @@ first_part_more a b c first next = record {
 }
 
 -- bytes behind others are none where all are
-none_behind : (before bytes behind : List ℕ) → before ++ (bytes ++ behind) ≡ [] → bytes ≡ []
+pub none_behind : (before bytes behind : List ℕ) → before ++ (bytes ++ behind) ≡ [] → bytes ≡ []
 none_behind [] [] behind none = refl
 none_behind [] (x ∷ bytes) behind none = absurd (cc)
 none_behind (x ∷ before) bytes behind none = absurd (cc)
 
 -- what is known of the segments before one that has bytes is known then
-known_before_grown : (old new : Log) (known : Known) (later : ℕ) → Grows old new → bytes_of old later ≢ [] → IsKnownBefore old known later → IsKnownBefore new known later
+pub known_before_grown : (old new : Log) (known : Known) (later : ℕ) → Grows old new → bytes_of old later ≢ [] → IsKnownBefore old known later → IsKnownBefore new known later
 known_before_grown old new known later grows filled before segment less sort =
     omega (arith, before segment less sort, ap length (grows.full segment later less sort filled))
 
-copy_grown : (old new : Log) (stored : ℕ → List ℕ) (known : Known) → Grows old new → IsCopy old stored known → IsCopy new stored known
+pub copy_grown : (old new : Log) (stored : ℕ → List ℕ) (known : Known) → Grows old new → IsCopy old stored known → IsCopy new stored known
 copy_grown old new stored known grows copy = record {
   front = λ segment. first_part_more (stored segment) (bytes_of old segment) (bytes_of new segment) (copy.front segment) (grows.front segment);
   in_order = λ segment some.
@@ -61,7 +61,7 @@ copy_grown old new stored known grows copy = record {
   told = copy.told;
 }
 
-piece_grown : (old new : Log) (known : Known) (append : Append) → Grows old new → IsFromLog old known append → IsFromLog new known append
+pub piece_grown : (old new : Log) (known : Known) (append : Append) → Grows old new → IsFromLog old known append → IsFromLog new known append
 piece_grown old new known append grows piece =
     let more : List ℕ = (grows.front append.segment).more in
     record {
@@ -80,7 +80,7 @@ piece_grown old new known append grows piece =
     }
 
 -- one more entry, which names only side segments that every backup is known to hold
-log_grown : (log : Log) (written : Written) (stored : ℕ → ℕ → List ℕ) (entry : Entry) → Grows log (with_entry log entry) → AreStored log entry → IsLog log written stored → IsLog (with_entry log entry) (with_one_more written entry) stored
+pub log_grown : (log : Log) (written : Written) (stored : ℕ → ℕ → List ℕ) (entry : Entry) → Grows log (with_entry log entry) → AreStored log entry → IsLog log written stored → IsLog (with_entry log entry) (with_one_more written entry) stored
 log_grown log written stored entry grows held old = record {
   entries_are = ap (λ (list : List Entry). list ++ entry ∷ []) old.entries_are;
   held = omega (arith, old.held, committed_entry log entry);

@@ -32,7 +32,7 @@ use Rattle.rk_laws_parts.proofs.TurnedRows.{behind_first}
 -- ---- places
 
 -- what stands behind a place stands at its own
-place_of : {X : Type 0} (xs : List X) (from k place : ℕ) (x : X) → from + k ≡ place → slice_get (drop from xs) k ≡ Some x → slice_get xs place ≡ Some x
+pub place_of : {X : Type 0} (xs : List X) (from k place : ℕ) (x : X) → from + k ≡ place → slice_get (drop from xs) k ≡ Some x → slice_get xs place ≡ Some x
 place_of xs zero k place x is at =
     let same : k ≡ place = omega (arith, is) in subst (λ (n : ℕ). slice_get xs n ≡ Some x) same at
 place_of [] (suc from) k place x is at = absurd (cc at)
@@ -40,14 +40,14 @@ place_of (y ∷ xs) (suc from) k zero x is at = absurd (omega (arith, is))
 place_of (y ∷ xs) (suc from) k (suc place) x is at = place_of xs from k place x (omega (arith, is)) at
 
 -- what stands at one of the first places is of the first part
-taken : {X : Type 0} (xs : List X) (n k : ℕ) (x : X) → k < n → slice_get xs k ≡ Some x → Contains (take n xs) x
+pub taken : {X : Type 0} (xs : List X) (n k : ℕ) (x : X) → k < n → slice_get xs k ≡ Some x → Contains (take n xs) x
 taken [] n k x less at = absurd (cc at)
 taken (y ∷ xs) zero k x less at = absurd (omega (arith, less))
 taken (y ∷ xs) (suc n) zero x less at = let same : y ≡ x = cc at in (0, omega arith, same)
 taken (y ∷ xs) (suc n) (suc k) x less at = behind_first y (take n xs) x (taken xs n k x (omega (arith, less)) at)
 
 -- what stands within a piece is of it
-in_piece : {X : Type 0} (xs : List X) (first past place : ℕ) (x : X) → first ≤ place → place < past → slice_get xs place ≡ Some x → Contains (take (past - first) (drop first xs)) x
+pub in_piece : {X : Type 0} (xs : List X) (first past place : ℕ) (x : X) → first ≤ place → place < past → slice_get xs place ≡ Some x → Contains (take (past - first) (drop first xs)) x
 in_piece xs first past place x behind before at =
     let found = behind_at xs first place x behind at in
     let is : first + found.0 ≡ place = found.2 in
@@ -56,14 +56,14 @@ in_piece xs first past place x behind before at =
 -- ---- ranges
 
 -- a range that does not meet one that is not empty does not have all of it
-not_all : (a b : Range) → meets a b ≡ false → b.first ≤ b.last → has_all a b ≡ false
+pub not_all : (a b : Range) → meets a b ≡ false → b.first ≤ b.last → has_all a b ≡ false
 not_all a b apart some = go a.table a.first a.last b.table b.first b.last apart some
   where
     go : (s f l t g m : ℕ) → (eqb s t && leb f m && leb g l) ≡ false → g ≤ m → (eqb s t && leb f g && leb m l) ≡ false
     go s f l t g m apart some = grind (arith, nat_tests)
 
 -- an entry of a rebuild of another range does not count
-entry_apart : (a b : Range) → meets a b ≡ false → meets b a ≡ false → b.first ≤ b.last → (entry : Entry) → IsOfRange a entry → counts b entry ≡ false
+pub entry_apart : (a b : Range) → meets a b ≡ false → meets b a ≡ false → b.first ≤ b.last → (entry : Entry) → IsOfRange a entry → counts b entry ≡ false
 entry_apart a b apart back some (entries.Held held) of = key_outside b a held.table held.key back of
 entry_apart a b apart back some (entries.Refused refused) of = absurd of
 entry_apart a b apart back some (entries.Carried carried) of =
@@ -71,13 +71,13 @@ entry_apart a b apart back some (entries.Carried carried) of =
 entry_apart a b apart back some (entries.Joined joined) of = absurd of
 
 -- ranges that do not meet do not the other way round
-apart_either : (a b : Range) → meets a b ≡ false → meets b a ≡ false
+pub apart_either : (a b : Range) → meets a b ≡ false → meets b a ≡ false
 apart_either a b apart =
     ⊎_elim (λ (e : meets b a ≡ true). absurd (false≢true (sym apart ∙ meets_either b a e))) (λ (e : meets b a ≡ false). e)
     (cases_Bool (meets b a))
 
 -- where no marked entry counts, nothing does of what is marked
-none_counted : (range : Range) (marks : List Mark) (list : List Entry) (place : ℕ) → ((k : ℕ) (entry : Entry) → slice_get list k ≡ Some entry → is_marked marks (place + k) ≡ true → counts range entry ≡ false) → counting range (marked_entries marks place list) ≡ []
+pub none_counted : (range : Range) (marks : List Mark) (list : List Entry) (place : ℕ) → ((k : ℕ) (entry : Entry) → slice_get list k ≡ Some entry → is_marked marks (place + k) ≡ true → counts range entry ≡ false) → counting range (marked_entries marks place list) ≡ []
 none_counted range marks [] place none = refl
 none_counted range marks (entry ∷ list) place none =
     let more : List Entry = marked_entries marks (suc place) list in
@@ -96,17 +96,17 @@ none_counted range marks (entry ∷ list) place none =
 
 -- ---- nothing tells no more than any entries
 
-floor_rises : (floor : ℕ) (entry : Entry) → floor ≤ floor_by floor entry
+pub floor_rises : (floor : ℕ) (entry : Entry) → floor ≤ floor_by floor entry
 floor_rises floor (entries.Held held) = omega arith
 floor_rises floor (entries.Refused refused) = omega arith
 floor_rises floor (entries.Carried carried) = omega arith
 floor_rises floor (entries.Joined joined) = omega arith
 
-floor_from : (floor : ℕ) (list : List Entry) → floor ≤ fold floor_by floor list
+pub floor_from : (floor : ℕ) (list : List Entry) → floor ≤ fold floor_by floor list
 floor_from floor [] = omega arith
 floor_from floor (entry ∷ list) = omega (arith, floor_rises floor entry, floor_from (floor_by floor entry) list)
 
-none_tells : (others : List Entry) → TellNoMore [] others
+pub none_tells : (others : List Entry) → TellNoMore [] others
 none_tells others = record {
   items = λ item at. absurd (omega (arith, at.1));
   ends = All-nil (Contains (told others));

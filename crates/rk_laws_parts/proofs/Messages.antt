@@ -58,7 +58,7 @@ by_master node Fits Gives gives fits = fits
 
 -- ---- orders
 
-prepare_looks : (row : Row) (old new : Handover) (live : Bool) (master : ℕ) (prepare : Prepare) → LooksAs old new → PrepareFits row old live master prepare → PrepareFits row new live master prepare
+pub prepare_looks : (row : Row) (old new : Handover) (live : Bool) (master : ℕ) (prepare : Prepare) → LooksAs old new → PrepareFits row old live master prepare → PrepareFits row new live master prepare
 prepare_looks row old new live master prepare looks fits = record {
   range = fits.range;
   invited = λ is lives below. fits.invited is lives (subst (λ (term : ℕ). term < row.term) looks.term below);
@@ -66,20 +66,20 @@ prepare_looks row old new live master prepare looks fits = record {
       subst (λ (term : ℕ). prepare.tenure.term ≤ term) (sym looks.term) (fits.members asks lives member);
 }
 
-close_looks : (row : Row) (old new : Handover) (live : Bool) (master : ℕ) (tenure : Tenure) → LooksAs old new → CloseFits row old live master tenure → CloseFits row new live master tenure
+pub close_looks : (row : Row) (old new : Handover) (live : Bool) (master : ℕ) (tenure : Tenure) → LooksAs old new → CloseFits row old live master tenure → CloseFits row new live master tenure
 close_looks row old new live master tenure looks fits = record {
   source = fits.source;
   may_follow = λ same lives below. fits.may_follow same lives (subst (λ (term : ℕ). term < tenure.term) looks.term below);
 }
 
-rebuild_looks : (row : Row) (old new : Handover) (live : Bool) (master : ℕ) (rebuild : Rebuild) → LooksAs old new → RebuildFits row old live master rebuild → RebuildFits row new live master rebuild
+pub rebuild_looks : (row : Row) (old new : Handover) (live : Bool) (master : ℕ) (rebuild : Rebuild) → LooksAs old new → RebuildFits row old live master rebuild → RebuildFits row new live master rebuild
 rebuild_looks row old new live master rebuild looks fits = record {
   range = fits.range;
   lineage = fits.lineage;
   ordered = λ same lives below. fits.ordered same lives (subst (λ (term : ℕ). term < rebuild.tenure.term) looks.term below);
 }
 
-own_looks : (row : Row) (old new : Handover) (live : Bool) (master : ℕ) (tenure : Tenure) → LooksAs old new → OwnFits row old live master tenure → OwnFits row new live master tenure
+pub own_looks : (row : Row) (old new : Handover) (live : Bool) (master : ℕ) (tenure : Tenure) → LooksAs old new → OwnFits row old live master tenure → OwnFits row new live master tenure
 own_looks row old new live master tenure looks fits = record {
   owned = fits.owned;
   reached = λ same lives. subst (λ (term : ℕ). tenure.term ≤ term) (sym looks.term) (fits.reached same lives);
@@ -88,7 +88,7 @@ own_looks row old new live master tenure looks fits = record {
       (fits.owner same lives (sym looks.term ∙ at));
 }
 
-release_looks : (row : Row) (old new : Handover) (live : Bool) (master : ℕ) (tenure : Tenure) → LooksAs old new → ReleaseFits row old live master tenure → ReleaseFits row new live master tenure
+pub release_looks : (row : Row) (old new : Handover) (live : Bool) (master : ℕ) (tenure : Tenure) → LooksAs old new → ReleaseFits row old live master tenure → ReleaseFits row new live master tenure
 release_looks row old new live master tenure looks fits = record {
   owned = fits.owned;
   outside = λ same lives within. fits.outside same lives (subst (λ (term : ℕ). term ≤ tenure.term) looks.term within);
@@ -96,12 +96,12 @@ release_looks row old new live master tenure looks fits = record {
 
 -- ---- reports
 
-ready_looks : (phase : Phase) (old new : Handover) (term master place : ℕ) → LooksAs old new → ReadyIn phase old term master place → ReadyIn phase new term master place
+pub ready_looks : (phase : Phase) (old new : Handover) (term master place : ℕ) → LooksAs old new → ReadyIn phase old term master place → ReadyIn phase new term master place
 ready_looks (Opening source sfrom target None) old new term master place looks says =
     (says.0, looks.role.waits place says.1, looks.term ∙ says.2)
 ready_looks phase old new term master place looks says = says
 
-source_looks : (old new : Handover) (completions : Completions) (term : ℕ) (transfer : Transfer) → LooksAs old new → IsFrozenSource old completions term transfer → IsFrozenSource new completions term transfer
+pub source_looks : (old new : Handover) (completions : Completions) (term : ℕ) (transfer : Transfer) → LooksAs old new → IsFrozenSource old completions term transfer → IsFrozenSource new completions term transfer
 source_looks old new completions term transfer looks frozen = record {
   role_is = looks.role.frozen frozen.role_is;
   term_is = looks.term ∙ frozen.term_is;
@@ -109,27 +109,27 @@ source_looks old new completions term transfer looks frozen = record {
   ends_are = frozen.ends_are;
 }
 
-transfer_looks : (phase : Phase) (old new : Handover) (completions : Completions) (term master : ℕ) (transfer : Transfer) → LooksAs old new → TransferIn phase old completions term master transfer → TransferIn phase new completions term master transfer
+pub transfer_looks : (phase : Phase) (old new : Handover) (completions : Completions) (term master : ℕ) (transfer : Transfer) → LooksAs old new → TransferIn phase old completions term master transfer → TransferIn phase new completions term master transfer
 transfer_looks (Opening source sfrom target dfrom) old new completions term master transfer looks says =
     (says.0, source_looks old new completions term transfer looks says.1)
 transfer_looks phase old new completions term master transfer looks says = says
 
-joined_looks : (phase : Phase) (old new : Handover) (applied applied' term master : ℕ) → LooksAs old new → applied' ≡ applied → JoinedIn phase old applied term master → JoinedIn phase new applied' term master
+pub joined_looks : (phase : Phase) (old new : Handover) (applied applied' term master : ℕ) → LooksAs old new → applied' ≡ applied → JoinedIn phase old applied term master → JoinedIn phase new applied' term master
 joined_looks (Moving source sfrom target dfrom) old new applied applied' term master looks same says =
     (says.0, looks.term ∙ says.1, looks.role.joined applied' (rw same says.2))
 joined_looks phase old new applied applied' term master looks same says = says
 
-rebuilt_looks : (phase : Phase) (old new : Handover) (merged : List Ended) (applied applied' term master : ℕ) (rebuilt : Rebuilt) → LooksAs old new → applied' ≡ applied → RebuiltIn phase old merged applied term master rebuilt → RebuiltIn phase new merged applied' term master rebuilt
+pub rebuilt_looks : (phase : Phase) (old new : Handover) (merged : List Ended) (applied applied' term master : ℕ) (rebuilt : Rebuilt) → LooksAs old new → applied' ≡ applied → RebuiltIn phase old merged applied term master rebuilt → RebuiltIn phase new merged applied' term master rebuilt
 rebuilt_looks (Rebuilding lineage to) old new merged applied applied' term master rebuilt looks same says =
     (says.0, looks.term ∙ says.1, looks.role.rebuilt applied' rebuilt.place (rw same says.2), says.3)
 rebuilt_looks phase old new merged applied applied' term master rebuilt looks same says = says
 
 -- ---- between source and target
 
-of_target : (row : Row) (old new : Handover) (tenure : Tenure) → LooksAs old new → IsOfTarget row new tenure → IsOfTarget row old tenure
+pub of_target : (row : Row) (old new : Handover) (tenure : Tenure) → LooksAs old new → IsOfTarget row new tenure → IsOfTarget row old tenure
 of_target row old new tenure looks is = record { tablet = is.tablet; term = is.term ∙ looks.term }
 
-grant_looks : (row : Row) (old new : Handover) (live : Bool) (handed : Option Handed) (master : ℕ) (grant : Grant) → LooksAs old new → GrantAgrees row old live handed master grant → GrantAgrees row new live handed master grant
+pub grant_looks : (row : Row) (old new : Handover) (live : Bool) (handed : Option Handed) (master : ℕ) (grant : Grant) → LooksAs old new → GrantAgrees row old live handed master grant → GrantAgrees row new live handed master grant
 grant_looks row old new live handed master grant looks agrees = record {
   reached = λ same lives. subst (λ (term : ℕ). grant.tenure.term ≤ term) (sym looks.term) (agrees.reached same lives);
   told = λ same lives at waits. agrees.told same lives (at ∙ looks.term) (sym looks.role.wanting ∙ waits);

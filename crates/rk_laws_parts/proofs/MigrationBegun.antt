@@ -24,14 +24,14 @@ use Rattle.rk_laws_parts.proofs.RowTurned.{rows_turned, view_turned}
 -- ---- posts at the next term
 
 -- an owner may open the tablet
-owner_fits : (role : Role) (place term own applied : ℕ) → Holds (bond_of (Owner place) role) term own applied → Holds (bond_of OpeningSource role) (term + 1) own applied
+pub owner_fits : (role : Role) (place term own applied : ℕ) → Holds (bond_of (Owner place) role) term own applied → Holds (bond_of OpeningSource role) (term + 1) own applied
 owner_fits roles.Serving place term own applied fits = omega (arith, fits)
 owner_fits (roles.Joining (Some entry)) place term own applied fits = let same = fits.0 in (omega (arith, same), fits.1)
 owner_fits (roles.Rebuilding from (Some entry)) place term own applied fits = let same = fits.0 in (omega (arith, same), fits.1.0)
 owner_fits _ place term own applied fits = absurd fits
 
 -- a master that has nothing to do with it may be invited, or has nothing to do with it still
-bystander_invited : (role : Role) (term own applied : ℕ) → Holds (bond_of Bystander role) term own applied → Holds (bond_of InvitedTarget role) (term + 1) own applied
+pub bystander_invited : (role : Role) (term own applied : ℕ) → Holds (bond_of Bystander role) term own applied → Holds (bond_of InvitedTarget role) (term + 1) own applied
 bystander_invited roles.Absent term own applied fits = omega (arith, fits)
 bystander_invited roles.Frozen term own applied fits = omega (arith, fits)
 bystander_invited (roles.Wanting from) term own applied fits = omega (arith, fits)

@@ -33,7 +33,7 @@ take_missed range (suc n) (entry ∷ list) all =
     All-cons (Misses range) entry (take n list) (All-head (Misses range) entry list all)
     (take_missed range n list (All-tail (Misses range) entry list all))
 
-unmarked_missed : (range : Range) (marks : List Mark) (place : ℕ) (list : List Entry) → All (Misses range) list → All (Misses range) (unmarked marks place list)
+pub unmarked_missed : (range : Range) (marks : List Mark) (place : ℕ) (list : List Entry) → All (Misses range) list → All (Misses range) (unmarked marks place list)
 unmarked_missed range marks place [] all = all
 unmarked_missed range marks place (entry ∷ list) all =
     go (is_marked marks place) (unmarked_missed range marks (suc place) list (All-tail (Misses range) entry list all))
@@ -56,10 +56,10 @@ none_touches range (entry ∷ list) all =
     go false is later = later
 
 -- nor counts, where the range is not empty
-not_all : (s f l t g m : ℕ) → g ≤ m → (eqb s t && leb f m && leb g l) ≡ false → (eqb s t && leb f g && leb m l) ≡ false
+pub not_all : (s f l t g m : ℕ) → g ≤ m → (eqb s t && leb f m && leb g l) ≡ false → (eqb s t && leb f g && leb m l) ≡ false
 not_all s f l t g m some apart = grind (arith, nat_tests)
 
-counts_none : (range : Range) (entry : Entry) → range.first ≤ range.last → Misses range entry → counts range entry ≡ false
+pub counts_none : (range : Range) (entry : Entry) → range.first ≤ range.last → Misses range entry → counts range entry ≡ false
 counts_none range (entries.Held held) some misses = misses
 counts_none range (entries.Refused refused) some misses = misses
 counts_none range (entries.Carried carried) some misses =
@@ -77,13 +77,13 @@ counting_none range (entry ∷ list) some all =
     go false is later = later
 
 -- nor names side segments
-names_none : (range : Range) (entry : Entry) → Misses range entry → named_by range entry ≡ []
+pub names_none : (range : Range) (entry : Entry) → Misses range entry → named_by range entry ≡ []
 names_none range (entries.Held held) misses = refl
 names_none range (entries.Refused refused) misses = refl
 names_none range (entries.Carried carried) misses = refl
 names_none range (entries.Joined joined) misses = ap (λ (b : Bool). cond b joined.segments []) misses
 
-all_names_none : (range : Range) (list : List Entry) → All (Misses range) list → flat_map (named_by range) list ≡ []
+pub all_names_none : (range : Range) (list : List Entry) → All (Misses range) list → flat_map (named_by range) list ≡ []
 all_names_none range [] all = refl
 all_names_none range (entry ∷ list) all =
     ap (λ (l : List ℕ). l ++ flat_map (named_by range) list) (names_none range entry (All-head (Misses range) entry list all))
@@ -95,7 +95,7 @@ material_none range side list some all =
     ∙ ap (λ (l : List ℕ). counting range (flat_map side (fold with_number [] l))) (all_names_none range list all)
 
 -- nor joins
-joins_none : (range : Range) (entry : Entry) → Misses range entry → is_joined_in range entry ≡ false
+pub joins_none : (range : Range) (entry : Entry) → Misses range entry → is_joined_in range entry ≡ false
 joins_none range (entries.Held held) misses = refl
 joins_none range (entries.Refused refused) misses = refl
 joins_none range (entries.Carried carried) misses = refl

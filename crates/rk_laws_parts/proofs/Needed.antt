@@ -49,14 +49,14 @@ part_weaker Needed Less known stored segment bytes less part = record {
   needed = λ end its at. part.needed end (less end its) at;
 }
 
-read_weaker : (Needed Less : EntryEnd → Type 0) (known : Known) (stored : ℕ → List ℕ) (segment : ℕ) (list : List Entry) → ((end : EntryEnd) → Less end → Needed end) → AreRead Needed known stored segment list → AreRead Less known stored segment list
+pub read_weaker : (Needed Less : EntryEnd → Type 0) (known : Known) (stored : ℕ → List ℕ) (segment : ℕ) (list : List Entry) → ((end : EntryEnd) → Less end → Needed end) → AreRead Needed known stored segment list → AreRead Less known stored segment list
 read_weaker Needed Less known stored segment list less read = record {
   bytes = read.bytes;
   read = part_weaker Needed Less known stored segment read.bytes less read.read;
   spelled = read.spelled;
 }
 
-one_weaker : (Needed Less : EntryEnd → Type 0) (known : Known) (stored : ℕ → List ℕ) (gathered : Gathered) → ((end : EntryEnd) → Less end → Needed end) → IsGathered Needed known stored gathered → IsGathered Less known stored gathered
+pub one_weaker : (Needed Less : EntryEnd → Type 0) (known : Known) (stored : ℕ → List ℕ) (gathered : Gathered) → ((end : EntryEnd) → Less end → Needed end) → IsGathered Needed known stored gathered → IsGathered Less known stored gathered
 one_weaker Needed Less known stored gathered less was = record {
   main = λ place within.
       read_weaker Needed Less known stored (place + 1) (slice_index_or gathered.main place []) less (was.main place within);
@@ -84,7 +84,7 @@ module _ (Needed Less : ℕ → EntryEnd → Type 0) (known : ℕ → Known) (st
       (gathered_weaker members away.1 (All-tail Was gathered members was))
 
 -- the members that are read are others than the master
-kept_away : (own : ℕ) (lineage : List Member) → IsAway own (filter (λ member. not (member.master == own)) lineage)
+pub kept_away : (own : ℕ) (lineage : List Member) → IsAway own (filter (λ member. not (member.master == own)) lineage)
 kept_away own [] = tt
 kept_away own (member ∷ others) =
     let later = kept_away own others in
@@ -125,7 +125,7 @@ AreAmong these those =
     × ((end : Ended) → Contains (told these) end → Contains (told those) end)
 
 -- of one kind, with more behind both
-told_front : {X : Type 0} (f : Entry → List X) (these those more : List Entry) → ((x : X) → Contains (flat_map f these) x → Contains (flat_map f those) x) → (x : X) → Contains (flat_map f (these ++ more)) x → Contains (flat_map f (those ++ more)) x
+pub told_front : {X : Type 0} (f : Entry → List X) (these those more : List Entry) → ((x : X) → Contains (flat_map f these) x → Contains (flat_map f those) x) → (x : X) → Contains (flat_map f (these ++ more)) x → Contains (flat_map f (those ++ more)) x
 told_front {X} f these those more among x at =
     subst (λ (all : List X). Contains all x) (sym (flat_map-append f those more))
     (⊎_elim
@@ -135,19 +135,19 @@ told_front {X} f these those more among x at =
     (subst (λ (all : List X). Contains all x) (flat_map-append f these more) at)))
 
 -- of both kinds
-among_front : (these those more : List Entry) → AreAmong these those → AreAmong (these ++ more) (those ++ more)
+pub among_front : (these those more : List Entry) → AreAmong these those → AreAmong (these ++ more) (those ++ more)
 among_front these those more among =
     (told_front items_in these those more among.0, told_front told_by these those more among.1)
 
 -- those may have more
-told_extended : {X : Type 0} (f : Entry → List X) (old new : List Entry) → Extends old new → (x : X) → Contains (flat_map f old) x → Contains (flat_map f new) x
+pub told_extended : {X : Type 0} (f : Entry → List X) (old new : List Entry) → Extends old new → (x : X) → Contains (flat_map f old) x → Contains (flat_map f new) x
 told_extended {X} f old new grown x at =
     subst (λ (list : List Entry). Contains (flat_map f list) x) (sym grown.parts)
     (subst (λ (all : List X). Contains all x) (sym (flat_map-append f old grown.more))
     (Contains-append_left (flat_map f old) (flat_map f grown.more) x at))
 
 -- of both kinds
-extended_among : (old new : List Entry) → Extends old new → AreAmong old new
+pub extended_among : (old new : List Entry) → Extends old new → AreAmong old new
 extended_among old new grown = (told_extended items_in old new grown, told_extended told_by old new grown)
 
 pub among_then : (a b c : List Entry) → AreAmong a b → AreAmong b c → AreAmong a c
@@ -158,14 +158,14 @@ tells_among these those tells =
     (tells.items, λ end at. All-contains (Contains (told those)) (told these) end tells.ends at)
 
 -- so no entry tells anything of these that those do not
-none_more : (these those : List Entry) (entry : Entry) → AreAmong these those → TellsMore these those entry → ⊥
+pub none_more : (these those : List Entry) (entry : Entry) → AreAmong these those → TellsMore these those entry → ⊥
 none_more these those entry among =
     ⊎_elim
     (λ (more : HasItemMore these those entry). more.new (among.0 more.item more.wanted))
     (λ (more : TellsEndMore these those entry). more.new (among.1 more.end more.wanted))
 
 -- and what those do not tell, fewer do not
-more_than_fewer : (these those fewer : List Entry) (entry : Entry) → AreAmong fewer those → TellsMore these those entry → TellsMore these fewer entry
+pub more_than_fewer : (these those fewer : List Entry) (entry : Entry) → AreAmong fewer those → TellsMore these those entry → TellsMore these fewer entry
 more_than_fewer these those fewer entry among =
     ⊎_elim
     (λ (more : HasItemMore these those entry).
@@ -202,7 +202,7 @@ needed_member row written (first ∷ second ∷ third ∷ more) q end needed = a
 -- ---- one more entry
 
 -- a marked entry is not the last one, where all marks are before it
-marked_last : (marks : List Mark) (place : ℕ) (list : List Entry) (entry : Entry) → is_marked marks (place + length list) ≡ false → marked_entries marks place (list ++ entry ∷ []) ≡ marked_entries marks place list
+pub marked_last : (marks : List Mark) (place : ℕ) (list : List Entry) (entry : Entry) → is_marked marks (place + length list) ≡ false → marked_entries marks place (list ++ entry ∷ []) ≡ marked_entries marks place list
 marked_last marks place [] entry free =
     let at : place + 0 ≡ place = omega arith in
     cond-false (is_marked marks place) (entry ∷ []) [] (ap (is_marked marks) (sym at) ∙ free)
@@ -212,7 +212,7 @@ marked_last marks place (first ∷ list) entry free =
     (marked_last marks (suc place) list entry (ap (is_marked marks) at ∙ free))
 
 -- nor is it from a place on
-marked_from_last : (marks : List Mark) (from : ℕ) (list : List Entry) (entry : Entry) → is_marked marks (length list) ≡ false → marked_entries marks from (drop from (list ++ entry ∷ [])) ≡ marked_entries marks from (drop from list)
+pub marked_from_last : (marks : List Mark) (from : ℕ) (list : List Entry) (entry : Entry) → is_marked marks (length list) ≡ false → marked_entries marks from (drop from (list ++ entry ∷ [])) ≡ marked_entries marks from (drop from list)
 marked_from_last marks from list entry free =
     ⊎_elim
     (λ (beyond : length list < from). ap (marked_entries marks from) (drop_none from list entry beyond))
@@ -223,7 +223,7 @@ marked_from_last marks from list entry free =
     (cases_lt (length list) from)
 
 -- those of marks that are kept are before it too
-kept_within : (keep : Mark → Bool) (marks : List Mark) (place : ℕ) → All (λ mark. mark.past ≤ place) marks → All (λ mark. mark.past ≤ place) (filter keep marks)
+pub kept_within : (keep : Mark → Bool) (marks : List Mark) (place : ℕ) → All (λ mark. mark.past ≤ place) marks → All (λ mark. mark.past ≤ place) (filter keep marks)
 kept_within keep [] place within = All-nil _
 kept_within keep (mark ∷ marks) place within =
     let Within : Mark → Type 0 = λ m. m.past ≤ place in
@@ -248,7 +248,7 @@ given_up_pushed row from w entry marked =
     (kept_within (λ mark. mark.tablet == row.tablet && nat_lt mark.term row.term) w.marks (length w.entries) marked)))
 
 -- numbers with more of them have these before the others
-numbers_extend : (some more : List ℕ) → (others : List ℕ) × (fold with_number some more ≡ some ++ others)
+pub numbers_extend : (some more : List ℕ) → (others : List ℕ) × (fold with_number some more ≡ some ++ others)
 numbers_extend some [] = ([], sym (append-nil some))
 numbers_extend some (number ∷ more) =
     cond_both (is_among number some) some (some ++ number ∷ [])
@@ -263,7 +263,7 @@ numbers_append some [] b = refl
 numbers_append some (number ∷ a) b = numbers_append (with_number some number) a b
 
 -- so the side segments that more entries name begin with those that the first ones name
-sides_extend : (range : Range) (sides : ℕ → List Entry) (old new : List Entry) → Extends old new → Extends (counting range (flat_map sides (named range old))) (counting range (flat_map sides (named range new)))
+pub sides_extend : (range : Range) (sides : ℕ → List Entry) (old new : List Entry) → Extends old new → Extends (counting range (flat_map sides (named range old))) (counting range (flat_map sides (named range new)))
 sides_extend range sides old new grown =
     let rest = numbers_extend (named range old) (flat_map (named_by range) grown.more) in
     let parts : named range new ≡ named range old ++ rest.0 =
@@ -342,7 +342,7 @@ module _ (written : ℕ → Written) (master : ℕ) (entry : Entry) (marked : (q
 -- ---- what is needed is stored
 
 -- a test that some kept ones pass
-any_kept : (p keep : Mark → Bool) (marks : List Mark) → list_any p (filter keep marks) ≡ true → list_any p marks ≡ true
+pub any_kept : (p keep : Mark → Bool) (marks : List Mark) → list_any p (filter keep marks) ≡ true → list_any p marks ≡ true
 any_kept p keep [] some = some
 any_kept p keep (mark ∷ marks) some =
     cond_both (keep mark) (mark ∷ filter keep marks) (filter keep marks) (λ kept. list_any p kept ≡ true → list_any p (mark ∷ marks) ≡ true)
@@ -354,17 +354,17 @@ any_kept p keep (mark ∷ marks) some =
     either false later some = later some
 
 -- what one more entry tells
-told_cons : {X : Type 0} (f : Entry → List X) (range : Range) (entry : Entry) (list : List Entry) → flat_map f (counting range (entry ∷ list)) ≡ flat_map f (counting range (entry ∷ [])) ++ flat_map f (counting range list)
+pub told_cons : {X : Type 0} (f : Entry → List X) (range : Range) (entry : Entry) (list : List Entry) → flat_map f (counting range (entry ∷ list)) ≡ flat_map f (counting range (entry ∷ [])) ++ flat_map f (counting range list)
 told_cons f range entry list =
     ap (flat_map f) (filter-append (counts range) (entry ∷ []) list)
     ∙ flat_map-append f (counting range (entry ∷ [])) (counting range list)
 
 -- something is told by the marked entries of a range
-abbrev IsTold : {X : Type 0} → (Entry → List X) → Range → List Entry → X → Type 0
+abbrev pub IsTold : {X : Type 0} → (Entry → List X) → Range → List Entry → X → Type 0
 IsTold f range list x = Contains (flat_map f (counting range list)) x
 
 -- what bears some marks tells no more than what bears any
-told_marked : {X : Type 0} (f : Entry → List X) (range : Range) (some all : List Mark) → ((n : ℕ) → is_marked some n ≡ true → is_marked all n ≡ true) → (place : ℕ) (list : List Entry) (x : X) → IsTold f range (marked_entries some place list) x → IsTold f range (marked_entries all place list) x
+pub told_marked : {X : Type 0} (f : Entry → List X) (range : Range) (some all : List Mark) → ((n : ℕ) → is_marked some n ≡ true → is_marked all n ≡ true) → (place : ℕ) (list : List Entry) (x : X) → IsTold f range (marked_entries some place list) x → IsTold f range (marked_entries all place list) x
 told_marked f range some all more place [] x at = at
 told_marked {X} f range some all more place (entry ∷ list) x at =
     go (is_marked some place) (is_marked all place) (more place) (marked_entries some (suc place) list) (marked_entries all (suc place) list)
@@ -401,7 +401,7 @@ given_up_among row from w =
     )
 
 -- a master whose marks are of the row's term has nothing of given up rebuilds
-none_given_up : (row : Row) (marks : List Mark) → All (λ mark. mark.tablet ≡ row.tablet → mark.term ≡ row.term) marks → given_up_marks row marks ≡ []
+pub none_given_up : (row : Row) (marks : List Mark) → All (λ mark. mark.tablet ≡ row.tablet → mark.term ≡ row.term) marks → given_up_marks row marks ≡ []
 none_given_up row [] fit = refl
 none_given_up row (mark ∷ marks) fit =
     let Fits : Mark → Type 0 = λ m. m.tablet ≡ row.tablet → m.term ≡ row.term in
@@ -414,7 +414,7 @@ none_given_up row (mark ∷ marks) fit =
     (λ e. none_given_up row marks (All-tail Fits mark marks fit))
 
 -- without marks nothing is marked
-unmarked_none : (place : ℕ) (list : List Entry) → marked_entries [] place list ≡ []
+pub unmarked_none : (place : ℕ) (list : List Entry) → marked_entries [] place list ≡ []
 unmarked_none place [] = refl
 unmarked_none place (entry ∷ list) = unmarked_none (suc place) list
 
@@ -449,7 +449,7 @@ needed_within range given_up own from last place entry count needed among =
     (cases_lt place count)
 
 -- an entry has some bytes, so it does not end where its segment begins
-end_some : (segments : List (List ℕ)) (list : List Entry) (k : ℕ) (d : EntryEnd) → AreFilled segments → k < length (ends_after segments list) → 1 ≤ (get_or (ends_after segments list) k d).offset
+pub end_some : (segments : List (List ℕ)) (list : List Entry) (k : ℕ) (d : EntryEnd) → AreFilled segments → k < length (ends_after segments list) → 1 ≤ (get_or (ends_after segments list) k d).offset
 end_some segments [] k d filled within = absurd (omega arith)
 end_some segments (entry ∷ list) zero d filled within =
     let now : List (List ℕ) = with_bytes segments (spelled entry) in

@@ -16,36 +16,36 @@ use Rattle.rk_laws_parts.proofs.MigrationBegun.{bystander_stays}
 
 -- ---- posts at the next term
 
-abbrev Fits : Post → ℕ → Role → ℕ → ℕ → Type 0
+abbrev pub Fits : Post → ℕ → Role → ℕ → ℕ → Type 0
 Fits post term role own applied = Holds (bond_of post role) term own applied
 
-bystander_outside : (role : Role) (term own applied : ℕ) → Fits Bystander term role own applied → Fits OutsideRebuilder (term + 1) role own applied
+pub bystander_outside : (role : Role) (term own applied : ℕ) → Fits Bystander term role own applied → Fits OutsideRebuilder (term + 1) role own applied
 bystander_outside roles.Absent term own applied fits = omega (arith, fits)
 bystander_outside roles.Frozen term own applied fits = omega (arith, fits)
 bystander_outside (roles.Wanting from) term own applied fits = omega (arith, fits)
 bystander_outside _ term own applied fits = absurd fits
 
-invited_outside : (role : Role) (term own applied : ℕ) → Fits InvitedTarget term role own applied → Fits OutsideRebuilder (term + 1) role own applied
+pub invited_outside : (role : Role) (term own applied : ℕ) → Fits InvitedTarget term role own applied → Fits OutsideRebuilder (term + 1) role own applied
 invited_outside roles.Absent term own applied fits = omega (arith, fits)
 invited_outside roles.Frozen term own applied fits = omega (arith, fits)
 invited_outside (roles.Wanting from) term own applied fits = omega (arith, fits)
 invited_outside _ term own applied fits = absurd fits
 
-invited_leaves : (role : Role) (term own applied : ℕ) → Fits InvitedTarget term role own applied → Fits Bystander (term + 1) role own applied
+pub invited_leaves : (role : Role) (term own applied : ℕ) → Fits InvitedTarget term role own applied → Fits Bystander (term + 1) role own applied
 invited_leaves roles.Absent term own applied fits = omega (arith, fits)
 invited_leaves roles.Frozen term own applied fits = omega (arith, fits)
 invited_leaves (roles.Wanting from) term own applied fits = omega (arith, fits)
 invited_leaves _ term own applied fits = absurd fits
 
-ready_outside : (place : ℕ) (role : Role) (term own applied : ℕ) → Fits (ReadyTarget place) term role own applied → Fits OutsideRebuilder (term + 1) role own applied
+pub ready_outside : (place : ℕ) (role : Role) (term own applied : ℕ) → Fits (ReadyTarget place) term role own applied → Fits OutsideRebuilder (term + 1) role own applied
 ready_outside place (roles.Wanting from) term own applied fits = let same = fits.0 in omega (arith, same)
 ready_outside place _ term own applied fits = absurd fits
 
-ready_leaves : (place : ℕ) (role : Role) (term own applied : ℕ) → Fits (ReadyTarget place) term role own applied → Fits Bystander (term + 1) role own applied
+pub ready_leaves : (place : ℕ) (role : Role) (term own applied : ℕ) → Fits (ReadyTarget place) term role own applied → Fits Bystander (term + 1) role own applied
 ready_leaves place (roles.Wanting from) term own applied fits = let same = fits.0 in omega (arith, same)
 ready_leaves place _ term own applied fits = absurd fits
 
-opening_rebuilds : (place : ℕ) (role : Role) (term own applied : ℕ) → Fits OpeningSource term role own applied → Fits (OnlyRebuilder place) (term + 1) role own applied
+pub opening_rebuilds : (place : ℕ) (role : Role) (term own applied : ℕ) → Fits OpeningSource term role own applied → Fits (OnlyRebuilder place) (term + 1) role own applied
 opening_rebuilds place roles.Serving term own applied fits = omega (arith, fits)
 opening_rebuilds place (roles.Joining (Some entry)) term own applied fits = let less = fits.0 in (omega (arith, less), fits.1)
 opening_rebuilds place (roles.Rebuilding from (Some entry)) term own applied fits =
@@ -54,13 +54,13 @@ opening_rebuilds place roles.Closing term own applied fits = omega (arith, fits)
 opening_rebuilds place roles.Frozen term own applied fits = omega (arith, fits)
 opening_rebuilds place _ term own applied fits = absurd fits
 
-target_rebuilds : (place : ℕ) (role : Role) (term own applied : ℕ) → Fits (MovingTarget place) term role own applied → Fits (LastRebuilder place) (term + 1) role own applied
+pub target_rebuilds : (place : ℕ) (role : Role) (term own applied : ℕ) → Fits (MovingTarget place) term role own applied → Fits (LastRebuilder place) (term + 1) role own applied
 target_rebuilds place (roles.Wanting from) term own applied fits = let same = fits.0 in (omega (arith, same), fits.1)
 target_rebuilds place roles.Receiving term own applied fits = omega (arith, fits)
 target_rebuilds place (roles.Joining entry) term own applied fits = omega (arith, fits)
 target_rebuilds place _ term own applied fits = absurd fits
 
-source_rebuilds : (place : ℕ) (role : Role) (term own applied : ℕ) → Fits MovingSource term role own applied → Fits (FirstRebuilder place) (term + 1) role own applied
+pub source_rebuilds : (place : ℕ) (role : Role) (term own applied : ℕ) → Fits MovingSource term role own applied → Fits (FirstRebuilder place) (term + 1) role own applied
 source_rebuilds place roles.Frozen term own applied fits = omega (arith, fits)
 source_rebuilds place _ term own applied fits = absurd fits
 
@@ -77,7 +77,7 @@ PassesTo dead (Rebuilding lineage was) to = was ≡ dead
 abbrev pub rebuilding : Phase → ℕ → Phase
 rebuilding phase to = Rebuilding (lineage_of phase) to
 
-outside_post : (lineage : List Member) (q : ℕ) → is_member lineage q ≡ false → rebuilder_post lineage q ≡ OutsideRebuilder
+pub outside_post : (lineage : List Member) (q : ℕ) → is_member lineage q ≡ false → rebuilder_post lineage q ≡ OutsideRebuilder
 outside_post [] q none = refl
 outside_post (single ∷ []) q none =
     cond-false (eqb single.master q) (OnlyRebuilder single.from) OutsideRebuilder (or_parts (eqb single.master q) false none).0

@@ -26,14 +26,14 @@ use Rattle.rk_sound.specs.Messages.{IsOf, HasSource, IsOwnedBy, IsOwnedByOther, 
 use Rattle.rk_sound.specs.Moves.{OpensOn, row_at}
 
 -- what holds where the source and the target stay and a place is noted
-opens_by : (P : Phase → Phase → Type 0) (old new : Phase) → ((source from target : ℕ) (noted : Option ℕ) (place : ℕ) → P (Opening source from target noted) (Opening source from target (Some place))) → OpensOn old new → P old new
+pub opens_by : (P : Phase → Phase → Type 0) (old new : Phase) → ((source from target : ℕ) (noted : Option ℕ) (place : ℕ) → P (Opening source from target noted) (Opening source from target (Some place))) → OpensOn old new → P old new
 opens_by P old new step opens =
     subst (λ (was : Phase). P was new) (sym opens.was)
     (subst (P (Opening opens.source opens.from opens.target opens.noted)) (sym opens.is)
     (step opens.source opens.from opens.target opens.noted opens.place))
 
 -- the target of a row that opens is invited, where any master is
-is_target : (source target master : ℕ) (noted : Option ℕ) → cond (eqb source master) OpeningSource (cond (eqb target master) (target_post noted) Bystander) ≡ InvitedTarget → target ≡ master
+pub is_target : (source target master : ℕ) (noted : Option ℕ) → cond (eqb source master) OpeningSource (cond (eqb target master) (target_post noted) Bystander) ≡ InvitedTarget → target ≡ master
 is_target source target master noted invited = go (eqb source master) (eqb target master) refl invited
   where
     go : (a b : Bool) → eqb target master ≡ b → cond a OpeningSource (cond b (target_post noted) Bystander) ≡ InvitedTarget → target ≡ master

@@ -31,12 +31,12 @@ use Rattle.rk_laws_parts.proofs.Views.{view_kept}
 
 -- ---- roles whose closing entry is applied
 
-closed_present : (role : Role) (applied : ℕ) → IsClosed role applied → is_absent role ≡ false
+pub closed_present : (role : Role) (applied : ℕ) → IsClosed role applied → is_absent role ≡ false
 closed_present (roles.Joining (Some entry)) applied closed = refl
 closed_present (roles.Rebuilding from (Some entry)) applied closed = refl
 closed_present _ applied closed = absurd closed
 
-closed_wants : (role : Role) (applied : ℕ) → IsClosed role applied → is_wanting role ≡ false
+pub closed_wants : (role : Role) (applied : ℕ) → IsClosed role applied → is_wanting role ≡ false
 closed_wants (roles.Joining (Some entry)) applied closed = refl
 closed_wants (roles.Rebuilding from (Some entry)) applied closed = refl
 closed_wants _ applied closed = absurd closed
@@ -44,7 +44,7 @@ closed_wants _ applied closed = absurd closed
 -- ---- posts of those who own a tablet, or owned it
 
 -- such a post takes a role that serves at the terms at which it takes a closed one
-fits_serving : (post : Post) (role : Role) (term own applied : ℕ) → IsOwner post own term → IsClosed role applied → Holds (bond_of post role) term own applied → Holds (bond_of post roles.Serving) term own applied
+pub fits_serving : (post : Post) (role : Role) (term own applied : ℕ) → IsOwner post own term → IsClosed role applied → Holds (bond_of post role) term own applied → Holds (bond_of post roles.Serving) term own applied
 fits_serving (Owner place) (roles.Joining (Some entry)) term own applied owner closed holds = holds.0
 fits_serving (Owner place) (roles.Rebuilding from (Some entry)) term own applied owner closed holds = holds.0
 fits_serving (Owner place) _ term own applied owner closed holds = absurd closed
@@ -55,7 +55,7 @@ fits_serving (OnlyRebuilder place) role term own applied owner closed holds = ow
 fits_serving _ role term own applied owner closed holds = absurd owner
 
 -- what has a closed role speaks for such a post already
-speaks_closed : (post : Post) (role : Role) (old : Handover) (term applied : ℕ) → old.role ≡ role → IsOwner post old.term term → IsClosed role applied → speaks post old term ≡ true
+pub speaks_closed : (post : Post) (role : Role) (old : Handover) (term applied : ℕ) → old.role ≡ role → IsOwner post old.term term → IsClosed role applied → speaks post old term ≡ true
 speaks_closed (Owner place) role old term applied is owner closed = refl
 speaks_closed OpeningSource role old term applied is owner closed = refl
 speaks_closed (OnlyRebuilder place) (roles.Joining (Some entry)) old term applied is owner closed =
@@ -157,11 +157,11 @@ module _ (v : View) (master number : ℕ) (pulling : Pulling) (sound : SoundView
 -- ---- the world
 
 -- a view where a tablet serves, and nothing of it is pulled, gathered or merged
-abbrev owned_view : View → ℕ → ℕ → View
+abbrev pub owned_view : View → ℕ → ℕ → View
 owned_view v master number =
     pulled (role_taken v master number (as_serving (v.handovers master number)) no_gather []) master number (λ old. pulling_from 0)
 
-view_owned : (w : World) (master number : ℕ) → view (tablet_owned_in w master number) ≡ owned_view (view w) master number
+pub view_owned : (w : World) (master number : ℕ) → view (tablet_owned_in w master number) ≡ owned_view (view w) master number
 view_owned w master number =
     view_kept w master number
     (record (without_merged (tablet_in w master number)) {
@@ -176,7 +176,7 @@ view_owned w master number =
       merged = put2 (view w).merged master number [];
     })
 
-view_serves : (v : View) (row : Row) (master : ℕ) → SoundView v → MayOwn v row master → SoundView (owned_view v master row.tablet)
+pub view_serves : (v : View) (row : Row) (master : ℕ) → SoundView v → MayOwn v row master → SoundView (owned_view v master row.tablet)
 view_serves v row master sound may =
     let new : Handover = as_serving (v.handovers master row.tablet) in
     view_forgets_pulled (role_taken v master row.tablet new no_gather []) master row.tablet (pulling_from 0)

@@ -24,11 +24,11 @@ use Rattle.rk_laws_parts.proofs.BeforeTurn.{IsEarly, none_closes, none_marked, n
 use Rattle.rk_laws_parts.proofs.RowTurned.{rows_turned, view_turned}
 
 -- what a master has fits its post as before, where that is the same
-same_post : (post : Post) (term : ℕ) (handover : Handover) (applied : ℕ) → Holds (bond_of post handover.role) term handover.term applied → MayTakePost post post term term handover applied
+pub same_post : (post : Post) (term : ℕ) (handover : Handover) (applied : ℕ) → Holds (bond_of post handover.role) term handover.term applied → MayTakePost post post term term handover applied
 same_post post term handover applied fits = record { fits = fits; speaks = λ says. says; full = λ full. full; owns = λ owns. owns }
 
 -- a target that waits at its place, at the row's term, is ready
-ready_post : (place term : ℕ) (handover : Handover) (applied : ℕ) → handover.role ≡ roles.Wanting place → handover.term ≡ term → MayTakePost InvitedTarget (ReadyTarget place) term term handover applied
+pub ready_post : (place term : ℕ) (handover : Handover) (applied : ℕ) → handover.role ≡ roles.Wanting place → handover.term ≡ term → MayTakePost InvitedTarget (ReadyTarget place) term term handover applied
 ready_post place term handover applied waits at = record {
   fits = subst (λ (role : Role). Holds (bond_of (ReadyTarget place) role) term handover.term applied) (sym waits) (at, refl);
   speaks = λ says. says;

@@ -41,7 +41,7 @@ use Rattle.rk_laws_parts.proofs.Cover.{covered_by}
 use Rattle.rk_laws_parts.proofs.MoreRecords.{asked_still, got_cases, is_request_still, known_still, request_says_still, rising_push, says_still}
 
 -- no call has two accepted records in a journal
-abbrev AcceptsOnce : List Placed → Type 0
+abbrev pub AcceptsOnce : List Placed → Type 0
 AcceptsOnce journal =
     (i j : ℕ) (a b : Placed) → slice_get journal i ≡ Some a → slice_get journal j ≡ Some b → AreOneAccepted a b → i ≡ j
 

@@ -81,7 +81,7 @@ piece_push first past xs ys within =
     (cases_lt (length xs) first)
 
 -- a role that serves has merged nothing
-serving_merged : (role : Role) → is_serving role ≡ true → merged_place role ≡ None
+pub serving_merged : (role : Role) → is_serving role ≡ true → merged_place role ≡ None
 serving_merged (roles.Rebuilding from entry) serves = absurd (cc)
 serving_merged role serves = refl
 
@@ -90,7 +90,7 @@ serving_unmerged (roles.Rebuilding from entry) serves merged = absurd (cc)
 serving_unmerged role serves merged = false≢true merged
 
 -- items are the truth's, and found in a table
-abbrev AreShared : List Entry → List Held → List Held → Type 0
+abbrev pub AreShared : List Entry → List Held → List Held → Type 0
 AreShared truth table items = (item : Held) → Contains items item → Contains (items_of truth) item × IsFound table item
 
 -- a master that rebuilds a row, by what is needed, where this counts of its own entries, which are these, and this is its handover

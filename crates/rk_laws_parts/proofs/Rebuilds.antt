@@ -66,7 +66,7 @@ mark_same row master old new live was is mark term merged behind fit = record {
 }
 
 -- a former member has no tablet that counts
-former_never : (role : Role) (term own applied : ℕ) → Holds (bond_of FormerMember role) term own applied → ⊥
+pub former_never : (role : Role) (term own applied : ℕ) → Holds (bond_of FormerMember role) term own applied → ⊥
 former_never role term own applied holds = holds
 
 -- so a living master is no member of a row that another one rebuilds
@@ -87,7 +87,7 @@ former_gone v roles row has lineage to q is lives away member =
 -- ---- the master that rebuilds, by what was needed
 
 -- the entry names no side segment
-names : (v : View) (a : Appending v) (other : Row) → named_by other.range a.entry ≡ []
+pub names : (v : View) (a : Appending v) (other : Row) → named_by other.range a.entry ≡ []
 names v a other = names_call other.range a.call a.entry a.may.own
 
 module _ (v : View) (a : Appending v) (Needed : ℕ → EntryEnd → Type 0) where

@@ -53,7 +53,7 @@ abbrev pub IsBareOf : Handover → Written → List Held → Type 0
 IsBareOf handover written table = IfSome (wanted_place handover.role) (λ from. IsBare handover.range from written table)
 
 -- an item that is above all that counts for a row is above each one of its source
-above_source : (base : Base) (range : Range) (written : ℕ → Written) (rest : List Entry) (source target : Member) (item : Held) → floor_of (lineage_truth base written range (source ∷ target ∷ []) ++ rest) ≤ item.version → AreBelow (items_of (member_truth written range source)) item
+pub above_source : (base : Base) (range : Range) (written : ℕ → Written) (rest : List Entry) (source target : Member) (item : Held) → floor_of (lineage_truth base written range (source ∷ target ∷ []) ++ rest) ≤ item.version → AreBelow (items_of (member_truth written range source)) item
 above_source base range written rest source target item low =
     let first : List Entry = member_truth written range source in
     let others : List Entry = flat_map (member_truth written range) (target ∷ []) in
@@ -66,19 +66,19 @@ above_source base range written rest source target item low =
     (items_of first) (All-contains_itself (items_of first))
 
 -- a row that stands, with two members, whose places are those of their logs
-record HasPair (v : View) (row : Row) (source target : Member) : Type 0 where
+pub record HasPair (v : View) (row : Row) (source target : Member) : Type 0 where
   pub stands : Contains v.rows row
   pub apart : AreApart (source ∷ target ∷ [])
   pub lineage_is : lineage_of row.phase ≡ source ∷ target ∷ []
   pub placed : IsPlaced v.written target
 
 -- a role that serves waits for nothing
-serving_waits : (role : Role) (P : ℕ → Type 0) → is_serving role ≡ true → IfSome (wanted_place role) P
+pub serving_waits : (role : Role) (P : ℕ → Type 0) → is_serving role ≡ true → IfSome (wanted_place role) P
 serving_waits (roles.Wanting from) P serves = absurd (cc)
 serving_waits role P serves = tt
 
 -- what waits is not absent
-waits_then : (role : Role) (P Q : ℕ → Type 0) → (is_absent role ≡ false → (from : ℕ) → P from → Q from) → IfSome (wanted_place role) P → IfSome (wanted_place role) Q
+pub waits_then : (role : Role) (P Q : ℕ → Type 0) → (is_absent role ≡ false → (from : ℕ) → P from → Q from) → IfSome (wanted_place role) P → IfSome (wanted_place role) Q
 waits_then (roles.Wanting from) P Q then holds = then refl from holds
 waits_then role P Q then holds = tt
 

@@ -56,7 +56,7 @@ filter_from p xs x stands = All-contains (Contains xs) (filter p xs) x (All-filt
 -- ---- records with one more item
 
 -- each is the item, or stood there
-put_cases : (item : Held) (items : List Held) (x : Held) → Contains (with_item item items) x → (item ≡ x) ⊎ Contains items x
+pub put_cases : (item : Held) (items : List Held) (x : Held) → Contains (with_item item items) x → (item ≡ x) ⊎ Contains items x
 put_cases item items x stands =
     let front : List Held = filter (λ other. is_before other item) items in
     let back : List Held = filter (λ other. is_before item other) items in
@@ -76,7 +76,7 @@ newer_cases item items x = go (is_newer item (found item.table item.key items))
     go false stands = inr stands
 
 -- an item of another key stands where the item was put
-other_put : (item : Held) (items : List Held) (x : Held) → Contains items x → is_at item.table item.key x ≡ false → Contains (with_item item items) x
+pub other_put : (item : Held) (items : List Held) (x : Held) → Contains items x → is_at item.table item.key x ≡ false → Contains (with_item item items) x
 other_put item items x stands other = go (item_cmp x item) refl
   where
     go : (r : Ordering) → item_cmp x item ≡ r → Contains (with_item item items) x
@@ -116,12 +116,12 @@ stands_is_found (y ∷ items) table key x order stands here =
     (stands_cases y items x stands)
 
 -- the item stands once it was put
-put_stands : (item : Held) (items : List Held) → Contains (with_item item items) item
+pub put_stands : (item : Held) (items : List Held) → Contains (with_item item items) item
 put_stands item items =
     Contains-append_right (filter (λ y. is_before y item) items) (item ∷ filter (λ y. is_before item y) items) item
     (first_stands item (filter (λ y. is_before item y) items))
 
-newer_stands : (item : Held) (items : List Held) → is_newer item (found item.table item.key items) ≡ true → Contains (with_newer item items) item
+pub newer_stands : (item : Held) (items : List Held) → is_newer item (found item.table item.key items) ≡ true → Contains (with_newer item items) item
 newer_stands item items newer =
     subst (λ (list : List Held). Contains list item)
     (sym (cond-true (is_newer item (found item.table item.key items)) (with_item item items) items newer)) (put_stands item items)
@@ -159,7 +159,7 @@ in_by_key range item x here =
 -- ---- scans
 
 -- an item of what counts for a range is in the range
-counting_in : (range : Range) (list : List Entry) → All (λ x. is_in range x ≡ true) (items_of (counting range list))
+pub counting_in : (range : Range) (list : List Entry) → All (λ x. is_in range x ≡ true) (items_of (counting range list))
 counting_in range [] = All-nil (λ x. is_in range x ≡ true)
 counting_in range (entry ∷ list) =
     ⊎_elim
@@ -184,7 +184,7 @@ material_in range side list =
     (All-append (λ x. is_in range x ≡ true) (items_of (counting range list)) (items_of (counting range (flat_map side (named range list))))
     (counting_in range list) (counting_in range (flat_map side (named range list))))
 
-put_all_from : (items more : List Held) (x : Held) → Contains (fold (λ list item. with_item item list) items more) x → Contains items x ⊎ Contains more x
+pub put_all_from : (items more : List Held) (x : Held) → Contains (fold (λ list item. with_item item list) items more) x → Contains items x ⊎ Contains more x
 put_all_from items [] x stands = inl stands
 put_all_from items (y ∷ more) x stands =
     ⊎_elim

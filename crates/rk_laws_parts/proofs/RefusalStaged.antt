@@ -54,7 +54,7 @@ module _ (v : View) (master : ℕ) (call : Call) (found : ℕ) (absent : Bool) (
   })
 
 -- what a staged refusal makes of a view: the tablet may be any, since its counter stays
-refused_is : (w : World) (master number : ℕ) (call : Call) (found : ℕ) (absent : Bool) → view (refusal_staged_in w master call found absent) ≡ refused (view w) master number call found absent
+pub refused_is : (w : World) (master number : ℕ) (call : Call) (found : ℕ) (absent : Bool) → view (refusal_staged_in w master call found absent) ≡ refused (view w) master number call found absent
 refused_is w master number call found absent =
     view_master w master (refusal_staged (master_at w master) call found absent) number (tablet_in w master number) refl refl (λ r apart. refl)
     ∙ (λ i. record (refused (view w) master number call found absent) {

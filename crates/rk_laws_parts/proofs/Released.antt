@@ -36,7 +36,7 @@ use Rattle.rk_laws_parts.proofs.Views.{view_master}
 -- ---- posts of masters that are not of the lineage
 
 -- posts of a master that is not of the lineage
-abbrev IsOutside : Post → Type 0
+abbrev pub IsOutside : Post → Type 0
 IsOutside InvitedTarget = ⊤
 IsOutside (ReadyTarget place) = ⊤
 IsOutside OutsideRebuilder = ⊤
@@ -44,12 +44,12 @@ IsOutside Bystander = ⊤
 IsOutside _ = ⊥
 
 -- a target that makes ready is not of the lineage
-target_outside : (place : Option ℕ) → IsOutside (target_post place)
+pub target_outside : (place : Option ℕ) → IsOutside (target_post place)
 target_outside None = tt
 target_outside (Some place) = tt
 
 -- nor is one that rebuilds it from without
-heir_outside : (lineage : List Member) (master : ℕ) → is_member lineage master ≡ false → IsOutside (rebuilder_post lineage master)
+pub heir_outside : (lineage : List Member) (master : ℕ) → is_member lineage master ≡ false → IsOutside (rebuilder_post lineage master)
 heir_outside [] master outside = tt
 heir_outside (only ∷ []) master outside = go (only.master == master) outside
   where
@@ -64,7 +64,7 @@ heir_outside (first ∷ last ∷ more) master outside = go (first.master == mast
     go false false outside = tt
 
 -- each master that is not of the lineage has such a post
-outside_post : (phase : Phase) (master : ℕ) → is_member (lineage_of phase) master ≡ false → IsOutside (post_of phase master)
+pub outside_post : (phase : Phase) (master : ℕ) → is_member (lineage_of phase) master ≡ false → IsOutside (post_of phase master)
 outside_post (Owned owner from) master outside = go (owner == master) outside
   where
     go : (b : Bool) → (b || false) ≡ false → IsOutside (if b then Owner from else Bystander)
@@ -90,7 +90,7 @@ outside_post (Rebuilding lineage to) master outside = go (to == master) (is_memb
     go false false is = tt
 
 -- such a post takes an absent role at the terms of a frozen one
-fits_absent : (post : Post) (term own applied : ℕ) → IsOutside post → Holds (bond_of post roles.Frozen) term own applied → Holds (bond_of post roles.Absent) term own applied
+pub fits_absent : (post : Post) (term own applied : ℕ) → IsOutside post → Holds (bond_of post roles.Frozen) term own applied → Holds (bond_of post roles.Absent) term own applied
 fits_absent InvitedTarget term own applied outside holds = holds
 fits_absent (ReadyTarget place) term own applied outside holds = absurd holds
 fits_absent OutsideRebuilder term own applied outside holds = holds
@@ -98,7 +98,7 @@ fits_absent Bystander term own applied outside holds = holds
 fits_absent _ term own applied outside holds = absurd outside
 
 -- and speaks for nothing in it
-absent_speaks : (post : Post) (old : Handover) (term : ℕ) → IsOutside post → speaks post (as_released old) term ≡ true → ⊥
+pub absent_speaks : (post : Post) (old : Handover) (term : ℕ) → IsOutside post → speaks post (as_released old) term ≡ true → ⊥
 absent_speaks InvitedTarget old term outside says = false≢true says
 absent_speaks (ReadyTarget place) old term outside says = false≢true says
 absent_speaks OutsideRebuilder old term outside says = false≢true says
@@ -158,7 +158,7 @@ module _ (v : View) (row : Row) (master : ℕ) (sound : SoundView v) (may : MayR
       view_role_taken (items_dropped v master old.range) row master (as_released old) no_gather [] (view_dropped v row master sound may) takes_role
 
 -- what it makes of a view
-view_released : (w : World) (master number : ℕ) → view (tablet_released_in w master number) ≡ role_taken (items_dropped (view w) master ((view w).handovers master number).range) master number (as_released ((view w).handovers master number)) no_gather []
+pub view_released : (w : World) (master number : ℕ) → view (tablet_released_in w master number) ≡ role_taken (items_dropped (view w) master ((view w).handovers master number).range) master number (as_released ((view w).handovers master number)) no_gather []
 view_released w master number =
     let handover : Handover = as_released (tablet_in w master number).handover in
     let dropped : Master = without_items (master_at w master) handover.range in

@@ -59,7 +59,7 @@ use Rattle.rk_laws_parts.proofs.Views.{view_master}
 -- ---- what a post says of a master that pulls
 
 -- it has not all of the tablet
-receiving_lacks : (post : Post) (handover : Handover) (term own applied : ℕ) → Holds (bond_of post roles.Receiving) term own applied → has_all_items post handover term ≡ false
+pub receiving_lacks : (post : Post) (handover : Handover) (term own applied : ℕ) → Holds (bond_of post roles.Receiving) term own applied → has_all_items post handover term ≡ false
 receiving_lacks (Owner place) handover term own applied holds = absurd holds
 receiving_lacks OpeningSource handover term own applied holds = absurd holds
 receiving_lacks InvitedTarget handover term own applied holds = refl
@@ -74,7 +74,7 @@ receiving_lacks FormerMember handover term own applied holds = refl
 receiving_lacks Bystander handover term own applied holds = refl
 
 -- and if it is to rebuild the tablet, it has not begun
-heir_receives : (lineage : List Member) (master term own applied : ℕ) → Holds (bond_of (rebuilder_post lineage master) roles.Receiving) term own applied → own < term
+pub heir_receives : (lineage : List Member) (master term own applied : ℕ) → Holds (bond_of (rebuilder_post lineage master) roles.Receiving) term own applied → own < term
 heir_receives [] master term own applied = λ holds. absurd holds
 heir_receives (only ∷ []) master term own applied =
     cond_both (only.master == master) (OnlyRebuilder only.from) OutsideRebuilder
@@ -87,7 +87,7 @@ heir_receives (first ∷ last ∷ more) master term own applied =
     cond_both (last.master == master) (LastRebuilder last.from) OutsideRebuilder
     (λ (post : Post). Holds (bond_of post roles.Receiving) term own applied → own < term) (λ e holds. holds) (λ e holds. absurd holds))
 
-receiving_behind : (lineage : List Member) (master term own applied : ℕ) → Holds (bond_of (post_of (Rebuilding lineage master) master) roles.Receiving) term own applied → own < term
+pub receiving_behind : (lineage : List Member) (master term own applied : ℕ) → Holds (bond_of (post_of (Rebuilding lineage master) master) roles.Receiving) term own applied → own < term
 receiving_behind lineage master term own applied holds =
     heir_receives lineage master term own applied
     (subst (λ (post : Post). Holds (bond_of post roles.Receiving) term own applied)
@@ -95,7 +95,7 @@ receiving_behind lineage master term own applied holds =
     (cond (is_member lineage master) FormerMember Bystander) (eq-eqb master master refl)) holds)
 
 -- what waits is not absent, and does not pull
-waits_apart : (role : Role) (P Q : ℕ → Type 0) → (is_absent role ≡ false → is_receiving role ≡ false → (from : ℕ) → P from → Q from) → IfSome (wanted_place role) P → IfSome (wanted_place role) Q
+pub waits_apart : (role : Role) (P Q : ℕ → Type 0) → (is_absent role ≡ false → is_receiving role ≡ false → (from : ℕ) → P from → Q from) → IfSome (wanted_place role) P → IfSome (wanted_place role) Q
 waits_apart (roles.Wanting from) P Q then holds = then refl refl from holds
 waits_apart role P Q then holds = tt
 
@@ -390,7 +390,7 @@ module _ (v : View) (row : Row) (source target : Member) (worker : ℕ) (item : 
 -- ---- the world
 
 -- what is seen of a world where an item was replayed
-view_item : (w : World) (master number worker : ℕ) (item : Held) → view (item_replayed_in w master number worker item) ≡ replayed (view w) master number worker item
+pub view_item : (w : World) (master number worker : ℕ) (item : Held) → view (item_replayed_in w master number worker item) ≡ replayed (view w) master number worker item
 view_item w master number worker item =
     let m : Master = master_at w master in
     let tablet : Tablet = with_pulling (tablet_at m number) (with_pulled (tablet_at m number).pulling worker item) in

@@ -15,14 +15,14 @@ use Rattle.rk_laws_parts.proofs.Alike.{still_counts}
 use Rattle.rk_laws_parts.proofs.Seen.{LooksAs}
 
 -- a tablet that looks as before fits its master's post as before
-role_looks : (row : Row) (master : ℕ) (old new : Handover) (applied applied' : ℕ) → LooksAs old new → applied' ≡ applied → RoleFits row master old applied → RoleFits row master new applied'
+pub role_looks : (row : Row) (master : ℕ) (old new : Handover) (applied applied' : ℕ) → LooksAs old new → applied' ≡ applied → RoleFits row master old applied → RoleFits row master new applied'
 role_looks row master old new applied applied' looks same fits =
     subst (λ (count : ℕ). RoleFits row master new count) (sym same)
     (subst (λ (term : ℕ). Holds (bond_of (post_of row.phase master) new.role) row.term term applied) (sym looks.term)
     (looks.role.fits (post_of row.phase master) row.term old.term applied fits))
 
 -- who hands a tablet over and who takes it keep the row's term as before
-terms_look : (phase : Phase) (terms terms' : ℕ → ℕ) (term : ℕ) → ((q : ℕ) → terms' q ≡ terms q) → KeepTerm phase terms term → KeepTerm phase terms' term
+pub terms_look : (phase : Phase) (terms terms' : ℕ → ℕ) (term : ℕ) → ((q : ℕ) → terms' q ≡ terms q) → KeepTerm phase terms term → KeepTerm phase terms' term
 terms_look (Owned owner from) terms terms' term same at = tt
 terms_look (Opening source sfrom target None) terms terms' term same at = tt
 terms_look (Opening source sfrom target (Some dfrom)) terms terms' term same at = same target ∙ at

@@ -88,20 +88,20 @@ use Rattle.rk_laws_parts.proofs.TurnedRows.{stands_found}
 use Rattle.rk_laws_parts.proofs.Views.{view_kept}
 
 -- where two tests in a row find no fault, neither test passes
-no_fault : {X : Type 0} (a b : Bool) (one other : X) → cond a (Some one) (cond b (Some other) None) ≡ None → (a ≡ false) × (b ≡ false)
+pub no_fault : {X : Type 0} (a b : Bool) (one other : X) → cond a (Some one) (cond b (Some other) None) ≡ None → (a ≡ false) × (b ≡ false)
 no_fault true b one other none = absurd (cc none)
 no_fault false true one other none = absurd (cc none)
 no_fault false false one other none = (refl, refl)
 
 -- ranges that are not empty and meet have a hash in common: the greater of the first ones
-in_both : (s f l t g m : ℕ) → f ≤ l → g ≤ m → (eqb s t && leb f m && leb g l) ≡ true → (hash : ℕ) × ((eqb s s && leb f hash && leb hash l) ≡ true) × ((eqb t s && leb g hash && leb hash m) ≡ true)
+pub in_both : (s f l t g m : ℕ) → f ≤ l → g ≤ m → (eqb s t && leb f m && leb g l) ≡ true → (hash : ℕ) × ((eqb s s && leb f hash && leb hash l) ≡ true) × ((eqb t s && leb g hash && leb hash m) ≡ true)
 in_both s f l t g m first second met = go (leb f g) refl
   where
     go : (b : Bool) → leb f g ≡ b → (hash : ℕ) × ((eqb s s && leb f hash && leb hash l) ≡ true) × ((eqb t s && leb g hash && leb hash m) ≡ true)
     go true is = (g, grind (arith, nat_tests), grind (arith, nat_tests))
     go false is = (f, grind (arith, nat_tests), grind (arith, nat_tests))
 
-meets_turned : (a b : Range) → meets a b ≡ false → meets b a ≡ false
+pub meets_turned : (a b : Range) → meets a b ≡ false → meets b a ≡ false
 meets_turned a b h = grind (arith, nat_tests)
 
 module _ (v : View) (tablet : ℕ) (range : Range) (master : ℕ) (sound : SoundView v) (may : MayAdd v (new_row tablet range master) master) where
@@ -913,7 +913,7 @@ module _ (v : View) (tablet : ℕ) (range : Range) (master : ℕ) (sound : Sound
     asked = sound.asked;
   }
 
-view_served : (w : World) (tablet : ℕ) (range : Range) (master : ℕ) → view (with_master w master (with_added (master_at w master) tablet range)) ≡ record (view w) { handovers = put2 (view w).handovers master tablet (as_added range) }
+pub view_served : (w : World) (tablet : ℕ) (range : Range) (master : ℕ) → view (with_master w master (with_added (master_at w master) tablet range)) ≡ record (view w) { handovers = put2 (view w).handovers master tablet (as_added range) }
 view_served w tablet range master =
     view_kept w master tablet (record (tablet_in w master tablet) { handover = as_added range })
     ∙ (λ i. record (view w) {

@@ -71,7 +71,7 @@ accepted_cases (first ∷ journal) (suc place) placed (suc i) found stands =
 
 -- ---- what is the same of the journals
 
-map_with_same : (start : Map) (old new : Placed) → IsSameRecord old new → ◌≡◌ {A = Map} (map_with start new) (map_with start old)
+pub map_with_same : (start : Map) (old new : Placed) → IsSameRecord old new → ◌≡◌ {A = Map} (map_with start new) (map_with start old)
 map_with_same start old new same =
     λ i. map_with start (record { call = same.call i; outcome = same.outcome i; stamp = new.stamp; accepted = new.accepted })
 

@@ -39,7 +39,7 @@ use Rattle.rk_laws_parts.proofs.Segments.{bytes_before}
 use Rattle.rk_laws_parts.proofs.Views.{view_gathered}
 
 -- of a copy where nothing of a main segment is known to be stored, nothing is stored of a later one
-copy_none_stored : (log : Log) (stored : ℕ → List ℕ) (known : Known) → IsCopy log stored known → (earlier later : ℕ) → 1 ≤ earlier → earlier < later → is_main later ≡ true → known_length known earlier ≡ 0 → 0 < length (stored later) → ⊥
+pub copy_none_stored : (log : Log) (stored : ℕ → List ℕ) (known : Known) → IsCopy log stored known → (earlier later : ℕ) → 1 ≤ earlier → earlier < later → is_main later ≡ true → known_length known earlier ≡ 0 → 0 < length (stored later) → ⊥
 copy_none_stored log stored known copy earlier later some before main none filled =
     let front = copy.front later in
     let there : 0 < length (bytes_of log later) = omega (arith, filled, ap length front.parts, length-append (stored later) front.more) in
@@ -50,7 +50,7 @@ copy_none_stored log stored known copy earlier later some before main none fille
     omega (arith, whole, none, bytes_before log earlier later some before less there)
 
 -- and nothing is known to be
-copy_none_behind : (log : Log) (stored : ℕ → List ℕ) (known : Known) → IsCopy log stored known → NoneBehind known
+pub copy_none_behind : (log : Log) (stored : ℕ → List ℕ) (known : Known) → IsCopy log stored known → NoneBehind known
 copy_none_behind log stored known copy earlier later some before main none =
     ⊎_elim
     (λ (told : 0 < known_length known later).
@@ -59,7 +59,7 @@ copy_none_behind log stored known copy earlier later some before main none =
     (cases_lt 0 (known_length known later))
 
 -- so it is of each master
-none_behind : (v : View) → SoundView v → (master : ℕ) → NoneBehind (known_of (v.logs master) READ_BACKUP)
+pub none_behind : (v : View) → SoundView v → (master : ℕ) → NoneBehind (known_of (v.logs master) READ_BACKUP)
 none_behind v sound master =
     let log : Log = v.logs master in
     ⊎_elim
@@ -138,7 +138,7 @@ module _ (v : View) (row : Row) (lineage : List Member) (own : ℕ) (sound : Sou
   }
 
 -- what is gathered for a row goes on
-goes_on : (v : View) (row : Row) (lineage : List Member) (own : ℕ) (copy : CopySegment) → SoundView v → Contains v.rows row → row.phase ≡ Rebuilding lineage own → (v.handovers own row.tablet).term ≡ row.term
+pub goes_on : (v : View) (row : Row) (lineage : List Member) (own : ℕ) (copy : CopySegment) → SoundView v → Contains v.rows row → row.phase ≡ Rebuilding lineage own → (v.handovers own row.tablet).term ≡ row.term
     → MayGather v own row.tablet copy.master copy.segment copy.bytes → GathersOn v row lineage own (reading copy (v.gathers own row.tablet))
 goes_on v row lineage own copy sound has phase term may =
     let gather : Gather = v.gathers own row.tablet in
@@ -181,7 +181,7 @@ goes_on v row lineage own copy sound has phase term may =
     }
 
 -- it may go on for each row that the master rebuilds
-may_go_on : (v : View) (own : ℕ) (copy : CopySegment) → SoundView v → MayGather v own copy.tenure.tablet copy.master copy.segment copy.bytes → MayGatherOn v own copy.tenure.tablet (reading copy)
+pub may_go_on : (v : View) (own : ℕ) (copy : CopySegment) → SoundView v → MayGather v own copy.tenure.tablet copy.master copy.segment copy.bytes → MayGatherOn v own copy.tenure.tablet (reading copy)
 may_go_on v own copy sound may row lineage has its phase term =
     goes_on v row lineage own copy sound has phase term
     (subst (λ (n : ℕ). MayGather v own n copy.master copy.segment copy.bytes) (sym its) may)

@@ -16,19 +16,19 @@ use Rattle.rk_sound.specs.Logs.{IsFirstPart, is_main}
 
 -- ---- segments by their numbers
 
-numbered_before : (number first : ℕ) (segments : List (List ℕ)) → number < first → segment_of number (numbered first segments) ≡ None
+pub numbered_before : (number first : ℕ) (segments : List (List ℕ)) → number < first → segment_of number (numbered first segments) ≡ None
 numbered_before number first [] less = refl
 numbered_before number first (bytes ∷ more) less =
     cond-false (eqb first number) (Some (record { number = first; bytes = bytes })) (segment_of number (numbered (suc first) more)) (ne_eqb first number (λ e. omega arith))
     ∙ numbered_before number (suc first) more (omega arith)
 
-numbered_past : (number first : ℕ) (segments : List (List ℕ)) → first + length segments ≤ number → segment_of number (numbered first segments) ≡ None
+pub numbered_past : (number first : ℕ) (segments : List (List ℕ)) → first + length segments ≤ number → segment_of number (numbered first segments) ≡ None
 numbered_past number first [] past = refl
 numbered_past number first (bytes ∷ more) past =
     cond-false (eqb first number) (Some (record { number = first; bytes = bytes })) (segment_of number (numbered (suc first) more)) (ne_eqb first number (λ e. omega arith))
     ∙ numbered_past number (suc first) more (omega arith)
 
-numbered_at : (number first k : ℕ) (segments : List (List ℕ)) → first + k ≡ number → k < length segments → segment_of number (numbered first segments) ≡ Some (record { number = number; bytes = get_or segments k [] })
+pub numbered_at : (number first k : ℕ) (segments : List (List ℕ)) → first + k ≡ number → k < length segments → segment_of number (numbered first segments) ≡ Some (record { number = number; bytes = get_or segments k [] })
 numbered_at number first k [] is within = absurd (omega arith)
 numbered_at number first zero (bytes ∷ more) is within =
     let same : first ≡ number = omega arith in
@@ -42,7 +42,7 @@ numbered_at number first (suc k) (bytes ∷ more) is within =
 abbrev pub bytes_in : Option NumberedBytes → List ℕ
 bytes_in found = option_map_or (λ segment. segment.bytes) found []
 
-found_in : (log : Log) (number : ℕ) → bytes_of log number ≡ bytes_in (option_or (segment_of number (numbered 1 (cut log.entries))) (segment_of number (side_segments log)))
+pub found_in : (log : Log) (number : ℕ) → bytes_of log number ≡ bytes_in (option_or (segment_of number (numbered 1 (cut log.entries))) (segment_of number (side_segments log)))
 found_in log number = ap bytes_in (find-append (λ (segment : NumberedBytes). eqb segment.number number) (numbered 1 (cut log.entries)) (side_segments log))
 
 -- of a main segment, by its place
@@ -84,14 +84,14 @@ bytes_side log number few side =
 
 -- ---- bytes behind segments
 
-first_part_itself : (bytes : List ℕ) → IsFirstPart bytes bytes
+pub first_part_itself : (bytes : List ℕ) → IsFirstPart bytes bytes
 first_part_itself bytes = record { more = []; parts = sym (append-nil bytes) }
 
-first_part_same : (a b : List ℕ) → b ≡ a → IsFirstPart a b
+pub first_part_same : (a b : List ℕ) → b ≡ a → IsFirstPart a b
 first_part_same a b same = subst (IsFirstPart a) (sym same) (first_part_itself a)
 
 -- each segment is a first part of what it then is
-with_bytes_front : (segments : List (List ℕ)) (bytes : List ℕ) (k : ℕ) → IsFirstPart (get_or segments k []) (get_or (with_bytes segments bytes) k [])
+pub with_bytes_front : (segments : List (List ℕ)) (bytes : List ℕ) (k : ℕ) → IsFirstPart (get_or segments k []) (get_or (with_bytes segments bytes) k [])
 with_bytes_front segments bytes k =
     cond_both (has_room segments bytes) (in_last segments bytes) (segments ++ bytes ∷ []) (λ s. IsFirstPart (get_or segments k []) (get_or s k []))
     (λ e.
@@ -120,14 +120,14 @@ with_bytes_front segments bytes k =
     (cases_lt k (length segments)))
 
 -- one with another behind it stays as it is
-with_bytes_full : (segments : List (List ℕ)) (bytes : List ℕ) (k : ℕ) → k + 1 < length segments → get_or (with_bytes segments bytes) k [] ≡ get_or segments k []
+pub with_bytes_full : (segments : List (List ℕ)) (bytes : List ℕ) (k : ℕ) → k + 1 < length segments → get_or (with_bytes segments bytes) k [] ≡ get_or segments k []
 with_bytes_full segments bytes k before =
     cond_both (has_room segments bytes) (in_last segments bytes) (segments ++ bytes ∷ []) (λ s. get_or s k [] ≡ get_or segments k [])
     (λ e. get_or-set_other segments (length segments - 1) k (last_of segments ++ bytes) [] (λ same. omega arith))
     (λ e. get_or_append_left segments (bytes ∷ []) [] k (omega arith))
 
 -- they are one more at most
-with_bytes_few : (segments : List (List ℕ)) (bytes : List ℕ) → length (with_bytes segments bytes) ≤ length segments + 1
+pub with_bytes_few : (segments : List (List ℕ)) (bytes : List ℕ) → length (with_bytes segments bytes) ≤ length segments + 1
 with_bytes_few segments bytes =
     cond_both (has_room segments bytes) (in_last segments bytes) (segments ++ bytes ∷ []) (λ s. length s ≤ length segments + 1)
     (λ e. omega (arith, length-set segments (length segments - 1) (last_of segments ++ bytes)))

@@ -38,7 +38,7 @@ present roles.Absent serves = absurd (cc)
 present role serves = refl
 
 -- an outsider does not serve
-outsider : (role : Role) (term own applied : ℕ) → Holds (bond_of OutsideRebuilder role) term own applied → is_serving role ≡ true → ⊥
+pub outsider : (role : Role) (term own applied : ℕ) → Holds (bond_of OutsideRebuilder role) term own applied → is_serving role ≡ true → ⊥
 outsider roles.Absent term own applied fits serves = absurd (cc)
 outsider roles.Closing term own applied fits serves = absurd (cc)
 outsider roles.Frozen term own applied fits serves = absurd (cc)
@@ -49,16 +49,16 @@ outsider roles.Receiving term own applied fits serves = fits
 outsider (roles.Joining entry) term own applied fits serves = fits
 
 -- an heir that serves is of the lineage, by the tests that tell its post
-heir_of_one : (here : Bool) (place : ℕ) (role : Role) (term own applied : ℕ) → Holds (bond_of (cond here (OnlyRebuilder place) OutsideRebuilder) role) term own applied → is_serving role ≡ true → (here || false) ≡ true
+pub heir_of_one : (here : Bool) (place : ℕ) (role : Role) (term own applied : ℕ) → Holds (bond_of (cond here (OnlyRebuilder place) OutsideRebuilder) role) term own applied → is_serving role ≡ true → (here || false) ≡ true
 heir_of_one true place role term own applied fits serves = refl
 heir_of_one false place role term own applied fits serves = absurd (outsider role term own applied fits serves)
 
-heir_of_two : (first last more : Bool) (one other : ℕ) (role : Role) (term own applied : ℕ) → Holds (bond_of (cond first (FirstRebuilder one) (cond last (LastRebuilder other) OutsideRebuilder)) role) term own applied → is_serving role ≡ true → (first || (last || more)) ≡ true
+pub heir_of_two : (first last more : Bool) (one other : ℕ) (role : Role) (term own applied : ℕ) → Holds (bond_of (cond first (FirstRebuilder one) (cond last (LastRebuilder other) OutsideRebuilder)) role) term own applied → is_serving role ≡ true → (first || (last || more)) ≡ true
 heir_of_two true last more one other role term own applied fits serves = refl
 heir_of_two false true more one other role term own applied fits serves = refl
 heir_of_two false false more one other role term own applied fits serves = absurd (outsider role term own applied fits serves)
 
-heir_member : (lineage : List Member) (master : ℕ) (role : Role) (term own applied : ℕ) → Holds (bond_of (rebuilder_post lineage master) role) term own applied → is_serving role ≡ true → is_member lineage master ≡ true
+pub heir_member : (lineage : List Member) (master : ℕ) (role : Role) (term own applied : ℕ) → Holds (bond_of (rebuilder_post lineage master) role) term own applied → is_serving role ≡ true → is_member lineage master ≡ true
 heir_member [] master role term own applied fits serves = absurd (outsider role term own applied fits serves)
 heir_member (only ∷ []) master role term own applied fits serves =
     heir_of_one (eqb only.master master) only.from role term own applied fits serves
@@ -66,7 +66,7 @@ heir_member (first ∷ last ∷ more) master role term own applied fits serves =
     heir_of_two (eqb first.master master) (eqb last.master master) (is_member more master) first.from last.from role term own applied fits serves
 
 -- the master that speaks for a row is of its lineage, where it serves
-speaker_member : (phase : Phase) (role : Role) (term own applied : ℕ) → Holds (bond_of (post_of phase (speaker_of phase)) role) term own applied → is_serving role ≡ true → is_member (lineage_of phase) (speaker_of phase) ≡ true
+pub speaker_member : (phase : Phase) (role : Role) (term own applied : ℕ) → Holds (bond_of (post_of phase (speaker_of phase)) role) term own applied → is_serving role ≡ true → is_member (lineage_of phase) (speaker_of phase) ≡ true
 speaker_member (Owned owner from) role term own applied fits serves = ap (λ (b : Bool). b || false) (eq-eqb owner owner refl)
 speaker_member (Opening source sfrom target dfrom) role term own applied fits serves =
     ap (λ (b : Bool). b || false) (eq-eqb source source refl)
@@ -82,7 +82,7 @@ speaker_member (Rebuilding lineage to) role term own applied fits serves =
     (eq-eqb to to refl) fits) serves
 
 -- what is found stands in the list
-first_or : (rows : List Row) (first row : Row) (number : ℕ) (later : row_of rows number ≡ Some row → Contains rows row) (here : Bool) → cond here (Some first) (row_of rows number) ≡ Some row → Contains (first ∷ rows) row
+pub first_or : (rows : List Row) (first row : Row) (number : ℕ) (later : row_of rows number ≡ Some row → Contains rows row) (here : Bool) → cond here (Some first) (row_of rows number) ≡ Some row → Contains (first ∷ rows) row
 first_or rows first row number later true found = let same : first ≡ row = cc in (0, omega arith, same)
 first_or rows first row number later false found =
     let stands = later found in (suc stands.0, omega (arith, stands.1), stands.2)

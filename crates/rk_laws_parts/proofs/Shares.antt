@@ -18,11 +18,11 @@ use Rattle.rk_world.specs.Master.{touches}
 use Rattle.rk_sound.specs.Logs.{segments_in}
 use Rattle.rk_sound.specs.Rest.{IsEntryOf}
 
-append_nil : {X : Type 0} (xs : List X) → xs ++ [] ≡ xs
+pub append_nil : {X : Type 0} (xs : List X) → xs ++ [] ≡ xs
 append_nil {X} [] = refl
 append_nil {X} (x ∷ xs) = ap (λ (ys : List X). x ∷ ys) (append_nil xs)
 
-drop_all : {X : Type 0} (count : ℕ) (xs : List X) → length xs ≤ count → drop count xs ≡ []
+pub drop_all : {X : Type 0} (count : ℕ) (xs : List X) → length xs ≤ count → drop count xs ≡ []
 drop_all zero [] few = refl
 drop_all zero (x ∷ xs) few = absurd (omega (arith, few))
 drop_all (suc count) [] few = refl
@@ -32,7 +32,7 @@ drop_all (suc count) (x ∷ xs) few = drop_all count xs (omega (arith, few))
 abbrev pub unless_marked : Bool → Entry → List Entry
 unless_marked marked entry = cond marked [] (entry ∷ [])
 
-none_of : (a b c : Bool) → b ≡ false → c ≡ false → ((a && b) || c) ≡ false
+pub none_of : (a b c : Bool) → b ≡ false → c ≡ false → ((a && b) || c) ≡ false
 none_of a b c e f = ap (λ (x : Bool). (a && x) || c) e ∙ ap (λ (y : Bool). (a && false) || y) f ∙ none a
   where
     none : (a : Bool) → ((a && false) || false) ≡ false
@@ -48,7 +48,7 @@ marked_none (mark ∷ marks) place within =
     (marked_none marks place (All-tail (λ m. m.past ≤ place) mark marks within))
 
 -- the entries that bear no mark, with one more behind them
-unmarked_last : (marks : List Mark) (place : ℕ) (list : List Entry) (entry : Entry) → unmarked marks place (list ++ entry ∷ []) ≡ unmarked marks place list ++ unless_marked (is_marked marks (place + length list)) entry
+pub unmarked_last : (marks : List Mark) (place : ℕ) (list : List Entry) (entry : Entry) → unmarked marks place (list ++ entry ∷ []) ≡ unmarked marks place list ++ unless_marked (is_marked marks (place + length list)) entry
 unmarked_last marks place [] entry =
     let e : place ≡ place + 0 = omega arith in ap (λ (n : ℕ). unless_marked (is_marked marks n) entry) e
 unmarked_last marks place (first ∷ list) entry =
@@ -70,7 +70,7 @@ unmarked_from_last marks place list entry within =
     ∙ ap (λ (n : ℕ). unmarked_from marks place list ++ unless_marked (is_marked marks n) entry) e
 
 -- and from a place behind the end nothing is there
-longer : (xs : List Entry) (x : Entry) (n : ℕ) → length xs < n → length (xs ++ x ∷ []) ≤ n
+pub longer : (xs : List Entry) (x : Entry) (n : ℕ) → length xs < n → length (xs ++ x ∷ []) ≤ n
 longer [] x n l = omega (arith, l)
 longer (y ∷ xs) x zero l = absurd (omega (arith, l))
 longer (y ∷ xs) x (suc n) l = let r = longer xs x n (omega (arith, l)) in omega (arith, r)

@@ -35,7 +35,7 @@ use Rattle.rk_laws_parts.proofs.SmallWorldLooks.{all_one, each_master, each_none
 use Rattle.rk_laws_parts.proofs.SmallWorldHistory.{truth_is, small_live, small_legal}
 
 -- the end of the put reaches its record
-reached_one : ReachAll small_range small_journal (small_end ∷ [])
+pub reached_one : ReachAll small_range small_journal (small_end ∷ [])
 reached_one =
     all_one (λ placed. is_record_in small_range placed ≡ true → is_mutation placed.call.op ≡ true → IsReached (small_end ∷ []) placed) small_placed
     (λ here mutation. record {
@@ -45,7 +45,7 @@ reached_one =
     })
 
 -- and so does what the truth tells of its key
-told_one : TellAll small_range small_journal (small_entry ∷ [])
+pub told_one : TellAll small_range small_journal (small_entry ∷ [])
 told_one =
     all_one
     (λ placed. is_record_in small_range placed ≡ true → is_mutation placed.call.op ≡ true
@@ -57,7 +57,7 @@ told_one =
     })
 
 -- the end is that of the record
-known_one : IsKnown no_base small_journal small_end
+pub known_one : IsKnown no_base small_journal small_end
 known_one = inl (record {
   placed = small_placed;
   stands = one_stands small_placed;
@@ -84,40 +84,40 @@ small_calls = record {
 }
 
 -- nothing stands behind the truth
-rest_one : IsRest no_base small_range (small_truths small_row) (small_rests small_row) small_journal (asked_by small_ledger)
+pub rest_one : IsRest no_base small_range (small_truths small_row) (small_rests small_row) small_journal (asked_by small_ledger)
 rest_one =
     subst (λ (truth : List Entry). IsRest no_base small_range truth [] small_journal (asked_by small_ledger)) (sym truth_is)
     (record { legal = small_legal; live = small_live; staged = All-nil _; one = λ i j d before within. absurd (omega (arith, within)) })
 
 -- a master in an idle role has nothing of the tablet that is not applied
-abbrev IsIdle : ℕ → Master → Row → Type 0
+abbrev pub IsIdle : ℕ → Master → Row → Type 0
 IsIdle n m row =
     StillCounts (lives small_world n) (tablet_at m row.tablet).handover.term row.term
     → is_idle (tablet_at m row.tablet).handover.role ≡ true
     → list_any (touches row.range) (drop m.applied m.log.entries) ≡ false
 
 -- so it is for each master
-nothing_touched : (q : ℕ) → All (λ row. StillCounts (lives small_world q) (tablet_in small_world q row.tablet).handover.term row.term → is_idle (tablet_in small_world q row.tablet).handover.role ≡ true → list_any (touches row.range) (drop (written_in small_world q).applied (written_in small_world q).entries) ≡ false) small_map
+pub nothing_touched : (q : ℕ) → All (λ row. StillCounts (lives small_world q) (tablet_in small_world q row.tablet).handover.term row.term → is_idle (tablet_in small_world q row.tablet).handover.role ≡ true → list_any (touches row.range) (drop (written_in small_world q).applied (written_in small_world q).entries) ≡ false) small_map
 nothing_touched =
     each_master (λ n m. All (IsIdle n m) small_map) (all_one (IsIdle 1 small_master) small_row (λ counts idle. refl))
     (λ n apart. all_one (IsIdle n (new_master n [])) small_row (λ counts idle. refl))
 
 -- no call waits
-nothing_waits : (q : ℕ) → EachIn (λ place call. Waits small_map (small_view.handovers q) (written_in small_world q) q place call) (calls_in small_world q)
+pub nothing_waits : (q : ℕ) → EachIn (λ place call. Waits small_map (small_view.handovers q) (written_in small_world q) q place call) (calls_in small_world q)
 nothing_waits =
     each_master (λ n m. EachIn (λ place call. Waits small_map (λ r. (tablet_at m r).handover) (written_by m []) n place call) m.calls)
     (each_none (λ place call. Waits small_map (λ r. (tablet_at small_master r).handover) (written_by small_master []) 1 place call))
     (λ n apart. each_none (λ place call. Waits small_map (λ r. (tablet_at (new_master n []) r).handover) (written_by (new_master n []) []) n place call))
 
 -- and so none that was not asked
-none_unasked : (q : ℕ) → EachIn (λ place call. IsLast (asked_by small_ledger call.client) call) (calls_in small_world q)
+pub none_unasked : (q : ℕ) → EachIn (λ place call. IsLast (asked_by small_ledger call.client) call) (calls_in small_world q)
 none_unasked =
     each_master (λ n m. EachIn (λ place call. IsLast (asked_by small_ledger call.client) call) m.calls)
     (each_none (λ place call. IsLast (asked_by small_ledger call.client) call))
     (λ n apart. each_none (λ place call. IsLast (asked_by small_ledger call.client) call))
 
 -- and no entry stands behind what is applied
-nothing_behind : (q : ℕ) → EachHasCall (calls_in small_world q) (written_in small_world q)
+pub nothing_behind : (q : ℕ) → EachHasCall (calls_in small_world q) (written_in small_world q)
 nothing_behind q place entry =
     each_master
     (λ n m. m.applied ≤ place → slice_get m.log.entries place ≡ Some entry → is_call_entry entry ≡ true → is_marked [] place ≡ false → HasCall m.calls place entry)
@@ -137,7 +137,7 @@ small_rest = record {
 }
 
 -- the newest item of a key is the put's or none
-newest_one : (item : Held) → newest (small_item ∷ []) item.table item.key ≡ Some item → small_item ≡ item
+pub newest_one : (item : Held) → newest (small_item ∷ []) item.table item.key ≡ Some item → small_item ≡ item
 newest_one item = go (is_of item.table item.key small_item)
   where
     go : (b : Bool) → cond b (Some small_item) None ≡ Some item → small_item ≡ item
@@ -145,41 +145,41 @@ newest_one item = go (is_of item.table item.key small_item)
     go false e = absurd (cc)
 
 -- the table has just the newest item of the put's key
-table_one : IsTableOf small_range (small_entry ∷ []) (small_item ∷ [])
+pub table_one : IsTableOf small_range (small_entry ∷ []) (small_item ∷ [])
 table_one item here = (
   λ there. subst (λ (i : Held). newest (small_item ∷ []) i.table i.key ≡ Some i) (sym (only_one small_item item there)) refl,
   λ found. subst (Contains (small_item ∷ [])) (newest_one item found) (one_stands small_item),
 )
 
 -- what is applied at the owner is the put alone
-member_is : member_truth (written_in small_world) small_range (member 1 0) ≡ small_entry ∷ []
+pub member_is : member_truth (written_in small_world) small_range (member 1 0) ≡ small_entry ∷ []
 unfolding hash_of
 member_is = refl
 
 -- so the table has what is applied there
-items_one : HasItems small_row (written_in small_world) (small_item ∷ [])
+pub items_one : HasItems small_row (written_in small_world) (small_item ∷ [])
 items_one = subst (λ (truth : List Entry). IsTableOf small_range truth (small_item ∷ [])) (sym member_is) table_one
 
 -- a master that has all items of the tablet has them in its table
-abbrev IsFull : ℕ → Master → Row → Type 0
+abbrev pub IsFull : ℕ → Master → Row → Type 0
 IsFull n m row =
     has_all_items (post_of row.phase n) (tablet_at m row.tablet).handover row.term ≡ true
     → HasItems row (written_in small_world) m.records
 
 -- and another master need not have them
-nothing_full : (n : ℕ) → (n ≡ 1 → ⊥) → has_all_items (post_of small_row.phase n) no_tablet.handover 1 ≡ true → ⊥
+pub nothing_full : (n : ℕ) → (n ≡ 1 → ⊥) → has_all_items (post_of small_row.phase n) no_tablet.handover 1 ≡ true → ⊥
 nothing_full n apart all =
     let e : has_all_items (post_of small_row.phase n) no_tablet.handover 1 ≡ false =
     ap (λ (post : Post). has_all_items post no_tablet.handover 1) (post_elsewhere n apart)
     in let f : true ≡ false = sym all ∙ e in absurd (cc)
 
 -- one item is in scan order
-order_one : (item : Held) → IsInScanOrder (item ∷ [])
+pub order_one : (item : Held) → IsInScanOrder (item ∷ [])
 unfolding IsStrictlySortedBy
 order_one item = (tt, tt)
 
 -- so is none
-order_none : IsInScanOrder []
+pub order_none : IsInScanOrder []
 unfolding IsStrictlySortedBy
 order_none = tt
 

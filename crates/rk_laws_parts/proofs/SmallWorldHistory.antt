@@ -30,7 +30,7 @@ unfolding hash_of
 truth_is = refl
 
 -- log and journal leave the same record
-same_record : (b c : Bool) → b ≡ c → item_record (cond b (Some small_item) None) ≡ entry_record (cond c (live_entry 1 small_value) never)
+pub same_record : (b c : Bool) → b ≡ c → item_record (cond b (Some small_item) None) ≡ entry_record (cond c (live_entry 1 small_value) never)
 same_record true true e = refl
 same_record false false e = refl
 same_record true false e = absurd (cc)
@@ -41,7 +41,7 @@ small_live table key here =
     same_record (eqb 1 table && bytes_eq small_key key) (eqb table 1 && bytes_eq key small_key) (name-swap 1 table small_key key)
 
 -- there is but one item
-small_plain : IsPlain (small_item ∷ [])
+pub small_plain : IsPlain (small_item ∷ [])
 small_plain a b first second table key version = only_one small_item a first ∙ sym (only_one small_item b second)
 
 -- a put may be written at version 1 where nothing was
@@ -49,7 +49,7 @@ pub small_legal : IsLegal empty_map small_journal
 small_legal = (omega arith, tt)
 
 -- the truth of the row tells the journal
-truth_one : IsTruth no_base small_range (small_truths small_row) small_journal
+pub truth_one : IsTruth no_base small_range (small_truths small_row) small_journal
 truth_one =
     subst (λ (truth : List Entry). IsTruth no_base small_range truth small_journal) (sym truth_is)
     (record { plain = small_plain; live = small_live })
@@ -72,24 +72,24 @@ small_order = record {
 }
 
 -- the version that was given is below the next one
-low_either : (found : Bool) → last_version (cond found (live_entry 1 small_value) never) < floor_of (cond found (small_entry ∷ []) [])
+pub low_either : (found : Bool) → last_version (cond found (live_entry 1 small_value) never) < floor_of (cond found (small_entry ∷ []) [])
 low_either true = omega arith
 low_either false = omega arith
 
 -- so it is of each key
-small_low : AreAboveMap small_range (map_after empty_map small_journal) (small_entry ∷ [])
+pub small_low : AreAboveMap small_range (map_after empty_map small_journal) (small_entry ∷ [])
 small_low table key here =
     subst
     (λ (found : Bool). last_version (cond found (live_entry 1 small_value) never) < floor_of (of_key table key (small_entry ∷ [])))
     (name-swap 1 table small_key key) (low_either (eqb 1 table && bytes_eq small_key key))
 
 -- and for the truth of the row
-low_one : AreAboveMap small_range (map_after empty_map small_journal) (small_truths small_row)
+pub low_one : AreAboveMap small_range (map_after empty_map small_journal) (small_truths small_row)
 low_one =
     subst (λ (truth : List Entry). AreAboveMap small_range (map_after empty_map small_journal) truth) (sym truth_is) small_low
 
 -- the tablet's counter is above all that was written
-next_one : IsNext (small_truths small_row ++ small_rests small_row) 2
+pub next_one : IsNext (small_truths small_row ++ small_rests small_row) 2
 next_one = subst (λ (truth : List Entry). floor_of (truth ++ []) ≤ 2) (sym truth_is) (omega arith)
 
 -- the next version is above all that were given

@@ -24,7 +24,7 @@ known_here =
     e ∙ m
 
 -- and nothing of any other segment
-known_elsewhere : (segment : ℕ) → (segment ≡ 1 → ⊥) → known_length small_known segment ≡ 0
+pub known_elsewhere : (segment : ℕ) → (segment ≡ 1 → ⊥) → known_length small_known segment ≡ 0
 known_elsewhere segment apart = told_other nothing 1 (length small_bytes) segment apart
 
 -- so its entry counts as applied
@@ -33,24 +33,24 @@ committed_here =
     cond-true _ 1 0 (and_from _ true (le-leb _ _ (omega (arith, known_here))) refl)
 
 -- there is no other segment
-bytes_elsewhere : (segment : ℕ) → (segment ≡ 1 → ⊥) → bytes_of small_log segment ≡ []
+pub bytes_elsewhere : (segment : ℕ) → (segment ≡ 1 → ⊥) → bytes_of small_log segment ≡ []
 bytes_elsewhere segment apart =
     ap (λ (b : Bool). option_map_or (λ (s : NumberedBytes). s.bytes) (cond b (Some (record { number = 1; bytes = small_bytes })) None) [])
     (ne_eqb 1 segment (λ e. apart (sym e)))
 
 -- and the backup stores no other
-stored_elsewhere : (segment : ℕ) → (segment ≡ 1 → ⊥) → stored_bytes (small_stored 1 segment) ≡ []
+pub stored_elsewhere : (segment : ℕ) → (segment ≡ 1 → ⊥) → stored_bytes (small_stored 1 segment) ≡ []
 stored_elsewhere segment apart =
     ap (λ (b : Bool). stored_bytes (cond b (Some small_bytes) None)) (ne_eqb segment 1 apart)
 
 -- nothing stands before the first segment
-known_before : (later : ℕ) → later ≡ 1 → IsKnownBefore small_log small_known later
+pub known_before : (later : ℕ) → later ≡ 1 → IsKnownBefore small_log small_known later
 known_before later is segment before same =
     let none : segment ≡ 1 → ⊥ = λ e. absurd (omega (arith, e, is, before)) in
     omega (arith, ap length (bytes_elsewhere segment none))
 
 -- it stores a first part of each segment: all of the first, nothing of the others
-copy_front : (segment : ℕ) → IsFirstPart (stored_bytes (small_stored 1 segment)) (bytes_of small_log segment)
+pub copy_front : (segment : ℕ) → IsFirstPart (stored_bytes (small_stored 1 segment)) (bytes_of small_log segment)
 copy_front segment =
     ⊎_elim
     (λ (is : segment ≡ 1). subst (λ (n : ℕ). IsFirstPart (stored_bytes (small_stored 1 n)) (bytes_of small_log n)) (sym is)
@@ -62,13 +62,13 @@ copy_front segment =
     (cases_eq segment 1)
 
 -- in their order
-copy_order : (segment : ℕ) → stored_bytes (small_stored 1 segment) ≢ [] → IsKnownBefore small_log small_known segment
+pub copy_order : (segment : ℕ) → stored_bytes (small_stored 1 segment) ≢ [] → IsKnownBefore small_log small_known segment
 copy_order segment some =
     ⊎_elim (λ (is : segment ≡ 1). known_before segment is)
     (λ (apart : segment ≡ 1 → ⊥). absurd (some (stored_elsewhere segment apart))) (cases_eq segment 1)
 
 -- and no more is known of it than it stores
-copy_told : (segment : ℕ) → known_length small_known segment ≤ length (stored_bytes (small_stored 1 segment))
+pub copy_told : (segment : ℕ) → known_length small_known segment ≤ length (stored_bytes (small_stored 1 segment))
 copy_told segment =
     ⊎_elim
     (λ (is : segment ≡ 1). subst (λ (n : ℕ). known_length small_known n ≤ length (stored_bytes (small_stored 1 n))) (sym is) (omega (arith, known_here)))
@@ -76,11 +76,11 @@ copy_told segment =
     (cases_eq segment 1)
 
 -- what the backup stores of the log is a copy of it
-copy_one : IsCopy small_log (λ segment. stored_bytes (small_stored 1 segment)) small_known
+pub copy_one : IsCopy small_log (λ segment. stored_bytes (small_stored 1 segment)) small_known
 copy_one = record { front = copy_front; in_order = copy_order; told = copy_told }
 
 -- the master's log, with what the backup stores of it
-log_one : IsLog small_log (written_by small_master []) (λ backup segment. stored_bytes (backup_at small_world backup 1 segment))
+pub log_one : IsLog small_log (written_by small_master []) (λ backup segment. stored_bytes (backup_at small_world backup 1 segment))
 log_one = record {
   held = omega (arith, committed_here);
   copies = λ backup there.
@@ -93,7 +93,7 @@ log_one = record {
 }
 
 -- an empty log has nothing to be stored
-log_none : (number : ℕ) (stored : ℕ → ℕ → List ℕ) → IsLog (new_log []) (written_by (new_master number []) []) stored
+pub log_none : (number : ℕ) (stored : ℕ → ℕ → List ℕ) → IsLog (new_log []) (written_by (new_master number []) []) stored
 log_none number stored = record {
   held = omega arith;
   copies = λ backup there. absurd (omega (arith, there.first, there.last));
@@ -104,7 +104,7 @@ log_none number stored = record {
 }
 
 -- the Append has all bytes of the log
-piece_one : IsFromLog small_log small_known small_piece
+pub piece_one : IsFromLog small_log small_known small_piece
 piece_one = record {
   before = [];
   behind = [];

@@ -21,11 +21,11 @@ use Rattle.rk_sound.specs.Handing.{handed_by, handed_for_grant}
 use Rattle.rk_laws_parts.proofs.SmallWorld.{small_world, small_master, small_tablet, small_stored, small_last, small_wire, small_request, small_append, small_told, small_reply, small_ledger, small_row, small_map, small_view}
 
 -- what is found in a table of one thing
-found_one : {X : Type 0} (number : ℕ) (thing : X) (q : ℕ) → get ((number, thing) ∷ []) q ≡ cond (eqb q number) (Some thing) None
+pub found_one : {X : Type 0} (number : ℕ) (thing : X) (q : ℕ) → get ((number, thing) ∷ []) q ≡ cond (eqb q number) (Some thing) None
 found_one number thing q = ap (λ (b : Bool). cond b (Some thing) None) (unsigned_tied q number)
 
 -- what holds of the one thing, and of nothing under each other number, holds of what is found
-each_found : {X : Type 0} (P : ℕ → Option X → Type 0) (number : ℕ) (thing : X) → P number (Some thing) → ((q : ℕ) → (q ≡ number → ⊥) → P q None) → (q : ℕ) → P q (get ((number, thing) ∷ []) q)
+pub each_found : {X : Type 0} (P : ℕ → Option X → Type 0) (number : ℕ) (thing : X) → P number (Some thing) → ((q : ℕ) → (q ≡ number → ⊥) → P q None) → (q : ℕ) → P q (get ((number, thing) ∷ []) q)
 each_found {X} P number thing here others q =
     ⊎_elim
     (λ (is : q ≡ number).

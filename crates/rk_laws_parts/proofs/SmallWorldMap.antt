@@ -26,7 +26,7 @@ use Rattle.rk_laws_parts.proofs.SmallWorld.{small_world, small_entry, small_item
 use Rattle.rk_laws_parts.proofs.SmallWorldLooks.{each_master, each_message, each_tablet, each_sent, all_one, not_owner, post_elsewhere}
 
 -- a master that the row names is the one that is there
-named_is_there : (q : ℕ) → names small_row.phase q ≡ true → IsMaster 1 q
+pub named_is_there : (q : ℕ) → names small_row.phase q ≡ true → IsMaster 1 q
 named_is_there q named =
     let is : 1 ≡ q = eqb-true 1 q named in
     subst (λ (n : ℕ). IsMaster 1 n) is (record { first = omega arith; last = omega arith })
@@ -44,7 +44,7 @@ small_nodes = record {
 }
 
 -- the key of the put is in the row
-covered_one : is_covered small_map 1 (hash_of small_key) ≡ true
+pub covered_one : is_covered small_map 1 (hash_of small_key) ≡ true
 unfolding hash_of
 covered_one = refl
 
@@ -66,11 +66,11 @@ present_one q r there =
     (λ h. (refl, refl)) (λ n t apart h. absurd (cc)) q r there
 
 -- what the master keeps of the tablet is at the row's term, with its range
-handover_here : HandoverFits small_row 1 small_tablet.handover
+pub handover_here : HandoverFits small_row 1 small_tablet.handover
 handover_here = record { within = λ same. omega arith; below = λ apart meet. absurd (apart refl); exact = λ same term. refl }
 
 -- what nobody keeps is at term 0
-handover_nowhere : (r : ℕ) → HandoverFits small_row r no_tablet.handover
+pub handover_nowhere : (r : ℕ) → HandoverFits small_row r no_tablet.handover
 handover_nowhere r = record {
   within = λ same. omega arith;
   below = λ apart meet. omega arith;
@@ -78,7 +78,7 @@ handover_nowhere r = record {
 }
 
 -- a message that tells no tenure says nothing of terms
-no_tenure : (body : Body) → tenure_in body ≡ None → SentFits small_row body
+pub no_tenure : (body : Body) → tenure_in body ≡ None → SentFits small_row body
 no_tenure body none = record {
   within = subst (λ o. IfSome o (λ tenure. IsWithinTerm small_row tenure.tablet tenure.term)) (sym none) tt;
   below =
@@ -102,7 +102,7 @@ small_terms = record {
 }
 
 -- the range of the row lies in it
-within_one : IsWithinRows small_map small_range
+pub within_one : IsWithinRows small_map small_range
 within_one hash here = ap (λ (b : Bool). b || false) here
 
 -- the tablet has a row, and nothing is spoken of that lies in none
@@ -124,16 +124,16 @@ small_cover = record {
 }
 
 -- the owner serves at the row's term
-role_here : RoleFits small_row 1 small_tablet.handover 1
+pub role_here : RoleFits small_row 1 small_tablet.handover 1
 role_here = refl
 
 -- another master is absent, and its post asks no more
-role_elsewhere : (q : ℕ) → (q ≡ 1 → ⊥) → RoleFits small_row q no_tablet.handover 0
+pub role_elsewhere : (q : ℕ) → (q ≡ 1 → ⊥) → RoleFits small_row q no_tablet.handover 0
 role_elsewhere q apart =
     subst (λ (post : Post). Holds (bond_of post roles.Absent) 1 0 0) (sym (post_elsewhere q apart)) (omega arith)
 
 -- and it is not of the lineage
-not_member : (q : ℕ) → (q ≡ 1 → ⊥) → is_member (lineage_of small_row.phase) q ≡ true → ⊥
+pub not_member : (q : ℕ) → (q ≡ 1 → ⊥) → is_member (lineage_of small_row.phase) q ≡ true → ⊥
 not_member q apart there =
     let e : (eqb 1 q || false) ≡ false = ap (λ (b : Bool). b || false) (not_owner q apart) in
     let f : true ≡ false = sym there ∙ e in absurd (cc)

@@ -14,12 +14,12 @@ use Rattle.rk_laws_parts.proofs.SmallWorld.{small_entry, small_request, small_wo
 use Rattle.rk_laws_parts.proofs.SmallWorldLooks.{all_one, each_master, each_message, each_none, each_request}
 
 -- the log has 40 bytes
-small_size : bytes_of_logs small_world ≡ 40
+pub small_size : bytes_of_logs small_world ≡ 40
 unfolding spelled_all spelled front_bytes body_length head_bytes held_bytes mark_of number_bytes key_bytes value_bytes
 small_size = refl
 
 -- the request tells what its client had seen
-told_one : AreAtMost 4 (numbers_told small_request.body)
+pub told_one : AreAtMost 4 (numbers_told small_request.body)
 told_one = all_one (λ number. number ≤ 4) 0 (omega arith)
 
 -- no number is above the greatest that has stood, and all are far below the bounds

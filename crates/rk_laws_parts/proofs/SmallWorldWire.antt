@@ -44,7 +44,7 @@ small_rebuilds = record {
 }
 
 -- the reply tells the record
-reply_one : IsRecordAt small_journal 1 small_answer (outcomes.Written 1)
+pub reply_one : IsRecordAt small_journal 1 small_answer (outcomes.Written 1)
 reply_one = record {
   placed = small_placed;
   stands = refl;
@@ -64,12 +64,12 @@ small_messages = record {
 }
 
 -- the key lies in the lane
-lane_one : lane_of_key small_key ≡ 4
+pub lane_one : lane_of_key small_key ≡ 4
 unfolding hash_of
 lane_one = refl
 
 -- the request is that of the last call
-request_one : RequestFits (asked_by small_ledger) small_journal 1 small_asks
+pub request_one : RequestFits (asked_by small_ledger) small_journal 1 small_asks
 request_one = record { was_asked = inl refl; seen = λ same. refl }
 
 -- the put is the last call of its client, and the request asks it

@@ -55,7 +55,7 @@ IsQuiet FormerMember = ⊤
 IsQuiet Bystander = ⊤
 IsQuiet _ = ⊥
 
-quiet_role : (post : Post) (role : Role) (term own applied : ℕ) → IsQuiet post → Holds (bond_of post role) term own applied → is_serving role ≡ true → ⊥
+pub quiet_role : (post : Post) (role : Role) (term own applied : ℕ) → IsQuiet post → Holds (bond_of post role) term own applied → is_serving role ≡ true → ⊥
 quiet_role duty roles.Absent term own applied quiet fits serves = absurd (cc)
 quiet_role duty roles.Closing term own applied quiet fits serves = absurd (cc)
 quiet_role duty roles.Frozen term own applied quiet fits serves = absurd (cc)
@@ -84,7 +84,7 @@ speaker_of (Opening source sfrom target dfrom) = source
 speaker_of (Moving source sfrom target dfrom) = target
 speaker_of (Rebuilding lineage to) = to
 
-quiet_asked : (place : Option ℕ) → IsQuiet (target_post place)
+pub quiet_asked : (place : Option ℕ) → IsQuiet (target_post place)
 quiet_asked None = tt
 quiet_asked (Some place) = tt
 
@@ -118,12 +118,12 @@ serving_wants (roles.Wanting from) serves = absurd (cc)
 serving_wants _ serves = refl
 
 -- no second member waits while the last member of the lineage serves
-second_serves : (row : Row) (handovers : ℕ → ℕ → Handover) (last member : Member) → is_serving (handovers last.master row.tablet).role ≡ true → Some member ≡ Some last → is_wanting (handovers member.master row.tablet).role ≡ false
+pub second_serves : (row : Row) (handovers : ℕ → ℕ → Handover) (last member : Member) → is_serving (handovers last.master row.tablet).role ≡ true → Some member ≡ Some last → is_wanting (handovers member.master row.tablet).role ≡ false
 second_serves row handovers last member serves is =
     let same : member ≡ last = cc in
     serving_wants (handovers member.master row.tablet).role (ap (λ (m : Member). is_serving (handovers m.master row.tablet).role) same ∙ serves)
 
-lineage_waits : (row : Row) (handovers : ℕ → ℕ → Handover) (lineage : List Member) (last : Member) → AreApart lineage → last_of lineage ≡ Some last → is_serving (handovers last.master row.tablet).role ≡ true → is_waiting (second_has handovers row (second_of lineage)) ≡ false
+pub lineage_waits : (row : Row) (handovers : ℕ → ℕ → Handover) (lineage : List Member) (last : Member) → AreApart lineage → last_of lineage ≡ Some last → is_serving (handovers last.master row.tablet).role ≡ true → is_waiting (second_has handovers row (second_of lineage)) ≡ false
 lineage_waits row handovers [] last formed is serves = refl
 lineage_waits row handovers (only ∷ []) last formed is serves = refl
 lineage_waits row handovers (first ∷ second ∷ []) last formed is serves = second_serves row handovers last second serves is
@@ -136,12 +136,12 @@ none_waits row handovers (Moving source sfrom target dfrom) last formed is serve
 none_waits row handovers (Rebuilding lineage to) last formed is serves = lineage_waits row handovers lineage last formed is serves
 
 -- what waits at no term waits at none
-waiting_at : (other : Option Handover) (term : ℕ) → is_waiting other ≡ false → is_waiting_at other term ≡ false
+pub waiting_at : (other : Option Handover) (term : ℕ) → is_waiting other ≡ false → is_waiting_at other term ≡ false
 waiting_at None term none = refl
 waiting_at (Some handover) term none = and_left (is_wanting handover.role) (eqb handover.term term) none
 
 -- no Transfer counts for a row whose source serves
-opening_hands : (phase : Phase) (tablet : ℕ) (handovers : ℕ → ℕ → Handover) (completions : Completions) (term sender : ℕ) (transfer : Transfer) (of_tablet of_term : Bool) (given : Handed)
+pub opening_hands : (phase : Phase) (tablet : ℕ) (handovers : ℕ → ℕ → Handover) (completions : Completions) (term sender : ℕ) (transfer : Transfer) (of_tablet of_term : Bool) (given : Handed)
     → (of_tablet ≡ true → of_term ≡ true → TransferIn phase (handovers sender tablet) completions term sender transfer) → is_serving (handovers (speaker_of phase) tablet).role ≡ true
     → cond (is_opening phase && of_tablet && of_term) (Some given) None ≡ None
 opening_hands (Opening source sfrom target dfrom) tablet handovers completions term sender transfer true true given says serves =
@@ -154,7 +154,7 @@ opening_hands (Owned owner from) tablet handovers completions term sender transf
 opening_hands (Moving source sfrom target dfrom) tablet handovers completions term sender transfer of_tablet of_term given says serves = refl
 opening_hands (Rebuilding lineage to) tablet handovers completions term sender transfer of_tablet of_term given says serves = refl
 
-transfer_hands : (row : Row) (logs : ℕ → Log) (written : ℕ → Written) (stored : ℕ → Segments) (handovers : ℕ → ℕ → Handover) (completions : ℕ → ℕ → Completions) (merged : ℕ → ℕ → List Ended) (live : ℕ → Bool) (handed : NumberMap Handed) (from to : Node) (transfer : Transfer)
+pub transfer_hands : (row : Row) (logs : ℕ → Log) (written : ℕ → Written) (stored : ℕ → Segments) (handovers : ℕ → ℕ → Handover) (completions : ℕ → ℕ → Completions) (merged : ℕ → ℕ → List Ended) (live : ℕ → Bool) (handed : NumberMap Handed) (from to : Node) (transfer : Transfer)
     → SaysOf row logs written stored handovers completions merged live handed from to (bodies.Transfer transfer) → is_serving (handovers (speaker_of row.phase) row.tablet).role ≡ true
     → handed_by row handovers (bodies.Transfer transfer) ≡ None
 transfer_hands row logs written stored handovers completions merged live handed (nodes.Master sender) to transfer says serves =

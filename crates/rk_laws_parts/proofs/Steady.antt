@@ -43,7 +43,7 @@ idle_or_staged roles.Closing = inr refl
 idle_or_staged (roles.Rebuilding from entry) = inr refl
 
 -- a target that takes a tablet over has no steady role
-target_steady : (place : ℕ) (role : Role) (term own applied : ℕ) → is_steady role ≡ true → Holds (bond_of (MovingTarget place) role) term own applied → ⊥
+pub target_steady : (place : ℕ) (role : Role) (term own applied : ℕ) → is_steady role ≡ true → Holds (bond_of (MovingTarget place) role) term own applied → ⊥
 target_steady place roles.Absent term own applied steady holds = holds
 target_steady place roles.Serving term own applied steady holds = holds
 target_steady place roles.Closing term own applied steady holds = holds
@@ -61,14 +61,14 @@ moving_steady source sfrom target dfrom role term own applied apart steady holds
     (subst (λ (post : Post). Holds (bond_of post role) term own applied) first holds))
 
 -- posts of a master that is to rebuild a tablet
-abbrev IsHeir : Post → Type 0
+abbrev pub IsHeir : Post → Type 0
 IsHeir (OnlyRebuilder place) = ⊤
 IsHeir (FirstRebuilder place) = ⊤
 IsHeir (LastRebuilder place) = ⊤
 IsHeir OutsideRebuilder = ⊤
 IsHeir _ = ⊥
 
-heir_post : (lineage : List Member) (master : ℕ) → IsHeir (rebuilder_post lineage master)
+pub heir_post : (lineage : List Member) (master : ℕ) → IsHeir (rebuilder_post lineage master)
 heir_post [] master = tt
 heir_post (only ∷ []) master =
     cond_both (only.master == master) (OnlyRebuilder only.from) OutsideRebuilder IsHeir (λ e. tt) (λ e. tt)
@@ -78,7 +78,7 @@ heir_post (first ∷ last ∷ more) master =
     (λ e. cond_both (last.master == master) (LastRebuilder last.from) OutsideRebuilder IsHeir (λ e. tt) (λ e. tt))
 
 -- such a master, in a steady role, keeps a smaller term than the row's
-heir_behind : (post : Post) (role : Role) (term own applied : ℕ) → IsHeir post → is_steady role ≡ true → Holds (bond_of post role) term own applied → own < term
+pub heir_behind : (post : Post) (role : Role) (term own applied : ℕ) → IsHeir post → is_steady role ≡ true → Holds (bond_of post role) term own applied → own < term
 heir_behind post roles.Receiving term own applied heir steady holds = absurd (cc)
 heir_behind post (roles.Wanting from) term own applied heir steady holds = absurd (cc)
 heir_behind post (roles.Joining entry) term own applied heir steady holds = absurd (cc)

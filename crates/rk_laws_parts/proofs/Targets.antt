@@ -29,7 +29,7 @@ abbrev pub AreBelow : List Held → Held → Type 0
 AreBelow others item = All (λ other. other.version < item.version) others
 
 -- the closing entries of a log with one more entry, which is none
-closing_push : (place : Option ℕ) (closing : Entry) (range : Range) (from : ℕ) (list : List Entry) (entry : Entry) → is_joined_in range entry ≡ false → HasClosing place closing range from list → HasClosing place closing range from (list ++ entry ∷ [])
+pub closing_push : (place : Option ℕ) (closing : Entry) (range : Range) (from : ℕ) (list : List Entry) (entry : Entry) → is_joined_in range entry ≡ false → HasClosing place closing range from list → HasClosing place closing range from (list ++ entry ∷ [])
 closing_push None closing range from list entry other has = joined_same range from list entry other ∙ has
 closing_push (Some place) closing range from list entry other has = record {
   stands = slice_get_front list (entry ∷ []) place closing has.stands;
@@ -38,7 +38,7 @@ closing_push (Some place) closing range from list entry other has = record {
 }
 
 -- what the source told stands before the closing entry, also with more at the end
-told_push : (place : Option ℕ) (from : ℕ) (list behind : List Entry) (entry : Entry) → Contains (drop from (before_closing place list)) entry → Contains (drop from (before_closing place (list ++ behind))) entry
+pub told_push : (place : Option ℕ) (from : ℕ) (list behind : List Entry) (entry : Entry) → Contains (drop from (before_closing place list)) entry → Contains (drop from (before_closing place (list ++ behind))) entry
 told_push None from list behind entry told = still_contains _ _ entry (drop_extends from list behind) told
 told_push (Some place) from list behind entry told =
     let first : Extends (take place list) (take place (list ++ behind)) = take_extends place place list behind (omega arith) in

@@ -12,7 +12,7 @@ use Rattle.rk_sound.specs.Terms.{Terms, HandoverFits}
 use Rattle.rk_laws_parts.proofs.Seen.{LooksAs}
 
 -- a tablet that looks as before fits beside a row as before
-handover_looks : (row : Row) (number : ℕ) (old new : Handover) → LooksAs old new → HandoverFits row number old → HandoverFits row number new
+pub handover_looks : (row : Row) (number : ℕ) (old new : Handover) → LooksAs old new → HandoverFits row number old → HandoverFits row number new
 handover_looks row number old new looks fits = record {
   within = λ is. subst (λ (term : ℕ). term ≤ row.term) (sym looks.term) (fits.within is);
   below = λ another meeting.

@@ -14,7 +14,7 @@ use Rattle.rk_sound.specs.Small.{passing, token_passed_in}
 use Rattle.rk_laws_parts.proofs.Views.{view_pulled}
 use Rattle.rk_laws_parts.proofs.PullingChanges.{of_one_row, view_goes_on}
 
-goes_on : (v : View) (row : Row) (source target : Member) (next : Token) → MayPass v row source target next → GoesOn v row source target (passing next (v.pullings target.master row.tablet))
+pub goes_on : (v : View) (row : Row) (source target : Member) (next : Token) → MayPass v row source target next → GoesOn v row source target (passing next (v.pullings target.master row.tablet))
 goes_on v row source target next may = record {
   at_end = λ joins had. absurd (false≢true (sym (ap is_joining may.pulling.receiving) ∙ joins));
   arrived = λ item stands arrives.

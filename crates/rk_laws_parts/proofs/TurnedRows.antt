@@ -81,7 +81,7 @@ all_turned P rows old new tablet has goes all =
     (stood rows tablet new x stands))
 
 -- rows cover a hash as others do
-abbrev CoverAs : List Row → List Row → ℕ → ℕ → Type 0
+abbrev pub CoverAs : List Row → List Row → ℕ → ℕ → Type 0
 CoverAs rows others table hash = is_covered rows table hash ≡ is_covered others table hash
 
 -- the same hashes are covered
@@ -97,12 +97,12 @@ covered_turned (first ∷ rest) tablet old new found same table hash =
     go false later found = ap (λ (b : Bool). has first.range table hash || b) (later found)
 
 -- whether a first row has a number, or a later one
-some_first : (b : Bool) (row : Row) (later : Option Row) → is_some (cond b (Some row) later) ≡ (b || is_some later)
+pub some_first : (b : Bool) (row : Row) (later : Option Row) → is_some (cond b (Some row) later) ≡ (b || is_some later)
 some_first true row later = refl
 some_first false row later = refl
 
 -- rows know a number as others do
-abbrev KnowAs : List Row → List Row → ℕ → Type 0
+abbrev pub KnowAs : List Row → List Row → ℕ → Type 0
 KnowAs rows others number = is_some (row_of rows number) ≡ is_some (row_of others number)
 
 -- the same numbers are known

@@ -34,27 +34,27 @@ use Rattle.rk_laws_parts.proofs.Appending.{Appending, after, its_row, of_written
 use Rattle.rk_laws_parts.proofs.Places.{behind_none}
 
 -- a master that serves a tablet is not idle
-serving_busy : (role : Role) → is_serving role ≡ true → is_idle role ≡ false
+pub serving_busy : (role : Role) → is_serving role ≡ true → is_idle role ≡ false
 serving_busy roles.Absent serves = absurd (cc)
 serving_busy roles.Frozen serves = absurd (cc)
 serving_busy (roles.Wanting from) serves = absurd (cc)
 serving_busy role serves = refl
 
 -- and may stage its calls
-serving_stages : (role : Role) → is_serving role ≡ true → may_have_staged role ≡ true
+pub serving_stages : (role : Role) → is_serving role ≡ true → may_have_staged role ≡ true
 serving_stages roles.Absent serves = absurd (cc)
 serving_stages roles.Frozen serves = absurd (cc)
 serving_stages (roles.Wanting from) serves = absurd (cc)
 serving_stages role serves = refl
 
 -- a master has written what it had, and maybe more
-record HasGrown (old new : Written) : Type 0 where
+pub record HasGrown (old new : Written) : Type 0 where
   pub applied : new.applied ≡ old.applied
   pub marks : new.marks ≡ old.marks
   pub stays : (place : ℕ) (entry : Entry) → slice_get old.entries place ≡ Some entry → slice_get new.entries place ≡ Some entry
 
 -- each entry of a call has it, with one more entry and its call
-calls_push : (calls : NumberMap Call) (written : Written) (call : Call) (entry : Entry) → IsEntryOf call entry → EachHasCall calls written → EachHasCall (insert calls (length written.entries) call) (with_one_more written entry)
+pub calls_push : (calls : NumberMap Call) (written : Written) (call : Call) (entry : Entry) → IsEntryOf call entry → EachHasCall calls written → EachHasCall (insert calls (length written.entries) call) (with_one_more written entry)
 calls_push calls written call entry own old place e behind stands is unmarked =
     ⊎_elim
     (λ (before : slice_get written.entries place ≡ Some e).

@@ -67,7 +67,7 @@ module _ (v : View) (master : ℕ) (call : Call) (value : Option (List ℕ)) (so
   })
 
 -- what a staged write makes of a view
-staged_is : (w : World) (master number : ℕ) (call : Call) (value : Option (List ℕ)) → view (write_staged_in w master number call value) ≡ staged (view w) master number call value
+pub staged_is : (w : World) (master number : ℕ) (call : Call) (value : Option (List ℕ)) → view (write_staged_in w master number call value) ≡ staged (view w) master number call value
 staged_is w master number call value =
     let old = master_at w master in
     let tablet = tablet_in w master number in
