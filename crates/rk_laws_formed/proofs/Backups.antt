@@ -112,7 +112,7 @@ segment_spells limits number master segment formed =
         all_find (λ one. Spells (IsFormedEntry limits) one.bytes) (λ one. one.number == segment) (segments master.log) one all is
 
 -- a well formed entry is lawful
-lawful_of : (limits : Limits) (entry : Entry) → IsFormedEntry limits entry → IsLawfulEntry entry
+pub lawful_of : (limits : Limits) (entry : Entry) → IsFormedEntry limits entry → IsLawfulEntry entry
 lawful_of limits (entries.Held held) formed = formed.lawful
 lawful_of limits (entries.Refused refused) formed = formed.lawful
 lawful_of limits (entries.Carried carried) formed = formed.lawful

@@ -94,9 +94,9 @@ begun_on handover term range role none after is =
     ] is
 
 -- a role after a move, and that the role before was not Absent
-record IsAfter (role r after : Role) : Type 0 where
-  now : r ≡ after
-  there : is_absent role ≡ false
+pub record IsAfter (role r after : Role) : Type 0 where
+  pub now : r ≡ after
+  pub there : is_absent role ≡ false
 
 -- after a close
 after_close : (role r : Role) → role_closed role ≡ Some r → IsAfter role r roles.Closing
@@ -110,7 +110,7 @@ after_close (roles.Joining entry) r is = (record { now = let e : roles.Closing �
 after_close (roles.Rebuilding from entry) r is = (record { now = let e : roles.Closing ≡ r = cc is in sym e; there = refl })
 
 -- after a grant
-after_grant : (role r : Role) → role_granted role ≡ Some r → IsAfter role r roles.Receiving
+pub after_grant : (role r : Role) → role_granted role ≡ Some r → IsAfter role r roles.Receiving
 after_grant roles.Absent r is = absurd (cc is)
 after_grant roles.Serving r is = absurd (cc is)
 after_grant roles.Closing r is = absurd (cc is)
@@ -375,7 +375,7 @@ module _ (limits : Limits) (number : ℕ) (master : Master) (grant : Grant) wher
   target = tablet_at master grant.tenure.tablet
 
   -- the entry that begins what a target has
-  carried_is_formed : (handover : Handover) → AreLimits limits → IsFormedHandover limits grant.source handover → IsFormedGrant limits grant
+  pub carried_is_formed : (handover : Handover) → AreLimits limits → IsFormedHandover limits grant.source handover → IsFormedGrant limits grant
       → IsFormedEntry limits (handing.carried_entry handover grant)
   carried_is_formed handover are formed told =
       let few = rising_within grant.ends limits.clients told.told.rising

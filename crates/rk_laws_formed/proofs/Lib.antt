@@ -58,3 +58,4 @@ pub mod RebuildBytes
 pub mod StepBytes
 pub mod ByteEvents
 pub mod RoomRuns
+pub mod Spelled

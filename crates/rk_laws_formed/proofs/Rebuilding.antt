@@ -98,7 +98,7 @@ merge_formed limits number master id some formed =
     }
 
 -- the role of a rebuild that has its closing entry
-after_carry : (place : ℕ) (role r : Role) → role_carried place role ≡ Some r → (place_in r ≡ place_in role) × (is_receiving r ≡ false) × (is_absent role ≡ false)
+pub after_carry : (place : ℕ) (role r : Role) → role_carried place role ≡ Some r → (place_in r ≡ place_in role) × (is_receiving r ≡ false) × (is_absent role ≡ false)
 after_carry place (roles.Rebuilding from None) r is =
     let same : roles.Rebuilding from (Some place) ≡ r = cc is in
     (ap place_in (sym same), ap is_receiving (sym same), refl)
@@ -132,7 +132,7 @@ module _ (limits : Limits) (number : ℕ) (master : Master) (id : ℕ) (merged :
   copied = with_all master (as_entries merged.copies)
 
   -- the entry that closes a rebuild
-  closing_formed : AreLimits limits → IsFormedTablet limits id it → merged.floor ≤ limits.top → IsFormedMerge limits merged → IsFormedEntry limits (rebuilds.rebuilt_entry it merged)
+  pub closing_formed : AreLimits limits → IsFormedTablet limits id it → merged.floor ≤ limits.top → IsFormedMerge limits merged → IsFormedEntry limits (rebuilds.rebuilt_entry it merged)
   closing_formed are there floor formed =
       let order = completions_order [] merged.ends tt in
       let each = completions_each (IsFormedEnd limits) [] merged.ends (All-nil _) formed.told in

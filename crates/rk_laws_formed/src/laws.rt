@@ -1,8 +1,14 @@
 // The headline laws of well formed lanes. Each function does nothing: its contract is the law.
-ghost use Rattle.std.specs.Prelude.{◌≡◌, ◌<◌, ◌≤◌, ℕ, IfSome, List, None, Ok};
+ghost use Rattle.std.specs.Prelude.{◌≡◌, ◌<◌, ◌≤◌, ℕ, All, IfSome, List, None, Ok};
 ghost use Rattle.std.specs.Int.{w32};
+ghost use Rattle.rk_entry.specs.Lawful.{IsLawfulEntry};
 ghost use Rattle.rk_entry.specs.Numbers.{IsNumber};
 ghost use Rattle.rk_log.specs.declared.copied.TheConstants.{MOST_BACKUPS};
+ghost use Rattle.rk_message.specs.declared.handover.Grant.{Grant};
+ghost use Rattle.rk_message.specs.declared.message.Body.TheVariants as bodies;
+ghost use Rattle.rk_message.specs.declared.rebuilding.CopySegment.{CopySegment};
+ghost use Rattle.rk_message.specs.declared.rebuilding.Rebuild.{Rebuild};
+ghost use Rattle.rk_types.specs.declared.node.Node.{Node};
 ghost use Rattle.rk_world.specs.declared.event.Event.{Event};
 ghost use Rattle.rk_world.specs.Backup.{Called};
 ghost use Rattle.rk_types.specs.declared.call.Op.{Op};
@@ -14,8 +20,10 @@ ghost use Rattle.rk_world.specs.Refusals.{refusal};
 ghost use Rattle.rk_world.specs.Room.{HasRoom, MOST_BYTES, MOST_NUMBER};
 ghost use Rattle.rk_world.specs.Runs.{AllHaveRoom, Happening, IsCalm, IsCalmEvent, IsFormedWithRoom, MayAllOccur, run};
 ghost use Rattle.rk_world.specs.Runs as runs;
+ghost use Rattle.rk_world.specs.Rebuilds.{copy_taken, rebuild_taken};
 ghost use Rattle.rk_world.specs.Step.{happened};
-ghost use Rattle.rk_world.specs.World.{World, bytes_of_logs, new_world};
+ghost use Rattle.rk_world.specs.World.{World, bytes_of_logs, master_at, new_world};
+ghost use Rattle.rk_laws_formed.specs.Appended.{GrantSpells, StandsOn};
 ghost use Rattle.rk_laws_formed.specs.Fitting.{AllLogsFit};
 ghost use Rattle.rk_laws_formed.specs.Brought.{MOST_BROUGHT, brought, most_after};
 
@@ -75,4 +83,17 @@ pub fn runs_keep_lanes_well_formed()
         → MayAllOccur w list → IsCalm w list → AllHaveRoom w list → IsWellFormed w → IsWellFormed (run w list) }
     ensures room { (w : World) (list : List Happening)
         → IsWellFormed w → IsCalm w list → MayAllOccur w list → w.top < MOST_NUMBER → AllLogsFit w list → AllHaveRoom w list }
+{}
+
+/// What a master of a well formed lane with room appends when it takes a message from the wire can be spelled, also where the log
+/// turns out to have no room for it: the entry that begins what it was granted, and the copies and the entry that end a rebuild.
+pub fn what_masters_append_can_be_spelled()
+    ensures grants { (w : World) (master number : ℕ) (from to : Node) (grant : Grant)
+        → StandsOn w master number from to (bodies.Grant grant) → GrantSpells (master_at w master) grant }
+    ensures rebuilds { (w : World) (master number : ℕ) (from to : Node) (rebuild : Rebuild)
+        → StandsOn w master number from to (bodies.Rebuild rebuild)
+        → All IsLawfulEntry (rebuild_taken (master_at w master) rebuild).master.log.entries }
+    ensures copies { (w : World) (master number : ℕ) (from to : Node) (copy : CopySegment)
+        → StandsOn w master number from to (bodies.Copy copy)
+        → All IsLawfulEntry (copy_taken (master_at w master) copy).master.log.entries }
 {}

@@ -9,7 +9,7 @@
 
 pub use laws::{
     clients_keep_lanes_well_formed, events_keep_lanes_well_formed, new_lanes_are_well_formed,
-    runs_keep_lanes_well_formed, sessions_may_go_on,
+    runs_keep_lanes_well_formed, sessions_may_go_on, what_masters_append_can_be_spelled,
 };
 
 mod laws;
