@@ -90,6 +90,16 @@ impl Completions {
         }
     }
 
+    /// Completions of their own with the same ends, and room for no more clients. A step for each client.
+    pub fn duplicate(&self) -> Result<Completions, NoMemory>
+        ensures { IfOk result (λ it. it.completions ≡ self.now.completions) }
+    {
+        let alloc = *self.completions.allocator();
+        Ok(Completions {
+            completions: Vec::from_slice(alloc, self.completions.as_slice())?,
+        })
+    }
+
     /// The end of each client's last call, by rising client.
     pub fn ends(&self) -> Result<Vec<Ended>, NoMemory>
         ensures { IfOk result (λ ends. ends.items ≡ ends_of self.now.completions) }

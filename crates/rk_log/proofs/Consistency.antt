@@ -3,7 +3,9 @@ use Rattle.std.proofs.Common.{◌≡◌, ℕ, ◌+◌, ◌-◌, ◌<◌, ◌≤�
 use Rattle.std.specs.List.{list_all, prefix_len}
 use Rattle.std.proofs.lemmas.Bool.{le-leb, leb-true, cases_eq}
 use Rattle.std.proofs.lemmas.List.{length-map, get_or-map, get_or_append_left, map_push}
+use Rattle.std.proofs.lemmas.List.Elements.{All-push}
 use Rattle.std.proofs.lemmas.List.Sums.{prefix_len-le-length, prefix_len_passes}
+use Rattle.rk_types.specs.declared.held.TheConstants.{SEGMENT_BYTES}
 use Rattle.rk_entry.specs.declared.entry.Entry.{Entry}
 use Rattle.rk_entry.specs.declared.lists.TheConstants.{FIRST_SIDE_SEGMENT}
 use Rattle.rk_entry.specs.Spelling.{spelled}
@@ -79,14 +81,15 @@ cursor_grew main main' sides backup cursor grown old =
 pub consistent_entry : (parts : Parts) (main' : List Copied) (entry : Entry)
     → IsConsistent parts → bytes_in main' ≡ with_bytes (bytes_in parts.main) (spelled entry)
     → lengths_in main' ≡ cond (has_room (bytes_in parts.main) (spelled entry)) (lengths_in parts.main) (lengths_in parts.main ++ none_known ∷ []) → length parts.main + 1 < FIRST_SIDE_SEGMENT
-    → IsConsistent (with_entry_in parts main' entry)
-consistent_entry parts main' entry consistent put put_lengths few =
+    → length (spelled entry) ≤ SEGMENT_BYTES → IsConsistent (with_entry_in parts main' entry)
+consistent_entry parts main' entry consistent put put_lengths few fits =
     let counts : length (bytes_in parts.main) ≡ length (lengths_in parts.main) = length-map parts.main (λ (c : Copied). c.segment.bytes) ∙ sym (length-map parts.main (λ (c : Copied). c.known)) in
     let grown = grew (bytes_in parts.main) (lengths_in parts.main) (spelled entry) (bytes_in main') (lengths_in main') counts consistent.main_known (spelled_some entry) put put_lengths (room_some (bytes_in parts.main) (spelled entry)) in
     let segments : bytes_in main' ≡ with_bytes (cut parts.entries) (spelled entry) = put ∙ ap (λ (s : List (List ℕ)). with_bytes s (spelled entry)) consistent.cut_is in
     record {
       cut_is = segments ∙ sym (cut_push [] parts.entries entry);
       places_are = (λ i. consistent.places_are i ++ end_of (segments i) ∷ []) ∙ sym (ends_push [] parts.entries entry);
+      fits = All-push (λ (it : Entry). length (spelled it) ≤ SEGMENT_BYTES) parts.entries entry consistent.fits fits;
       count_is = consistent.count_is ∙ stays grown ∙ sym (prefix_len_push_no (is_held_at (length parts.cursors) (lengths_in main')) parts.ends (end_of (bytes_in main')) (unheld grown));
       first_backup = consistent.first_backup;
       last_backup = consistent.last_backup;
@@ -121,6 +124,7 @@ consistent_side parts side consistent unknown few =
     record {
       cut_is = consistent.cut_is;
       places_are = consistent.places_are;
+      fits = consistent.fits;
       count_is = consistent.count_is;
       first_backup = consistent.first_backup;
       last_backup = consistent.last_backup;
@@ -191,6 +195,7 @@ consistent_told parts main' sides' number backup size cursor consistent within r
     record {
       cut_is = raised.bytes ∙ consistent.cut_is;
       places_are = consistent.places_are;
+      fits = consistent.fits;
       count_is =
           sym (pass_then (is_held_at (length parts.cursors) (lengths_in main')) parts.ends parts.committed (count_within parts consistent) (λ k d h.
           list_all_greater (get_or parts.ends k d).offset (length parts.cursors) (get_or (lengths_in parts.main) ((get_or parts.ends k d).segment - 1) []) (get_or (lengths_in main') ((get_or parts.ends k d).segment - 1) [])

@@ -1,9 +1,14 @@
 -- How the spellings of entries fill the main segments of a log, and where each entry ends.
-use Rattle.std.specs.Prelude.{ℕ, ◌+◌, ◌-◌, Bool, ◌&&◌, nat_lt, nat_le, if◌then◌else◌, List, [], ◌∷◌, ◌++◌, length, slice_index_or, slice_set}
+use Rattle.std.specs.Prelude.{ℕ, ◌+◌, ◌-◌, ◌≤◌, Bool, ◌&&◌, nat_lt, nat_le, if◌then◌else◌, List, [], ◌∷◌, ◌++◌, length, slice_index_or, slice_set}
+use Rattle.std.specs.List.{All}
 use Rattle.rk_types.specs.declared.held.TheConstants.{SEGMENT_BYTES}
 use Rattle.rk_entry.specs.declared.entry.Entry.{Entry}
 use Rattle.rk_entry.specs.Spelling.{spelled}
 use Rattle.rk_log.specs.declared.ends.EntryEnd.{EntryEnd}
+
+-- each entry fits a segment
+abbrev pub EachFits : List Entry → Type 0
+EachFits entries = All (λ entry. length (spelled entry) ≤ SEGMENT_BYTES) entries
 
 -- the bytes of the last segment, none where there is no segment
 abbrev pub last_of : List (List ℕ) → List ℕ

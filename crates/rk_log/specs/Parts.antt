@@ -10,7 +10,7 @@ use Rattle.rk_log.specs.declared.cursor.Cursor.{Cursor}
 use Rattle.rk_log.specs.declared.ends.EntryEnd.{EntryEnd}
 use Rattle.rk_log.specs.declared.log.MasterLog.TheInside.{Inside}
 use Rattle.rk_log.specs.Piece.{PlacedBytes}
-use Rattle.rk_log.specs.Cut.{cut, ends}
+use Rattle.rk_log.specs.Cut.{EachFits, cut, ends}
 use Rattle.rk_log.specs.Log.{Log, segment_bytes}
 use Rattle.rk_log.specs.Known.{Known, nothing, told}
 
@@ -136,10 +136,11 @@ cursor_at backup main sides =
       sides = prefix_len (is_whole_at backup) sides;
     }
 
--- the parts of a log agree with one another
+-- the parts of a log agree with one another, and each entry fits a segment
 pub record IsConsistent (parts : Parts) : Type 0 where
   pub cut_is : bytes_in parts.main ≡ cut parts.entries
   pub places_are : parts.ends ≡ ends parts.entries
+  pub fits : EachFits parts.entries
   pub count_is : parts.committed ≡ prefix_len (is_held_at (length parts.cursors) (lengths_in parts.main)) parts.ends
   pub first_backup : 1 ≤ length parts.cursors
   pub last_backup : length parts.cursors ≤ MOST_BACKUPS

@@ -1,4 +1,5 @@
 ghost use Rattle.std.specs.Prelude.{◌≡◌, ◌+◌, ◌<◌, ◌≤◌, ◌^◌, length, drop, replicate, slice_get, Some, None, IfOk, OnOk, OnErr, MatchResult};
+ghost use Rattle.rk_log.specs.Cut.{EachFits};
 ghost use Rattle.rk_log.specs.Known.{nothing};
 ghost use Rattle.rk_entry.specs.Spelling.{spelled};
 ghost use Rattle.rk_entry.specs.Lawful.{IsLawfulEntry};
@@ -181,9 +182,10 @@ impl MasterLog {
     }
 
     /// How many bytes all segments have together, in constant time: [`MasterLog::append`] and [`MasterLog::add_side`]
-    /// need a bound on it.
+    /// need a bound on it. Each entry of the log fits a segment.
     pub fn size(&self) -> u64
-        ensures { result ≡ segment_bytes self.now }
+        ensures size { result ≡ segment_bytes self.now }
+        ensures fits { EachFits self.now.entries }
     {
         self.size
     }

@@ -45,6 +45,18 @@ impl Wanted {
         }
     }
 
+    /// Hashes of its own that are wanted, outstanding and resolved as these are. A step for each of them.
+    pub fn duplicate(&self) -> Result<Wanted, NoMemory>
+        ensures { IfOk result (λ wanted. wanted ≡ self.now) }
+    {
+        let alloc = *self.hashes.allocator();
+        Ok(Wanted {
+            hashes: Vec::from_slice(alloc, self.hashes.as_slice())?,
+            resolved: self.resolved,
+            batch: self.batch,
+        })
+    }
+
     /// Wants a hash, behind those that are wanted, and answers whether it was new; one that is wanted, outstanding or
     /// resolved changes nothing. After `NoMemory` nothing has changed. A step for each of the hashes.
     pub fn want(&mut self, hash: u64) -> Result<bool, NoMemory>

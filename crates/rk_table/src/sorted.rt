@@ -17,7 +17,7 @@ pub struct SortedTable {
 }
 
 impl SortedTable {
-    ghost use Rattle.std.specs.Prelude.{◌≡◌, []};
+    ghost use Rattle.std.specs.Prelude.{◌≡◌, [], length};
     ghost use Rattle.rk_table.specs.Sorted.{items_of};
 
     /// A table of no items, which takes no memory.
@@ -27,6 +27,13 @@ impl SortedTable {
         SortedTable {
             slots: Vec::new(alloc),
         }
+    }
+
+    /// How many items there are, tombstones among them, in constant time.
+    pub fn len(&self) -> usize
+        ensures { result ≡ length (items_of self.now) }
+    {
+        self.slots.len()
     }
 }
 

@@ -53,7 +53,7 @@ consistent_now c =
     (subst
     (λ (l : List ℕ). lengths_in c.put_bytes.new.main.items ≡ cond (has_room (bytes_in c.self.inside.main.items) l) (lengths_in c.self.inside.main.items) (lengths_in c.self.inside.main.items ++ none_known ∷ []))
     (spelling c) c.in_ok-put_bytes.ensures.known)
-    (main_few (parts_of c.self.inside) c.args.self.now c.self.invariant.consistent c.self.view_is c.requires.room)
+    (main_few (parts_of c.self.inside) c.args.self.now c.self.invariant.consistent c.self.view_is c.requires.room) c.requires.fits
 
 -- its bytes are counted
 size_now : (c : goal.After-self-1) → c.self.inside.size + c.len-count.result ≡ segment_bytes (log_of (with_entry_in (parts_of c.self.inside) c.put_bytes.new.main.items c.args.entry))
