@@ -1,0 +1,5 @@
+pub mod Numbers
+pub mod Looks
+pub mod Codes
+pub mod Makes
+pub mod Acted

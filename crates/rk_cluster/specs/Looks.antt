@@ -1,0 +1,99 @@
+-- What a call of a user looks at. Each tablet has a row in every lane, and a master that has crashed has crashed in all of them, so
+-- lane 0 tells of all.
+use Rattle.std.specs.Prelude.{ℕ, ◌==◌, ◌&&◌, Bool, false, not, nat_le, if◌then◌else◌, List, [], ◌∷◌, filter, map, sum, Option, Some, None, is_some}
+use Rattle.std.specs.List.{list_all, list_any, range_with_len}
+use Rattle.rk_types.specs.NumberMap.{get}
+use Rattle.rk_types.specs.declared.range.Range.{Range}
+use Rattle.rk_tablet_map.specs.Rows.{row_of}
+use Rattle.rk_tablet_map.specs.declared.phase.Phase.{Phase}
+use Rattle.rk_tablet_map.specs.declared.phase.Phase.TheVariants.{Owned}
+use Rattle.rk_tablet_map.specs.declared.row.Row.{Row}
+use Rattle.rk_world.specs.Cluster.{Cluster, lane_at}
+use Rattle.rk_world.specs.World.{World, has_crashed}
+
+-- the rows of lane 0: a row for each tablet
+abbrev pub rows_of : Cluster → List Row
+rows_of cluster = (lane_at cluster 0).coordinator.rows
+
+-- how many masters there are
+abbrev pub master_count : Cluster → ℕ
+master_count cluster = (lane_at cluster 0).coordinator.masters
+
+-- whether a master is there
+abbrev pub is_master : Cluster → ℕ → Bool
+is_master cluster master = nat_le 1 master && nat_le master (master_count cluster)
+
+-- whether a master has crashed
+abbrev pub is_dead : Cluster → ℕ → Bool
+is_dead cluster master = has_crashed (lane_at cluster 0) master
+
+-- whether another master than this one lives
+abbrev pub is_other_alive : Cluster → ℕ → Bool
+is_other_alive cluster master =
+    list_any (λ other. not (other == master) && not (is_dead cluster other)) (range_with_len 1 (master_count cluster))
+
+-- whether a client has a session
+abbrev pub is_client : Cluster → ℕ → Bool
+is_client cluster client = is_some (get cluster.sessions client)
+
+-- whether a row is of a table
+abbrev pub is_of_table : ℕ → Row → Bool
+is_of_table table row = row.range.table == table
+
+-- whether rows have a table
+abbrev pub has_table : List Row → ℕ → Bool
+has_table rows table = list_any (is_of_table table) rows
+
+-- the tables of rows, each once
+abbrev pub tables_of : List Row → List ℕ
+tables_of [] = []
+tables_of (row ∷ rows) = if has_table rows row.range.table then tables_of rows else row.range.table ∷ tables_of rows
+
+-- whether a tablet is there
+abbrev pub is_tablet : Cluster → ℕ → Bool
+is_tablet cluster tablet = is_some (row_of (rows_of cluster) tablet)
+
+-- how many calls the clients asked: each counts its own from 1
+abbrev pub calls_asked : Cluster → ℕ
+calls_asked cluster = sum (map (λ entry. entry.1.last) cluster.sessions)
+
+-- the owner by a phase; none while the tablet moves or is rebuilt
+abbrev pub owner_by : Phase → Option ℕ
+owner_by (Owned master from) = Some master
+owner_by phase = None
+
+-- the owner by a row, if there is one
+abbrev pub owner_of_row : Option Row → Option ℕ
+owner_of_row None = None
+owner_of_row (Some row) = owner_by row.phase
+
+-- the owner of a tablet in a lane
+abbrev pub owner_in : World → ℕ → Option ℕ
+owner_in w tablet = owner_of_row (row_of w.coordinator.rows tablet)
+
+-- whether an owner, if there is one, is this master
+abbrev pub is_owner : ℕ → Option ℕ → Bool
+is_owner master None = false
+is_owner master (Some owner) = owner == master
+
+-- whether an owner, if there is one, has crashed
+abbrev pub is_dead_owner : World → Option ℕ → Bool
+is_dead_owner w None = false
+is_dead_owner w (Some owner) = has_crashed w owner
+
+-- whether a tablet is owned in every lane
+abbrev pub is_owned : Cluster → ℕ → Bool
+is_owned cluster tablet = list_all (λ w. is_some (owner_in w tablet)) cluster.lanes
+
+-- the lanes in which another master than this one owns a tablet
+abbrev pub lanes_without : Cluster → ℕ → ℕ → List World
+lanes_without cluster tablet master = filter (λ w. not (is_owner master (owner_in w tablet))) cluster.lanes
+
+-- whether the owner of a tablet has crashed in one of these lanes
+abbrev pub has_dead_owner : List World → ℕ → Bool
+has_dead_owner lanes tablet = list_any (λ w. is_dead_owner w (owner_in w tablet)) lanes
+
+-- the hash that a range begins at, and the one that it ends at, where a row has one
+abbrev pub has_inside : Option Row → ℕ → Bool
+has_inside None at = false
+has_inside (Some row) at = not (nat_le at row.range.first) && nat_le at row.range.last

@@ -1,0 +1,132 @@
+-- What each call of a user makes: a list of events in lanes and of what sessions do there, one after the other. `called` is what the
+-- call of a replica comes to, where a message for a backup is delivered.
+use Rattle.std.specs.Prelude.{ℕ, ◌+◌, ◌==◌, if◌then◌else◌, List, [], ◌∷◌, ◌++◌, length, map, Option, Some, None}
+use Rattle.std.specs.List.{flat_map}
+use Rattle.rk_types.specs.Hashing.{hash_of, lane_of}
+use Rattle.rk_types.specs.NumberMap.{get}
+use Rattle.rk_types.specs.declared.call.Call.{Call}
+use Rattle.rk_types.specs.declared.call.Op.{Op}
+use Rattle.rk_types.specs.declared.node.Node.{Node}
+use Rattle.rk_types.specs.declared.node.Node.TheVariants as nodes
+use Rattle.rk_types.specs.declared.range.Range.{Range}
+use Rattle.rk_message.specs.Wire.{number_at}
+use Rattle.rk_message.specs.declared.message.Body.{Body}
+use Rattle.rk_message.specs.declared.message.Body.TheVariants as bodies
+use Rattle.rk_message.specs.declared.message.Message.{Message}
+use Rattle.rk_world.specs.declared.event.Event.{Event}
+use Rattle.rk_world.specs.declared.event.Event.TheVariants as events
+use Rattle.rk_world.specs.Backup.{Called, Gave}
+use Rattle.rk_world.specs.Client.{Session, call_lane}
+use Rattle.rk_world.specs.Cluster.{Accepts, Asks, Calls, Cluster, Happens, Joins, Occurrence, lane_at, session_at}
+use Rattle.rk_world.specs.World.{World, live_masters}
+use Rattle.rk_cluster.specs.Looks.{lanes_without, rows_of}
+
+-- an event of a lane that calls no replica
+abbrev pub in_lane : ℕ → Event → Occurrence
+in_lane lane event = Happens lane event (Gave None)
+
+-- the same event in each of these lanes
+abbrev pub in_lanes : List World → Event → List Occurrence
+in_lanes lanes event = map (λ w. in_lane w.lane event) lanes
+
+-- all hashes of a table
+abbrev pub whole_table : ℕ → Range
+whole_table table = record { table = table; first = 0; last = 18446744073709551615 }
+
+-- the number of the next tablet
+abbrev pub next_tablet : Cluster → ℕ
+next_tablet cluster = length (rows_of cluster) + 1
+
+-- a table is made with one tablet
+abbrev pub table_makes : Cluster → ℕ → ℕ → List Occurrence
+table_makes cluster table master =
+    in_lanes cluster.lanes (events.AddTablet (next_tablet cluster) (whole_table table) master)
+
+-- a client gets a session, and may act in each lane
+abbrev pub client_makes : Cluster → ℕ → List Occurrence
+client_makes cluster client = in_lanes cluster.lanes (events.AddClient client) ++ Joins client ∷ []
+
+-- a client asks its next call; nothing is sent yet
+abbrev pub call_makes : ℕ → ℕ → List ℕ → Op → List Occurrence
+call_makes client table key op = Calls client table key op ∷ []
+
+-- a tablet begins to move to a master, in each lane where another one owns it
+abbrev pub migrate_makes : Cluster → ℕ → ℕ → List Occurrence
+migrate_makes cluster tablet to = in_lanes (lanes_without cluster tablet to) (events.Migrate tablet to)
+
+-- a tablet is split
+abbrev pub split_makes : Cluster → ℕ → ℕ → List Occurrence
+split_makes cluster tablet at = in_lanes cluster.lanes (events.Split tablet at (next_tablet cluster))
+
+-- a master crashes
+abbrev pub crash_makes : Cluster → ℕ → List Occurrence
+crash_makes cluster master = in_lanes cluster.lanes (events.Crash master)
+
+-- the coordinators learn that a master has crashed
+abbrev pub notice_makes : Cluster → ℕ → List Occurrence
+notice_makes cluster master = in_lanes cluster.lanes (events.Notice master)
+
+-- a message reaches its receiver: a client takes it itself
+abbrev pub delivery : ℕ → ℕ → Called → Node → Occurrence
+delivery lane number called (nodes.Client client) = Accepts lane number client
+delivery lane number called to = Happens lane (events.Deliver number) called
+
+-- a message of the wire, if it is there, is delivered
+abbrev pub delivery_of : ℕ → ℕ → Called → Option Message → List Occurrence
+delivery_of lane number called None = []
+delivery_of lane number called (Some message) = delivery lane number called message.to ∷ []
+
+-- the message at a place of a wire, if there is one, is delivered
+abbrev pub deliver_by : Cluster → ℕ → Called → Option ℕ → List Occurrence
+deliver_by cluster lane called None = []
+deliver_by cluster lane called (Some number) =
+    delivery_of lane number called (get (lane_at cluster lane).wire.messages number)
+
+-- the message at a place of a lane's wire is delivered; it stays there
+abbrev pub deliver_makes : Cluster → ℕ → ℕ → Called → List Occurrence
+deliver_makes cluster lane place called = deliver_by cluster lane called (number_at place (lane_at cluster lane).wire)
+
+-- a message, if there is one, is forgotten
+abbrev pub forget_by : ℕ → Option ℕ → List Occurrence
+forget_by lane None = []
+forget_by lane (Some number) = in_lane lane (events.Forget number) ∷ []
+
+-- the message at a place of a lane's wire is forgotten
+abbrev pub forget_makes : Cluster → ℕ → ℕ → List Occurrence
+forget_makes cluster lane place = forget_by lane (number_at place (lane_at cluster lane).wire)
+
+-- a client asks in a lane, where this is its outstanding call and belongs there
+abbrev pub asks_by : ℕ → ℕ → Option Call → List Occurrence
+asks_by lane client None = []
+asks_by lane client (Some call) = if call_lane call == lane then Asks lane client ∷ [] else []
+
+-- a client asks in a lane, where it has an outstanding call there
+abbrev pub asks_in : ℕ → Session → List Occurrence
+asks_in lane session = asks_by lane session.client session.outstanding
+
+-- the nodes of a lane take their turns: clients with an outstanding call there, the coordinator, and the masters that live
+abbrev pub turn_makes : Cluster → ℕ → List Occurrence
+turn_makes cluster lane =
+    flat_map (λ entry. asks_in lane entry.1) cluster.sessions
+    ++ in_lane lane (events.Turn nodes.Coordinator)
+    ∷ map (λ entry. in_lane lane (events.Turn (nodes.Master entry.0))) (live_masters (lane_at cluster lane))
+
+-- the lane of a request
+abbrev pub request_lane : Body → ℕ
+request_lane (bodies.Request request) = lane_of (hash_of request.key)
+request_lane body = 0
+
+-- a request is sent again in its lane, delivered and forgotten
+abbrev pub again_in : Cluster → ℕ → ℕ → List Occurrence
+again_in cluster client lane =
+    let number = (lane_at cluster lane).wire.sent + 1 in
+    in_lane lane (events.Again client) ∷ in_lane lane (events.Deliver number) ∷ in_lane lane (events.Forget number) ∷ []
+
+-- the last request of a client, if there is one, is sent again
+abbrev pub again_by : Cluster → ℕ → Option Message → List Occurrence
+again_by cluster client None = []
+again_by cluster client (Some message) = again_in cluster client (request_lane message.body)
+
+-- a client sends its last request again
+abbrev pub again_makes : Cluster → ℕ → List Occurrence
+again_makes cluster client = again_by cluster client (session_at cluster client).request
