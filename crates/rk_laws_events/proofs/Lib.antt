@@ -1,0 +1,4 @@
+pub mod SameCalls
+pub mod Sending
+pub mod Clients
+pub mod Questions
