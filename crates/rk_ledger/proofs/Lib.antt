@@ -1,6 +1,7 @@
-pub mod Accepted
+pub mod Entries
 pub mod Named
 pub mod Noted
+pub mod Places
 pub mod Positions
 pub mod Rebuilds
 pub mod Stamps

@@ -1,26 +1,106 @@
--- The places of mutations, once one more record stands at the end.
-use Rattle.std.proofs.Common.{◌≡◌, ℕ, Bool, true, false, cond, eqb, not, ◌&&◌, ◌||◌, List, [], ◌∷◌, ◌++◌, length, Option, Some, None, is_some, refl, sym, ap, ◌∙◌, subst}
-use Rattle.std.specs.List.{position}
-use Rattle.std.proofs.lemmas.Bool.{and_parts, eqb-true}
+-- What is to be noted of calls, once one more record stands at the end, and once it is taken away.
+use Rattle.std.proofs.Common.{◌≡◌, ℕ, ◌+◌, ◌-◌, ◌<◌, Bool, true, false, cond, eqb, not, ◌&&◌, ◌||◌, List, [], ◌∷◌, ◌++◌, length, Option, Some, None, refl, sym, ap, ◌∙◌, subst, arith}
+use Rattle.std.specs.Prelude.{All, nat_lt}
+use Rattle.std.specs.List.{count_by, list_any, position}
+use Rattle.std.proofs.lemmas.Bool.{and_parts, eq-eqb, eqb-true, ne_eqb}
+use Rattle.std.proofs.lemmas.Bool.Decides.{nat_tests}
+use Rattle.std.proofs.lemmas.List.Elements.{All-append, All-cons, All-take, All-weaker}
+use Rattle.std.proofs.lemmas.List.Sums.{sum_by-cons, sum_by_push}
+use Rattle.std.proofs.lemmas.List.Quantifiers.{position-Some}
+use Rattle.std.proofs.Math.Seq.{take-append_seam}
 use Rattle.rk_types.specs.declared.history.Placed.{Placed}
 use Rattle.rk_model.specs.Merged.{is_mutation}
 use Rattle.rk_world.specs.Journal.{is_of_mutation}
-use Rattle.rk_ledger.specs.declared.call_places.CallPlaces.{CallPlaces}
-use Rattle.rk_ledger.specs.Places.{ArePlaces, place_in}
-use Rattle.rk_ledger.proofs.Positions.{known_or, known_stays, position_push}
+use Rattle.rk_ledger.specs.declared.call_index.CallIndex.{CallIndex}
+use Rattle.rk_ledger.specs.declared.call_index.Noted.{Noted}
+use Rattle.rk_ledger.specs.Noted.{IsIndex, IsNoted, NotesTheSame, has_note, is_accepted_of, known_or, noted, noted_in, unless_at, with_record, without_record}
+use Rattle.rk_ledger.proofs.Positions.{known_stays, position_push}
+
+-- a client and a seq are those that they are
+pub same_test : (client seq : ℕ) → (eqb client client && eqb seq seq) ≡ true
+same_test client seq = λ i. eq-eqb client client refl i && eq-eqb seq seq refl i
 
 -- what holds of the name of a call holds of a client and a seq that are the same
-same_name : (P : ℕ → ℕ → Type 0) (client seq other asked : ℕ) → (eqb client other && eqb seq asked) ≡ true
+pub same_name : (P : ℕ → ℕ → Type 0) (client seq other asked : ℕ) → (eqb client other && eqb seq asked) ≡ true
     → P client seq → P other asked
 same_name P client seq other asked same holds =
     let parts = and_parts (eqb client other) (eqb seq asked) same in
     subst (λ n. P n asked) (eqb-true client other parts.0) (subst (P client) (eqb-true seq asked parts.1) holds)
 
--- a mutation without a place
-unnoted : (m : Bool) (known : Option ℕ) → (not m || is_some known) ≡ false → (m ≡ true) × (known ≡ None)
-unnoted true None free = (refl, refl)
-unnoted true (Some place) free = cc free
-unnoted false known free = cc free
+-- something passes where more than none do
+pub some_counted : {X : Type 0} (p : X → Bool) (xs : List X) → nat_lt 0 (count_by p xs) ≡ list_any p xs
+some_counted p [] = refl
+some_counted p (x ∷ xs) = ap (λ n. nat_lt 0 n) (sum_by-cons (λ y. cond (p y) 1 0) x xs) ∙ go (p x) (count_by p xs) (some_counted p xs)
+  where
+    go : (b : Bool) (n : ℕ) → nat_lt 0 n ≡ list_any p xs → nat_lt 0 (cond b 1 0 + n) ≡ (b || list_any p xs)
+    go true n rest = grind (arith, nat_tests)
+    go false n rest = ap (λ m. nat_lt 0 m) (nothing_more n) ∙ rest
+      where
+        nothing_more : (m : ℕ) → 0 + m ≡ m
+        nothing_more m = omega arith
+
+-- the call of a record has a note
+abbrev pub HasNote : CallIndex → Placed → Type 0
+HasNote index placed = has_note index placed.call.client placed.call.seq ≡ true
+
+-- a call that had a note has one, once something is noted
+pub has_note_still : (index new : CallIndex) (client seq : ℕ) (note : Noted) → IsNoted index new client seq note → (placed : Placed) → HasNote index placed → HasNote new placed
+has_note_still index new client seq note now placed there = now.there placed.call.client placed.call.seq ∙ go (eqb client placed.call.client && eqb seq placed.call.seq)
+  where
+    go : (b : Bool) → cond b true (has_note index placed.call.client placed.call.seq) ≡ true
+    go true = refl
+    go false = there
+
+-- a note with what tests on a record's name say
+abbrev tried : Noted → ℕ → Bool → Bool → Noted
+tried note place mutation accepted = record { place = known_or note.place mutation place; accepted = note.accepted + cond accepted 1 0 }
+
+-- with no test passed it stays
+same_note : (note : Noted) (place : ℕ) → tried note place false false ≡ note
+same_note note place = λ i. record { place = known_stays note.place place i; accepted = nothing_more note.accepted i }
+  where
+    nothing_more : (n : ℕ) → n + 0 ≡ n
+    nothing_more n = omega arith
+
+-- what was noted comes back
+noted_back : (note : Noted) (placed : Placed) (place : ℕ) → unless_at note.place place ≡ note.place → without_record (with_record note placed place) placed place ≡ note
+noted_back note placed place free = λ i. record {
+  place = place_back note.place (is_mutation placed.call.op) free i;
+  accepted = count_back note.accepted (cond placed.accepted 1 0) i;
+}
+  where
+    count_back : (n m : ℕ) → n + m - m ≡ n
+    count_back n m = omega arith
+
+    place_back : (known : Option ℕ) (holds : Bool) → unless_at known place ≡ known → unless_at (known_or known holds place) place ≡ known
+    place_back (Some known) holds apart = apart
+    place_back None false apart = refl
+    place_back None true apart = ap (λ b. cond b None (Some place)) (eq-eqb place place refl)
+
+-- no record stands at the place behind them all
+free_behind : (records : List Placed) (placed : Placed) (client seq : ℕ) → unless_at (position (is_of_mutation client seq) records) (length records) ≡ position (is_of_mutation client seq) records
+free_behind records placed client seq = go (position (is_of_mutation client seq) records) refl
+  where
+    go : (o : Option ℕ) → position (is_of_mutation client seq) records ≡ o → unless_at o (length records) ≡ o
+    go None is = refl
+    go (Some known) is =
+        let within = (position-Some (is_of_mutation client seq) records known placed is).0 in
+        ap (λ b. cond b None (Some known)) (ne_eqb known (length records) (λ same. absurd (omega (arith, within, same))))
+
+-- a record of another call leaves it as it is
+other_call : (note : Noted) (place : ℕ) (mutation accepted : Bool) → tried note place (mutation && false) (accepted && false) ≡ note
+other_call note place true true = same_note note place
+other_call note place true false = same_note note place
+other_call note place false true = same_note note place
+other_call note place false false = same_note note place
+
+-- one of this call
+this_call : (note : Noted) (place : ℕ) (mutation accepted : Bool) → tried note place (mutation && true) (accepted && true) ≡ tried note place mutation accepted
+this_call note place mutation accepted = λ i. tried note place (and_true mutation i) (and_true accepted i)
+  where
+    and_true : (b : Bool) → (b && true) ≡ b
+    and_true true = refl
+    and_true false = refl
 
 module _ (records : List Placed) (placed : Placed) where
   abbrev client : ℕ
@@ -29,30 +109,68 @@ module _ (records : List Placed) (placed : Placed) where
   abbrev seq : ℕ
   seq = placed.call.seq
 
-  -- where the first record of a mutation stands among the records before this one
-  abbrev before : ℕ → ℕ → Option ℕ
-  before other asked = position (is_of_mutation other asked) records
-
-  pushed : (other asked : ℕ)
-      → position (is_of_mutation other asked) (records ++ placed ∷ [])
-      ≡ known_or (before other asked) (is_of_mutation other asked placed) (length records)
-  pushed other asked = position_push (is_of_mutation other asked) records placed
-
-  -- the record is that of a mutation that had none: its place is noted
-  pub noted_places : (places new : CallPlaces) → ArePlaces places records
-      → (not (is_mutation placed.call.op) || is_some (place_in places placed.call.client placed.call.seq)) ≡ false
-      → ((other asked : ℕ) → place_in new other asked
-      ≡ cond (eqb placed.call.client other && eqb placed.call.seq asked) (Some (length records)) (place_in places other asked))
-      → ArePlaces new (records ++ placed ∷ [])
-  noted_places places new were free noted other asked =
-      noted other asked
-      ∙ go (is_mutation placed.call.op) (eqb client other && eqb seq asked) (unnoted _ _ free).0 refl
-      ∙ sym (pushed other asked)
+  -- what is to be noted once it stands at the end: of its call one record more, of another what there was
+  pub noted_push : (other asked : ℕ)
+      → noted (records ++ placed ∷ []) other asked
+      ≡ cond (eqb client other && eqb seq asked) (with_record (noted records client seq) placed (length records)) (noted records other asked)
+  noted_push other asked =
+      (λ i. record { place = position_push (is_of_mutation other asked) records placed i; accepted = sum_by_push (λ x. cond (is_accepted_of other asked x) 1 0) records placed i })
+      ∙ go (eqb client other && eqb seq asked) refl
     where
-      go : (m b : Bool) → m ≡ true → (eqb client other && eqb seq asked) ≡ b
-          → cond b (Some (length records)) (place_in places other asked) ≡ known_or (before other asked) (m && b) (length records)
-      go false b is same = cc is
-      go true false is same = were other asked ∙ sym (known_stays (before other asked) (length records))
-      go true true is same =
-          ap (λ (known : Option ℕ). known_or known true (length records))
-          (sym (sym (were other asked) ∙ same_name (λ c s. place_in places c s ≡ None) client seq other asked same (unnoted _ _ free).1))
+      go : (b : Bool) → (eqb client other && eqb seq asked) ≡ b
+          → tried (noted records other asked) (length records) (is_mutation placed.call.op && b) (placed.accepted && b)
+          ≡ cond b (with_record (noted records client seq) placed (length records)) (noted records other asked)
+      go false is = other_call (noted records other asked) (length records) (is_mutation placed.call.op) placed.accepted
+      go true is =
+          this_call (noted records other asked) (length records) (is_mutation placed.call.op) placed.accepted
+          ∙ ap (λ (note : Noted). with_record note placed (length records))
+          (same_name (λ c s. noted records c s ≡ noted records client seq) client seq other asked is refl)
+
+  -- the index once it is noted
+  pub index_pushed : (index new : CallIndex) → IsIndex index records
+      → IsNoted index new client seq (with_record (noted_in index client seq) placed (length records))
+      → IsIndex new (records ++ placed ∷ [])
+  index_pushed index new were now = record {
+    noted_is = λ other asked.
+        now.noted_is other asked
+        ∙ (λ i. cond (eqb client other && eqb seq asked) (with_record (were.noted_is client seq i) placed (length records)) (were.noted_is other asked i))
+        ∙ sym (noted_push other asked);
+    there = All-append (HasNote new) records (placed ∷ [])
+        (All-weaker (HasNote index) (HasNote new) (has_note_still index new client seq _ now) records were.there)
+        (All-cons (HasNote new) placed [] (now.there client seq ∙ ap (λ b. cond b true (has_note index client seq)) (same_test client seq)) (λ k d lt. absurd (omega (arith, lt))));
+  }
+
+  -- the index once it is noted no more
+  pub index_popped : (index new : CallIndex) → IsIndex index (records ++ placed ∷ [])
+      → IsNoted index new client seq (without_record (noted_in index client seq) placed (length records))
+      → IsIndex new records
+  index_popped index new were now = record {
+    noted_is = λ other asked. now.noted_is other asked ∙ go other asked (eqb client other && eqb seq asked) refl;
+    there = subst (All (HasNote new)) (take-append_seam records (placed ∷ []))
+        (All-take (HasNote new) (length records) (records ++ placed ∷ [])
+        (All-weaker (HasNote index) (HasNote new) (has_note_still index new client seq _ now) (records ++ placed ∷ []) were.there));
+  }
+    where
+      -- what the index had of a call
+      had : (other asked : ℕ) → noted_in index other asked
+          ≡ cond (eqb client other && eqb seq asked) (with_record (noted records client seq) placed (length records)) (noted records other asked)
+      had other asked = were.noted_is other asked ∙ noted_push other asked
+
+      back : without_record (noted_in index client seq) placed (length records) ≡ noted records client seq
+      back =
+          ap (λ (note : Noted). without_record note placed (length records))
+          (had client seq ∙ ap (λ (b : Bool). cond b (with_record (noted records client seq) placed (length records)) (noted records client seq)) (same_test client seq))
+          ∙ noted_back (noted records client seq) placed (length records) (free_behind records placed client seq)
+
+      go : (other asked : ℕ) (b : Bool) → (eqb client other && eqb seq asked) ≡ b
+          → cond b (without_record (noted_in index client seq) placed (length records)) (noted_in index other asked) ≡ noted records other asked
+      go other asked true is = back ∙ same_name (λ c s. noted records client seq ≡ noted records c s) client seq other asked is refl
+      go other asked false is =
+          had other asked ∙ ap (λ (b : Bool). cond b (with_record (noted records client seq) placed (length records)) (noted records other asked)) is
+
+-- an index that notes the same
+pub index_same : (records : List Placed) (index new : CallIndex) → IsIndex index records → NotesTheSame index new → IsIndex new records
+index_same records index new were same = record {
+  noted_is = λ client seq. same.noted_is client seq ∙ were.noted_is client seq;
+  there = All-weaker (HasNote index) (HasNote new) (λ x there. same.there x.call.client x.call.seq ∙ there) records were.there;
+}

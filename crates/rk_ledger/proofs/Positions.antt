@@ -5,11 +5,7 @@ use Rattle.std.proofs.lemmas.Bool.Decides.{nat_tests}
 use Rattle.std.proofs.lemmas.List.{length_push}
 use Rattle.std.proofs.lemmas.List.Folds.{position_or_len_push}
 use Rattle.std.proofs.lemmas.List.Sums.{prefix_len-le-length}
-
--- a place, or else another one where a test holds
-abbrev pub known_or : Option ℕ → Bool → ℕ → Option ℕ
-known_or (Some known) holds place = Some known
-known_or None holds place = cond holds (Some place) None
+use Rattle.rk_ledger.specs.Noted.{known_or}
 
 -- where the test fails, the place stays
 pub known_stays : (known : Option ℕ) (place : ℕ) → known_or known false place ≡ known

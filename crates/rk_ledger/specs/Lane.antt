@@ -5,9 +5,9 @@ use Rattle.rk_ledger.specs.declared.ledger_lane.LedgerLane.TheInside.{Inside}
 -- the ledger that the fields are
 abbrev pub ledger_of : Inside → Ledger
 ledger_of lane = record {
-  clients = lane.clients;
+  clients = lane.clients.last_calls;
   asked = lane.asked;
-  requests = lane.requests;
+  requests = lane.clients.requests;
   journal = lane.journal;
   marks = lane.marks.items;
 }

@@ -1,3 +1,5 @@
+pub mod Clients
 pub mod Growing
 pub mod Lane
+pub mod Noted
 pub mod Places

@@ -1,32 +1,32 @@
-ghost use Rattle.std.specs.Prelude.{◌≡◌, ◌+◌, ◌-◌, max, [], ◌∷◌, ◌++◌, length, position, slice_get, take, IfOk, OnOk, OnErr};
+ghost use Rattle.std.specs.Prelude.{◌≡◌, ◌+◌, ◌-◌, max, true, false, [], ◌∷◌, ◌++◌, length, position, slice_get, take, IfOk, OnOk, OnErr};
 ghost use Rattle.rk_model.specs.Merged.{is_mutation as is_mutation_lem};
-ghost use Rattle.rk_world.specs.Journal.{accepted_at, has_record as has_record_lem, is_of_mutation, last_stamp as last_stamp_lem, next_record};
-ghost use Rattle.rk_ledger.specs.Places.{ArePlaces, IsKept, accepted_count};
+ghost use Rattle.rk_world.specs.Journal.{accepted_at, has_record as has_record_lem, is_accepted as is_accepted_lem, is_of_mutation, last_stamp as last_stamp_lem, next_record};
+ghost use Rattle.rk_ledger.specs.Noted.{IsIndex, IsKept, accepted_count};
 
-use crate::call_places::CallPlaces;
+use crate::call_index::CallIndex;
 use rk_types::{Call, NoMemory, Op, Outcome, Placed};
 use std::alloc::Global;
 use std::marker::Model;
 
-/// The records of the calls that were carried out, oldest first. The place of a mutation's record is found by client and
-/// seq. Contracts see the records.
+/// The records of the calls that were carried out, oldest first. What there is of a call is found by client and seq.
+/// Contracts see the records.
 #[derive(Drop)]
 pub(crate) struct Journal {
     records: Vec<Placed>,
-    places: CallPlaces,
+    index: CallIndex,
     accepted: u64,
 }
 
 impl Model for Journal {
     ghost use Rattle.std.specs.Prelude.{List};
     ghost use Rattle.rk_types.specs.declared.history.Placed.{Placed};
-    ghost use Rattle.rk_ledger.specs.Places.{IsKept};
+    ghost use Rattle.rk_ledger.specs.Noted.{IsKept};
 
     ghost Value = { List Placed };
 
     ghost view = { λ journal. journal.records.items };
 
-    ghost invariant = { λ journal. IsKept journal.places journal.accepted journal.records.items };
+    ghost invariant = { λ journal. IsKept journal.index journal.accepted journal.records.items };
 }
 
 impl Journal {
@@ -36,7 +36,7 @@ impl Journal {
     {
         Journal {
             records: Vec::new(alloc),
-            places: CallPlaces::new(alloc),
+            index: CallIndex::new(alloc),
             accepted: 0,
         }
     }
@@ -66,14 +66,21 @@ impl Journal {
     pub(crate) fn place_of(&self, client: u32, seq: u64) -> Option<u64>
         ensures { result ≡ position (is_of_mutation client seq) self.now }
     {
-        self.places.get(client, seq)
+        self.index.get(client, seq).place
     }
 
     /// Whether the mutation of a client with a seq has its record. One search.
     pub(crate) fn has_record(&self, client: u32, seq: u64) -> bool
         ensures { result ≡ has_record_lem self.now client seq }
     {
-        self.places.get(client, seq).is_some()
+        self.index.get(client, seq).place.is_some()
+    }
+
+    /// Whether the call of a client with a seq has an accepted record. One search.
+    pub(crate) fn is_accepted(&self, client: u32, seq: u64) -> bool
+        ensures { result ≡ is_accepted_lem self.now client seq }
+    {
+        self.index.get(client, seq).accepted > 0
     }
 
     /// Puts the record of a call at the end, with a stamp above that of the last record and above what its client had seen.
@@ -89,21 +96,26 @@ impl Journal {
             stamp,
             accepted: false,
         };
-        put(&mut self.records, &mut self.places, placed)
+        put(&mut self.records, &mut self.index, placed)
     }
 
-    /// Accepts the record at a place, if there is one. One step; takes no memory.
+    /// Accepts the record at a place, if there is one. Two searches; takes no memory.
     pub(crate) fn accept(&mut self, place: u64)
         ensures { self.new ≡ accepted_at self.old place (slice_get self.old place) }
     {
-        accept_at(&mut self.records, &mut self.accepted, place);
+        accept_at(
+            &mut self.records,
+            &mut self.index,
+            &mut self.accepted,
+            place,
+        );
     }
 
     /// Takes the last record away, if there is one. A few searches; takes no memory.
     pub(crate) fn drop_last(&mut self)
         ensures { self.new ≡ take (length self.old - 1) self.old }
     {
-        pop(&mut self.records, &mut self.places, &mut self.accepted);
+        pop(&mut self.records, &mut self.index, &mut self.accepted);
     }
 }
 
@@ -133,36 +145,37 @@ fn next_stamp(records: &[Placed], seen: u64) -> Result<u64, NoMemory>
 }
 
 // Puts a record at the end that is not accepted.
-fn put(records: &mut Vec<Placed>, places: &mut CallPlaces, placed: Placed) -> Result<(), NoMemory>
-    requires { ArePlaces places.old records.old.items }
-    ensures places { ArePlaces places.new records.new.items }
+fn put(records: &mut Vec<Placed>, index: &mut CallIndex, placed: Placed) -> Result<(), NoMemory>
+    requires index { IsIndex index.old records.old.items }
+    requires new { placed.accepted ≡ false }
+    ensures index { IsIndex index.new records.new.items }
     ensures ok { OnOk result (records.new.items ≡ records.old.items ++ placed ∷ []) }
     ensures err { OnErr result (records.new.items ≡ records.old.items) }
 {
     records.reserve(1)?;
-    note(places, &placed, records.as_slice())?;
+    note(index, &placed, records.as_slice())?;
     let _ = records.push(placed);
     Ok(())
 }
 
-// Notes where a record comes to stand behind these, where it is that of a mutation that has none yet.
-fn note(places: &mut CallPlaces, placed: &Placed, records: &[Placed]) -> Result<(), NoMemory>
-    requires { ArePlaces places.old records.now }
-    ensures ok { OnOk result (ArePlaces places.new (records.now ++ placed.now ∷ [])) }
-    ensures err { OnErr result (ArePlaces places.new records.now) }
+// Notes a record that comes to stand behind these and is not accepted.
+fn note(index: &mut CallIndex, placed: &Placed, records: &[Placed]) -> Result<(), NoMemory>
+    requires index { IsIndex index.old records.now }
+    requires new { placed.now.accepted ≡ false }
+    ensures ok { OnOk result (IsIndex index.new (records.now ++ placed.now ∷ [])) }
+    ensures err { OnErr result (IsIndex index.new records.now) }
 {
     let call = &placed.call;
-    if !is_mutation(&call.op) || places.get(call.client, call.seq).is_some() {
-        return Ok(());
-    }
-    places.insert(call.client, call.seq, records.len() as u64)
+    let noted = index.get(call.client, call.seq);
+    let more = noted.with_record(placed, records.len() as u64);
+    index.insert(call.client, call.seq, more)
 }
 
 // Accepts the record at a place, if there is one.
-fn accept_at(records: &mut Vec<Placed>, accepted: &mut u64, place: u64)
-    requires { accepted.old ≡ accepted_count records.old.items }
+fn accept_at(records: &mut Vec<Placed>, index: &mut CallIndex, accepted: &mut u64, place: u64)
+    requires { IsKept index.old accepted.old records.old.items }
+    ensures kept { IsKept index.new accepted.new records.new.items }
     ensures records { records.new.items ≡ accepted_at records.old.items place (slice_get records.old.items place) }
-    ensures accepted { accepted.new ≡ accepted_count records.new.items }
 {
     let Some(record) = records.get_mut(place as usize) else {
         return;
@@ -171,34 +184,34 @@ fn accept_at(records: &mut Vec<Placed>, accepted: &mut u64, place: u64)
         return;
     }
     record.accepted = true;
+    let (client, seq) = (record.call.client, record.call.seq);
+    let noted = index.get(client, seq);
+    index.change(client, seq, noted.with_accepted());
     *accepted += 1;
 }
 
 // Takes the last record away, if there is one.
-fn pop(records: &mut Vec<Placed>, places: &mut CallPlaces, accepted: &mut u64)
-    requires { IsKept places.old accepted.old records.old.items }
-    ensures kept { IsKept places.new accepted.new records.new.items }
+fn pop(records: &mut Vec<Placed>, index: &mut CallIndex, accepted: &mut u64)
+    requires { IsKept index.old accepted.old records.old.items }
+    ensures kept { IsKept index.new accepted.new records.new.items }
     ensures records { records.new.items ≡ take (length records.old.items - 1) records.old.items }
 {
     let Some(placed) = records.pop() else {
         return;
     };
-    forget(places, &placed, records.as_slice());
+    forget(index, &placed, records.as_slice());
     if placed.accepted {
         *accepted -= 1;
     }
 }
 
-// Forgets the place of a record that stood behind these, where it was noted.
-fn forget(places: &mut CallPlaces, placed: &Placed, records: &[Placed])
-    requires { ArePlaces places.old (records.now ++ placed.now ∷ []) }
-    ensures { ArePlaces places.new records.now }
+// Takes a record out of the index that stood behind these.
+fn forget(index: &mut CallIndex, placed: &Placed, records: &[Placed])
+    requires { IsIndex index.old (records.now ++ placed.now ∷ []) }
+    ensures { IsIndex index.new records.now }
 {
     let call = &placed.call;
-    let Some(place) = places.get(call.client, call.seq) else {
-        return;
-    };
-    if place == records.len() as u64 {
-        places.remove(call.client, call.seq);
-    }
+    let noted = index.get(call.client, call.seq);
+    let fewer = noted.without_record(placed, records.len() as u64);
+    index.change(call.client, call.seq, fewer);
 }

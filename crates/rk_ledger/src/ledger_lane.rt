@@ -1,17 +1,19 @@
-ghost use Rattle.std.specs.Prelude.{◌≡◌, length, if◌then◌else◌, Some, OnOk, OnErr};
+ghost use Rattle.std.specs.Prelude.{◌≡◌, ◌<◌, ◌-◌, ◌^◌, true, length, take, if◌then◌else◌, Some, OnOk, OnErr};
 ghost use Rattle.std.specs.Option.{option_copied};
 ghost use Rattle.rk_types.specs.NumberMap.{get};
-ghost use Rattle.rk_world.specs.Journal.{has_record as has_record_lem, last_stamp as last_stamp_lem};
+ghost use Rattle.rk_world.specs.Journal.{has_record as has_record_lem, is_accepted as is_accepted_lem, last_stamp as last_stamp_lem};
 ghost use Rattle.rk_world.specs.Ledger.{asked_by, is_added as is_added_lem, new_ledger};
 ghost use Rattle.rk_world.specs.Ledger as ledgers;
 ghost use Rattle.rk_world.specs.Replies.{filled};
-ghost use Rattle.rk_ledger.specs.Places.{accepted_count};
+ghost use Rattle.rk_ledger.specs.Growing.{with_journal};
+ghost use Rattle.rk_ledger.specs.Noted.{accepted_count};
 
+use crate::clients::Clients;
 use crate::fill::fill_body;
 use crate::journal::Journal;
-use crate::recording::{end_all, last_call, serve_all};
+use crate::recording::{cut, end_all, serve_all};
 use rk_message::{Message, Rebuilt};
-use rk_types::{NoMemory, Numbered, Placed};
+use rk_types::{NoMemory, Placed};
 use rk_world::{LastCall, Mark, Served};
 use std::alloc::Global;
 use std::marker::Model;
@@ -19,11 +21,9 @@ use std::marker::Model;
 /// The ledger of a lane. Contracts see the ledger of the definitions.
 #[derive(Drop)]
 pub struct LedgerLane {
-    // Of each client that was added the last call that it asked here, if any.
-    clients: Numbered<Option<LastCall>>,
+    clients: Clients,
     // How many calls were asked.
     asked: u64,
-    requests: Numbered<Message>,
     journal: Journal,
     marks: Vec<Mark>,
 }
@@ -44,9 +44,8 @@ impl LedgerLane {
         ensures { result ≡ new_ledger }
     {
         LedgerLane {
-            clients: Numbered::new(alloc),
+            clients: Clients::new(alloc),
             asked: 0,
-            requests: Numbered::new(alloc),
             journal: Journal::new(alloc),
             marks: Vec::new(alloc),
         }
@@ -56,7 +55,7 @@ impl LedgerLane {
     pub fn is_added(&self, client: u32) -> bool
         ensures { result ≡ is_added_lem self.now client }
     {
-        self.clients.get(u64::from(client)).is_some()
+        self.clients.is_added(client)
     }
 
     /// How many clients were added. One step.
@@ -66,34 +65,30 @@ impl LedgerLane {
         self.clients.count()
     }
 
-    /// Adds a client that asked nothing so far, unless it is there. After `NoMemory` nothing has changed. Two searches.
+    /// Adds a client that asked nothing so far, unless it is there. After `NoMemory` nothing has changed. One search, and a
+    /// step for each client above it.
     pub fn add_client(&mut self, client: u32) -> Result<(), NoMemory>
         ensures ok { OnOk result (self.new ≡ (if is_added_lem self.old client then self.old else ledgers.with_client self.old client)) }
         ensures err { OnErr result (self.new ≡ self.old) }
     {
-        if self.is_added(client) {
-            return Ok(());
-        }
-        self.clients.insert(u64::from(client), None)
+        self.clients.add(client)
     }
 
     /// The last call that a client asked here, if there was one. One search.
     pub fn last_call(&self, client: u32) -> Option<&LastCall>
         ensures { option_copied result ≡ asked_by self.now client }
     {
-        last_call(&self.clients, client)
+        self.clients.last_call(client)
     }
 
-    /// A client asks a new call, which stands in the place of its last one. `NoMemory` comes also where so many calls were
-    /// asked as there are numbers; nothing has changed then, and the call is dropped. One search.
-    pub fn ask(&mut self, client: u32, last: LastCall) -> Result<(), NoMemory>
-        ensures ok { OnOk result (self.new ≡ ledgers.with_asked self.old client last) }
-        ensures err { OnErr result (self.new ≡ self.old) }
+    /// A client that was added asks a new call, which stands in the place of its last one. One search; takes no memory.
+    pub fn ask(&mut self, client: u32, last: LastCall)
+        requires added { is_added_lem self.old client ≡ true }
+        requires room { self.old.asked < 2 ^ 64 - 1 }
+        ensures { self.new ≡ ledgers.with_asked self.old client last }
     {
-        let asked = self.asked.checked_add(1).ok_or(NoMemory)?;
-        self.clients.insert(u64::from(client), Some(last))?;
-        self.asked = asked;
-        Ok(())
+        self.clients.ask(client, last);
+        self.asked += 1;
     }
 
     /// How many calls were asked.
@@ -103,20 +98,19 @@ impl LedgerLane {
         self.asked
     }
 
-    /// Keeps the last request of a client, in the place of an older one. After `NoMemory` nothing has changed, and the
-    /// request is dropped. One search.
-    pub fn save(&mut self, client: u32, request: Message) -> Result<(), NoMemory>
-        ensures ok { OnOk result (self.new ≡ ledgers.with_request self.old client request) }
-        ensures err { OnErr result (self.new ≡ self.old) }
+    /// Keeps the last request of a client that was added, in the place of an older one. One search; takes no memory.
+    pub fn save(&mut self, client: u32, request: Message)
+        requires { is_added_lem self.old client ≡ true }
+        ensures { self.new ≡ ledgers.with_request self.old client request }
     {
-        self.requests.insert(u64::from(client), request)
+        self.clients.save(client, request);
     }
 
     /// The last request of a client, if one is kept. One search.
     pub fn request(&self, client: u32) -> Option<&Message>
         ensures { option_copied result ≡ get self.now.requests client }
     {
-        self.requests.get(u64::from(client))
+        self.clients.request(client)
     }
 
     /// The journal: the records of the calls that were carried out, oldest first; lent.
@@ -147,6 +141,13 @@ impl LedgerLane {
         self.journal.has_record(client, seq)
     }
 
+    /// Whether the call of a client with a seq has an accepted record. One search.
+    pub fn is_accepted(&self, client: u32, seq: u64) -> bool
+        ensures { result ≡ is_accepted_lem self.now.journal client seq }
+    {
+        self.journal.is_accepted(client, seq)
+    }
+
     /// The marks of pieces of logs that rebuilds made, in the order in which they came; lent.
     pub fn marks(&self) -> &[Mark]
         ensures { result.now ≡ self.now.marks }
@@ -162,6 +163,14 @@ impl LedgerLane {
         ensures err { OnErr result (self.new ≡ self.old) }
     {
         serve_all(&mut self.journal, &self.clients, seen, served)
+    }
+
+    /// Takes the records from a place on away, counted from 0: as where a call that was served cannot be answered. For each
+    /// of them a few searches; takes no memory.
+    pub fn withdraw(&mut self, length: usize)
+        ensures { self.new ≡ with_journal self.old (take length self.old.journal) }
+    {
+        cut(&mut self.journal, length);
     }
 
     /// Pieces of masters' logs are marked. After `NoMemory` nothing has changed. A step for each mark.
@@ -187,7 +196,7 @@ impl LedgerLane {
         Ok(())
     }
 
-    /// Accepts the record at a place, counted from 0, if there is one. One step; takes no memory.
+    /// Accepts the record at a place, counted from 0, if there is one. Two searches; takes no memory.
     pub fn accept(&mut self, place: u64)
         ensures { self.new ≡ ledgers.with_accepted self.old place }
     {

@@ -1,31 +1,24 @@
 // How calls get their records.
 ghost use Rattle.std.specs.Prelude.{◌≡◌, ◌∷◌, ◌++◌, [], None, take, OnOk, OnErr};
-ghost use Rattle.std.specs.Option.{option_copied};
 ghost use Rattle.rk_types.specs.NumberMap.{get_or};
 ghost use Rattle.rk_world.specs.Ends.{outcome_of as outcome_of_lem};
 ghost use Rattle.rk_world.specs.Journal.{next_record};
 ghost use Rattle.rk_world.specs.Ledger.{Ledger, seen_of, with_all_served, with_end, with_ends, with_served};
 ghost use Rattle.rk_ledger.specs.Growing.{IsGrown, with_journal};
 
+use crate::clients::Clients;
 use crate::journal::{Journal, is_mutation};
-use rk_types::{Call, End, Ended, NoMemory, Numbered, Outcome};
-use rk_world::{LastCall, Served};
-
-/// The last call that a client asked, among those of all clients. One search.
-pub(crate) fn last_call(clients: &Numbered<Option<LastCall>>, client: u32) -> Option<&LastCall>
-    ensures { option_copied result ≡ get_or None clients.now client }
-{
-    clients.get(u64::from(client))?.as_ref()
-}
+use rk_types::{Call, End, Ended, NoMemory, Outcome};
+use rk_world::Served;
 
 /// Served calls get their records, in their order. After `NoMemory` nothing has changed. A few searches for each call.
 pub(crate) fn serve_all(
     journal: &mut Journal,
-    clients: &Numbered<Option<LastCall>>,
+    clients: &Clients,
     seen: u64,
     served: &[Served],
 ) -> Result<(), NoMemory>
-    ensures ok { OnOk result ((ledger : Ledger) → ledger.clients ≡ clients.now
+    ensures ok { OnOk result ((ledger : Ledger) → ledger.clients ≡ clients.now.last_calls
         → with_journal ledger journal.new ≡ with_all_served seen (with_journal ledger journal.old) served.now) }
     ensures err { OnErr result (journal.new ≡ journal.old) }
 {
@@ -40,10 +33,10 @@ pub(crate) fn serve_all(
 /// Ends of a rebuild make records, in their order. After `NoMemory` nothing has changed. A few searches for each end.
 pub(crate) fn end_all(
     journal: &mut Journal,
-    clients: &Numbered<Option<LastCall>>,
+    clients: &Clients,
     ends: &[Ended],
 ) -> Result<(), NoMemory>
-    ensures ok { OnOk result ((ledger : Ledger) → ledger.clients ≡ clients.now
+    ensures ok { OnOk result ((ledger : Ledger) → ledger.clients ≡ clients.now.last_calls
         → with_journal ledger journal.new ≡ with_ends (with_journal ledger journal.old) ends.now) }
     ensures err { OnErr result (journal.new ≡ journal.old) }
 {
@@ -58,11 +51,11 @@ pub(crate) fn end_all(
 // Served calls get their records, as far as memory goes.
 fn serve_each(
     journal: &mut Journal,
-    clients: &Numbered<Option<LastCall>>,
+    clients: &Clients,
     seen: u64,
     served: &[Served],
 ) -> Result<(), NoMemory>
-    ensures ok { OnOk result ((ledger : Ledger) → ledger.clients ≡ clients.now
+    ensures ok { OnOk result ((ledger : Ledger) → ledger.clients ≡ clients.now.last_calls
         → with_journal ledger journal.new ≡ with_all_served seen (with_journal ledger journal.old) served.now) }
     ensures grown { IsGrown journal.old journal.new }
 {
@@ -73,12 +66,8 @@ fn serve_each(
 }
 
 // Ends make records, as far as memory goes.
-fn end_each(
-    journal: &mut Journal,
-    clients: &Numbered<Option<LastCall>>,
-    ends: &[Ended],
-) -> Result<(), NoMemory>
-    ensures ok { OnOk result ((ledger : Ledger) → ledger.clients ≡ clients.now
+fn end_each(journal: &mut Journal, clients: &Clients, ends: &[Ended]) -> Result<(), NoMemory>
+    ensures ok { OnOk result ((ledger : Ledger) → ledger.clients ≡ clients.now.last_calls
         → with_journal ledger journal.new ≡ with_ends (with_journal ledger journal.old) ends.now) }
     ensures grown { IsGrown journal.old journal.new }
 {
@@ -91,11 +80,11 @@ fn end_each(
 // A served call gets its record: a read with what its request had seen, and a mutation that has none yet.
 fn serve(
     journal: &mut Journal,
-    clients: &Numbered<Option<LastCall>>,
+    clients: &Clients,
     seen: u64,
     served: &Served,
 ) -> Result<(), NoMemory>
-    ensures ok { OnOk result ((ledger : Ledger) → ledger.clients ≡ clients.now
+    ensures ok { OnOk result ((ledger : Ledger) → ledger.clients ≡ clients.now.last_calls
         → with_journal ledger journal.new ≡ with_served seen (with_journal ledger journal.old) served.now) }
     ensures grown { IsGrown journal.old journal.new }
 {
@@ -115,16 +104,12 @@ fn serve(
 }
 
 // An end makes a record where it is that of its client's last call, and that call has none.
-fn take_end(
-    journal: &mut Journal,
-    clients: &Numbered<Option<LastCall>>,
-    end: &Ended,
-) -> Result<(), NoMemory>
-    ensures ok { OnOk result ((ledger : Ledger) → ledger.clients ≡ clients.now
+fn take_end(journal: &mut Journal, clients: &Clients, end: &Ended) -> Result<(), NoMemory>
+    ensures ok { OnOk result ((ledger : Ledger) → ledger.clients ≡ clients.now.last_calls
         → with_journal ledger journal.new ≡ with_end (with_journal ledger journal.old) end.now) }
     ensures grown { IsGrown journal.old journal.new }
 {
-    let Some(last) = last_call(clients, end.client) else {
+    let Some(last) = clients.last_call(end.client) else {
         return Ok(());
     };
     if last.call.seq != end.seq || journal.has_record(end.client, end.seq) {
@@ -141,8 +126,8 @@ fn put(journal: &mut Journal, call: &Call, outcome: &Outcome, seen: u64) -> Resu
     journal.add(call.duplicate()?, outcome.duplicate()?, seen)
 }
 
-// Takes the records from a place on away, the last one first.
-fn cut(journal: &mut Journal, length: usize)
+/// Takes the records from a place on away, the last one first. For each of them a few searches; takes no memory.
+pub(crate) fn cut(journal: &mut Journal, length: usize)
     ensures { journal.new ≡ take length journal.old }
 {
     'cut: while journal.records().len() > length {
@@ -151,10 +136,10 @@ fn cut(journal: &mut Journal, length: usize)
 }
 
 // The stamp that a client had seen when it asked its last call.
-fn seen_by(clients: &Numbered<Option<LastCall>>, client: u32) -> u64
-    ensures { result ≡ seen_of (get_or None clients.now client) }
+fn seen_by(clients: &Clients, client: u32) -> u64
+    ensures { result ≡ seen_of (get_or None clients.now.last_calls client) }
 {
-    match last_call(clients, client) {
+    match clients.last_call(client) {
         Some(last) => last.seen,
         None => 0,
     }

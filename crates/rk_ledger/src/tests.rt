@@ -1,5 +1,5 @@
 use crate::LedgerLane;
-use rk_message::{Body, Message, Rebuilt, Reply, Tenure};
+use rk_message::{Body, Lookup, Message, Rebuilt, Reply, Tenure};
 use rk_types::{Answer, Call, End, Ended, Key, Listed, Node, Op, Outcome, TextError};
 use rk_world::{LastCall, Mark, Served};
 use std::alloc::Global;
@@ -33,7 +33,7 @@ fn lane_of_one(alloc: Global) -> Result<LedgerLane, Fail> {
     let mut lane = LedgerLane::new(alloc);
     lane.add_client(1)?;
     let call = call(alloc, 4, true)?;
-    lane.ask(1, LastCall { call, seen: 6 })?;
+    lane.ask(1, LastCall { call, seen: 6 });
     Ok(lane)
 }
 
@@ -64,6 +64,15 @@ fn told(lane: &LedgerLane, alloc: Global, reads: bool) -> Result<Option<(u64, u6
     match lane.fill(served.as_slice(), message).body {
         Body::Reply(reply) => Ok(Some((reply.stamp, reply.place))),
         _ => Ok(None),
+    }
+}
+
+// A message of client 1.
+fn question() -> Message {
+    Message {
+        from: Node::Client(1),
+        to: Node::Coordinator,
+        body: Body::Lookup(Lookup { table: 1, hash: 5 }),
     }
 }
 
@@ -104,6 +113,10 @@ fn a_mutation_gets_one_record(rt: HostRuntime) -> Result<(), Fail> {
     lane.accept(0);
     lane.accept(1);
     assert_eq!(rt; shown(&lane), (1, 7, 1));
+    assert_eq!(rt;
+        (lane.is_accepted(1, 4), lane.is_accepted(1, 3)),
+        (true, false)
+    );
     Ok(())
 }
 
@@ -145,5 +158,30 @@ fn clients_are_kept(rt: HostRuntime) -> Result<(), Fail> {
     assert_eq!(rt; (lane.is_added(2), lane.is_added(3)), (true, false));
     assert_eq!(rt; lane.last_call(1).map(|last| last.seen), Some(6));
     assert_eq!(rt; lane.last_call(2).is_none(), true);
+    lane.save(1, question());
+    assert_eq!(rt; lane.request(1).is_some(), true);
+    assert_eq!(rt; lane.request(2).is_none(), true);
+    Ok(())
+}
+
+#[test]
+fn what_is_withdrawn_is_found_no_more(rt: HostRuntime) -> Result<(), Fail> {
+    let mut lane = lane_of_one(rt.alloc())?;
+    serve(&mut lane, rt.alloc(), 3, false)?;
+    serve(&mut lane, rt.alloc(), 4, true)?;
+    lane.accept(0);
+    lane.accept(1);
+    lane.withdraw(1);
+    assert_eq!(rt; shown(&lane), (1, 10, 1));
+    assert_eq!(rt;
+        (lane.is_accepted(1, 3), lane.is_accepted(1, 4)),
+        (true, false)
+    );
+    assert_eq!(rt; lane.has_record(1, 4), false);
+    serve(&mut lane, rt.alloc(), 4, true)?;
+    assert_eq!(rt;
+        (lane.has_record(1, 4), lane.is_accepted(1, 4)),
+        (true, false)
+    );
     Ok(())
 }

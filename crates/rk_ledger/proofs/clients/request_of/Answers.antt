@@ -1,0 +1,14 @@
+use Rattle.std.proofs.Common.{sym, ap, ◌∙◌}
+use Rattle.rk_ledger.proofs.Entries.{get_request, request_in}
+use Rattle.rk_ledger.proofs.Places.{get_at, get_between}
+use Rattle.rk_ledger.proofs.clients.request_of.Goals as goal
+
+pub returns-in-Ok : goal.returns-in-Ok
+returns-in-Ok c =
+    c.as_ref.ensures.value
+    ∙ sym (get_request c.args.entries.now c.requires c.args.client
+    ∙ ap request_in (get_at c.args.client c.args.entries.now c.in-Ok.at c.index-entries-at.result c.requires c.in-Ok.ensures.found))
+
+pub returns-in-Err : goal.returns-in-Err
+returns-in-Err c =
+    sym (get_request c.args.entries.now c.requires c.args.client ∙ ap request_in (get_between c.args.client c.args.entries.now c.in-Err.field-0 c.in-Err.ensures.absent))

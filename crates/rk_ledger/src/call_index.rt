@@ -1,0 +1,106 @@
+ghost use Rattle.std.specs.Prelude.{◌≡◌, ◌<◌, ◌-◌, ◌^◌, ℕ, true, false, OnOk, OnErr};
+ghost use Rattle.rk_ledger.specs.Noted.{IsNoted, NotesTheSame, has_note, noted_in, nothing, with_accepted, with_record, without_record};
+
+use crate::journal::is_mutation;
+use rk_types::{NoMemory, Placed};
+use std::alloc::Global;
+use std::collections::BTreeMap;
+
+/// What is noted of a client and seq: where the record of the mutation stands, if it has one, and how many records are
+/// accepted.
+#[derive(Clone, Copy, Debug, PartialEq, Eq)]
+pub(crate) struct Noted {
+    pub(crate) place: Option<u64>,
+    pub(crate) accepted: u64,
+}
+
+impl Noted {
+    /// What is noted of a call once one more record of it stands at this place, which is not accepted.
+    pub(crate) fn with_record(self, placed: &Placed, place: u64) -> Noted
+        requires { placed.now.accepted ≡ false }
+        ensures { result ≡ with_record self placed.now place }
+    {
+        let place = match self.place {
+            None if is_mutation(&placed.call.op) => Some(place),
+            known => known,
+        };
+        Noted {
+            place,
+            accepted: self.accepted,
+        }
+    }
+
+    /// What was noted of a call before its last record came to stand at this place.
+    pub(crate) fn without_record(self, placed: &Placed, place: u64) -> Noted
+        ensures { result ≡ without_record self placed.now place }
+    {
+        let before = match self.place {
+            Some(known) if known == place => None,
+            known => known,
+        };
+        Noted {
+            place: before,
+            accepted: self.accepted.saturating_sub(u64::from(placed.accepted)),
+        }
+    }
+
+    /// What is noted of a call once one more of its records is accepted.
+    pub(crate) fn with_accepted(self) -> Noted
+        requires { self.accepted < 2 ^ 64 - 1 }
+        ensures { result ≡ with_accepted self }
+    {
+        Noted {
+            place: self.place,
+            accepted: self.accepted + 1,
+        }
+    }
+}
+
+/// What is noted of each client and seq.
+#[derive(Drop)]
+pub(crate) struct CallIndex {
+    notes: BTreeMap<(u32, u64), Noted>,
+}
+
+impl CallIndex {
+    /// No notes. Takes no memory.
+    pub(crate) fn new(alloc: Global) -> CallIndex
+        ensures { (client seq : ℕ) → noted_in result client seq ≡ nothing }
+    {
+        CallIndex {
+            notes: BTreeMap::new(alloc),
+        }
+    }
+
+    /// What is noted of this client and seq. One search.
+    pub(crate) fn get(&self, client: u32, seq: u64) -> Noted
+        ensures { result ≡ noted_in self.now client seq }
+    {
+        match self.notes.get(&(client, seq)) {
+            Some(noted) => *noted,
+            None => Noted {
+                place: None,
+                accepted: 0,
+            },
+        }
+    }
+
+    /// Notes this of a client and seq. After `NoMemory` nothing has changed. One search.
+    pub(crate) fn insert(&mut self, client: u32, seq: u64, noted: Noted) -> Result<(), NoMemory>
+        ensures ok { OnOk result (IsNoted self.old self.new client seq noted) }
+        ensures err { OnErr result (NotesTheSame self.old self.new) }
+    {
+        self.notes.insert((client, seq), noted)?;
+        Ok(())
+    }
+
+    /// Notes this of a client and seq that has a note. One search; takes no memory.
+    pub(crate) fn change(&mut self, client: u32, seq: u64, noted: Noted)
+        requires { has_note self.old client seq ≡ true }
+        ensures { IsNoted self.old self.new client seq noted }
+    {
+        if let Some(there) = self.notes.get_mut(&(client, seq)) {
+            *there = noted;
+        }
+    }
+}
