@@ -1,0 +1,13 @@
+pub mod Among
+pub mod Groups
+pub mod Spelt
+pub mod FirstRead
+pub mod LogRead
+pub mod MergeTells
+pub mod MarkedPieces
+pub mod PieceRows
+pub mod OwnPiece
+pub mod Unmarked
+pub mod ReadTold
+pub mod MarksTold
+pub mod Crashed
