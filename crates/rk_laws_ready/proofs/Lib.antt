@@ -1,0 +1,10 @@
+pub mod Outside
+pub mod Left
+pub mod Yielding
+pub mod YieldedCalls
+pub mod YieldedMessages
+pub mod YieldedRecords
+pub mod Yielded
+pub mod OthersGivenUp
+pub mod TakenTablets
+pub mod Prepared

@@ -1,0 +1,88 @@
+-- What is seen of a world where one master has other records and tablets, and what it has of each tablet once others are given up.
+use Rattle.std.proofs.Common.{◌≡◌, ℕ, true, false, List, [], ◌∷◌, Option, Some, None, cond, refl, sym, ap, ◌∙◌}
+use Rattle.std.specs.Prelude.{◌==◌, ◌&&◌, not, unwrap_or}
+use Rattle.std.specs.Option.{option_map}
+use Rattle.std.specs.Ordering.{eq_by_cmp, nat_cmp}
+use Rattle.std.proofs.lemmas.Bool.{and_left, cond_both, cond-false, eq-eqb}
+use Rattle.rk_types.specs.NumberMap.{NumberMap, changed_each, get}
+use Rattle.rk_types.specs.Range.{meets}
+use Rattle.rk_types.specs.declared.held.Held.{Held}
+use Rattle.rk_types.specs.declared.range.Range.{Range}
+use Rattle.rk_types.proofs.NumberMaps.{same_number}
+use Rattle.rk_world.specs.Handovers.{given_up, with_others_given_up}
+use Rattle.rk_world.specs.Ledger.{marks_of}
+use Rattle.rk_world.specs.Master.{Master, tablet_at}
+use Rattle.rk_world.specs.Tablet.{Tablet, no_tablet}
+use Rattle.rk_world.specs.World.{World, master_at, tablet_in, with_master}
+use Rattle.rk_world.specs.Written.{written_by}
+use Rattle.rk_sound.specs.View.{view}
+use Rattle.rk_sound.specs.Small.{put}
+use Rattle.rk_laws_parts.proofs.Masters.{master_other, master_same, same_of_all, same_of_each}
+use Rattle.rk_laws_parts.proofs.Put.{put_is}
+use Rattle.rk_laws_ready.specs.Small.{others_given_up, tablets_taken}
+
+-- ---- other tablets are given up
+
+-- what is found in a map where each thing was changed
+found_changed : {X Y : Type 0} (change : ℕ → X → Y) (things : NumberMap X) (q : ℕ) → get (changed_each change things) q ≡ option_map (change q) (get things q)
+found_changed change [] q = refl
+found_changed {X = X} {Y = Y} change (first ∷ rest) q =
+    elim (eq_by_cmp nat_cmp q first.0) as (λ b. eq_by_cmp nat_cmp q first.0 ≡ b → cond b (Some (change first.0 first.1)) (get (changed_each change rest) q) ≡ option_map (change q) (cond b (Some first.1) (get rest q))) [
+      | true ↦ λ is. ap (λ (n : ℕ). Some (change n first.1)) (sym (same_number q first.0 is))
+      | false ↦ λ apart. found_changed change rest q
+    ] refl
+
+module _ (master : Master) (number : ℕ) (range : Range) where
+  -- what becomes of a tablet
+  abbrev giving : ℕ → Tablet → Tablet
+  giving r tablet = cond (not (r == number) && meets tablet.handover.range range) (given_up tablet) tablet
+
+  found_or : (r : ℕ) (o : Option Tablet) → unwrap_or (option_map (giving r) o) no_tablet ≡ giving r (unwrap_or o no_tablet)
+  found_or r (Some tablet) = refl
+  found_or r None =
+      cond_both (not (r == number) && meets no_tablet.handover.range range) (given_up no_tablet) no_tablet
+      (λ (t : Tablet). no_tablet ≡ t) (λ e. refl) (λ e. refl)
+
+  pub others_at : (r : ℕ) → tablet_at (with_others_given_up master number range) r ≡ others_given_up (tablet_at master) number range r
+  others_at r =
+      ap (λ (o : Option Tablet). unwrap_or o no_tablet) (found_changed giving master.tablets r) ∙ found_or r (get master.tablets r)
+
+  -- the order's own tablet is as it was
+  pub own_at : tablet_at (with_others_given_up master number range) number ≡ tablet_at master number
+  own_at =
+      let own : Tablet = tablet_at master number in
+      others_at number
+      ∙ cond-false (not (number == number) && meets own.handover.range range) (given_up own) own
+      (and_left (not (number == number)) (meets own.handover.range range) (ap not (eq-eqb number number refl)))
+
+-- ---- one master has other records and tablets
+
+module _ (w : World) (master : ℕ) (records : List Held) (table : NumberMap Tablet) where
+  abbrev pub changed : Master
+  changed = record (master_at w master) { records = records; tablets = table }
+
+  module _ (tablets : ℕ → Tablet) (are : (r : ℕ) → tablet_at changed r ≡ tablets r) (ends : (r : ℕ) → (tablets r).completions ≡ (tablet_in w master r).completions) where
+    -- what is seen of each tablet
+    keeps : {X : Type 0} (f : Tablet → X) → ◌≡◌ {A = ℕ → ℕ → X} (λ q r. f (tablet_in (with_master w master changed) q r)) (put (λ q r. f (tablet_in w q r)) master (λ r. f (tablets r)))
+    keeps {X} f i q =
+        put_is (λ q r. f (tablet_in w q r)) master (λ r. f (tablets r)) q (λ r. f (tablet_in (with_master w master changed) q r))
+        (λ is j r. (ap (λ (m : Master). f (tablet_at m r)) (master_same w master changed q is) ∙ ap f (are r)) j)
+        (λ other j r. ap (λ (m : Master). f (tablet_at m r)) (master_other w master changed q other) j) i
+
+    pub view_tablets : view (with_master w master changed) ≡ tablets_taken (view w) master records tablets
+    view_tablets i = record (view w) {
+      numbers = same_of_all (λ q m. m.number) w master changed refl i;
+      logs = same_of_all (λ q m. m.log) w master changed refl i;
+      written = same_of_all (λ q m. written_by m (marks_of w.ledger q)) w master changed refl i;
+      records = λ q.
+          put_is (λ q. (master_at w q).records) master records q (master_at (with_master w master changed) q).records
+          (λ is. ap (λ (m : Master). m.records) (master_same w master changed q is))
+          (λ other. ap (λ (m : Master). m.records) (master_other w master changed q other)) i;
+      calls = same_of_all (λ q m. m.calls) w master changed refl i;
+      handovers = keeps (λ t. t.handover) i;
+      completions = λ q r.
+          same_of_each (λ q m. (tablet_at m r).completions) w master changed (ap (λ (t : Tablet). t.completions) (are r) ∙ ends r) q i;
+      pullings = keeps (λ t. t.pulling) i;
+      gathers = keeps (λ t. t.gather) i;
+      merged = keeps (λ t. t.merged_ends) i;
+    }

@@ -1,0 +1,62 @@
+-- Small changes by which a master takes a role of a tablet anew, at a greater term: each other tablet that it has in that range is given up.
+use Rattle.std.specs.Prelude.{ℕ, ◌==◌, ◌&&◌, not, List, length, if◌then◌else◌}
+use Rattle.rk_types.specs.Range.{meets}
+use Rattle.rk_types.specs.declared.held.Held.{Held}
+use Rattle.rk_types.specs.declared.range.Range.{Range}
+use Rattle.rk_table.specs.Items.{without}
+use Rattle.rk_transfer.specs.declared.handover.Handover.{Handover}
+use Rattle.rk_transfer.specs.declared.role.Role.TheVariants as roles
+use Rattle.rk_message.specs.declared.handover.Prepare.{Prepare}
+use Rattle.rk_world.specs.Handovers.{given_up, tablet_prepared}
+use Rattle.rk_world.specs.Tablet.{Tablet, with_handover, without_merged}
+use Rattle.rk_world.specs.World.{World, master_at, with_master}
+use Rattle.rk_sound.specs.Small.{put}
+use Rattle.rk_sound.specs.View.{View}
+
+-- what a master has of a tablet, as it is seen
+abbrev pub tablet_seen : View → ℕ → ℕ → Tablet
+tablet_seen v master tablet = record {
+  handover = v.handovers master tablet;
+  completions = v.completions master tablet;
+  pulling = v.pullings master tablet;
+  gather = v.gathers master tablet;
+  merged_ends = v.merged master tablet;
+}
+
+-- what becomes of the tablets of a master where each one but this is given up whose range meets the range
+abbrev pub others_given_up : (ℕ → Tablet) → ℕ → Range → ℕ → Tablet
+others_given_up tablets number range other =
+    if not (other == number) && meets (tablets other).handover.range range then given_up (tablets other) else tablets other
+
+-- a master has these records now, and this of each tablet; the ends that it keeps stay
+abbrev pub tablets_taken : View → ℕ → List Held → (ℕ → Tablet) → View
+tablets_taken v master records tablets = record v {
+  records = put v.records master records;
+  handovers = put v.handovers master (λ tablet. (tablets tablet).handover);
+  pullings = put v.pullings master (λ tablet. (tablets tablet).pulling);
+  gathers = put v.gathers master (λ tablet. (tablets tablet).gather);
+  merged = put v.merged master (λ tablet. (tablets tablet).merged_ends);
+}
+
+-- a handover of a tablet that is to be granted at a term, where the master's own entries count from a place on
+abbrev pub as_wanting : ℕ → Range → ℕ → Handover → Handover
+as_wanting term range from handover =
+    record handover { role = roles.Wanting from; term = term; range = range }
+
+-- the tablets of a master that makes ready for one of them
+abbrev pub prepared_tablets : View → ℕ → Prepare → ℕ → Tablet
+prepared_tablets v master prepare =
+    let number = prepare.tenure.tablet in
+    let old = tablet_seen v master number in
+    put (others_given_up (tablet_seen v master) number prepare.range) number
+    (without_merged
+    (with_handover old
+    (as_wanting prepare.tenure.term prepare.range (length (v.logs master).entries) old.handover)))
+
+-- a master makes ready for a tablet: it drops the items of the range, and each other tablet there is given up
+abbrev pub prepared : View → ℕ → Prepare → View
+prepared v master prepare =
+    tablets_taken v master (without prepare.range (v.records master)) (prepared_tablets v master prepare)
+
+abbrev pub tablet_prepared_in : World → ℕ → Prepare → World
+tablet_prepared_in w master prepare = with_master w master (tablet_prepared (master_at w master) prepare)
