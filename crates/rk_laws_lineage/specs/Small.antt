@@ -1,0 +1,22 @@
+-- Small changes that give a row another lineage, and what they make of a view.
+use Rattle.std.specs.Prelude.{ℕ}
+use Rattle.rk_types.specs.NumberMap.{NumberMap}
+use Rattle.rk_tablet_map.specs.Rows.{replaced}
+use Rattle.rk_tablet_map.specs.declared.row.Row.{Row}
+use Rattle.rk_world.specs.Coordinator.{Handed}
+use Rattle.rk_world.specs.CoordinatorStep.{row_moved, row_owned}
+use Rattle.rk_world.specs.World.{World, with_coordinator}
+use Rattle.rk_sound.specs.View.{View}
+
+-- a row takes another lineage, and this is what sources told now
+abbrev pub lineage_taken : View → Row → NumberMap Handed → View
+lineage_taken v row handed = record v { rows = replaced row.tablet row v.rows; handed = handed }
+
+-- a row moves
+abbrev pub row_moved_in : World → Row → ℕ → ℕ → ℕ → ℕ → Handed → World
+row_moved_in w row source sfrom target dfrom handed =
+    with_coordinator w (row_moved w.coordinator row source sfrom target dfrom handed)
+
+-- a row is owned by a master that took it over, from a place of its log on
+abbrev pub row_owned_in : World → Row → ℕ → ℕ → World
+row_owned_in w row master from = with_coordinator w (row_owned w.coordinator row master from)

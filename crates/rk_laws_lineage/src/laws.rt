@@ -1,0 +1,17 @@
+// The headline laws of rows that take another lineage. Each function does nothing: its contract is the law.
+ghost use Rattle.std.specs.Prelude.{ℕ};
+ghost use Rattle.rk_tablet_map.specs.declared.row.Row.{Row};
+ghost use Rattle.rk_world.specs.Coordinator.{Handed};
+ghost use Rattle.rk_world.specs.World.{World};
+ghost use Rattle.rk_sound.specs.Moves.{HasSome, MayMove};
+ghost use Rattle.rk_sound.specs.View.{view};
+ghost use Rattle.rk_sound.specs.Whole.{IsSound};
+ghost use Rattle.rk_laws_lineage.specs.Small.{row_moved_in};
+
+/// A sound lane stays sound when a row moves, once its source is frozen and has told what it hands over, and its target waits at its
+/// place. The range of the row is not empty: so it is in each lane that is well formed.
+pub fn lineages_keep_lanes_sound()
+    ensures moved { (w : World) (row : Row) (source sfrom target dfrom : ℕ) (given : Handed)
+        → IsSound w → HasSome row.range → MayMove (view w) row source sfrom target dfrom given
+        → IsSound (row_moved_in w row source sfrom target dfrom given) }
+{}
