@@ -6,3 +6,7 @@ pub mod Untouched
 pub mod FloorsOf
 pub mod Histories
 pub mod RowMoved
+pub mod Among
+pub mod Scanned
+pub mod TakenOver
+pub mod Pieces

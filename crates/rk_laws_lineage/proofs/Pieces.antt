@@ -1,0 +1,139 @@
+-- What bears a mark in a log is of a row that is rebuilt: no Joined does, and it counts for no other row.
+use Rattle.std.proofs.Common.{◌≡◌, ℕ, zero, suc, ◌+◌, ◌-◌, Bool, true, false, ◌&&◌, cond, List, [], ◌∷◌, Option, Some, None, refl, sym, ap, subst, ◌∙◌, ⊎_elim, arith}
+use Rattle.std.specs.Prelude.{drop, is_some, nat_le, nat_lt, slice_get, take}
+use Rattle.std.specs.List.{All, Contains}
+use Rattle.std.proofs.lemmas.Bool.{and_parts, false_from_ne_true, false≢true, leb-true, ltb-true}
+use Rattle.std.proofs.lemmas.List.Elements.{All-contains}
+use Rattle.std.proofs.lemmas.List.Folds.{Any-from_list_any}
+use Rattle.rk_types.specs.declared.range.Range.{Range}
+use Rattle.rk_entry.specs.declared.entry.Entry.{Entry}
+use Rattle.rk_entry.specs.declared.entry.Entry.TheVariants as entries
+use Rattle.rk_entry.specs.declared.entry.Joined.{Joined}
+use Rattle.rk_overlay.proofs.Members.{behind_stands, first_stands, stands_cases}
+use Rattle.rk_tablet_map.proofs.Lawful.{number_of}
+use Rattle.rk_tablet_map.specs.Rows.{row_of}
+use Rattle.rk_tablet_map.specs.declared.row.Row.{Row}
+use Rattle.rk_world.specs.declared.work.Mark.{Mark}
+use Rattle.rk_world.specs.Marks.{is_marked, unmarked}
+use Rattle.rk_world.specs.Material.{counting, counts}
+use Rattle.rk_sound.specs.View.{View}
+use Rattle.rk_sound.specs.Rebuilds.{HasOwnRange, IsOfRange, marked_entries}
+use Rattle.rk_sound.specs.Whole.{SoundView}
+use Rattle.rk_laws_parts.proofs.MarkedApart.{in_piece}
+use Rattle.rk_laws_parts.proofs.Serving.{found_stands}
+
+-- an entry is of the range of a row
+pub record IsOfRow (rows : List Row) (entry : Entry) : Type 0 where
+  pub row : Row
+  pub stands : Contains rows row
+  pub of : IsOfRange row.range entry
+
+module _ (v : View) (sound : SoundView v) (q : ℕ) where
+  of_known : (mark : Mark) (entry : Entry) → Contains (v.written q).marks mark → Contains (take (mark.past - mark.first) (drop mark.first (v.written q).entries)) entry → (found : Option Row) → row_of v.rows mark.tablet ≡ found → is_some found ≡ true → IsOfRow v.rows entry
+  of_known mark entry marked inside None is known = absurd (false≢true known)
+  of_known mark entry marked inside (Some other) is known =
+      let stands : Contains v.rows other = found_stands v.rows mark.tablet other is in
+      let own : HasOwnRange other.range (v.written q).entries mark =
+      All-contains (λ m. m.tablet ≡ other.tablet → HasOwnRange other.range (v.written q).entries m)
+      (v.written q).marks mark
+      (All-contains (λ r. All (λ m. m.tablet ≡ r.tablet → HasOwnRange r.range (v.written q).entries m) (v.written q).marks)
+      v.rows other (sound.rebuilds.pieces q) stands) marked (sym (number_of v.rows mark.tablet other is)) in
+      record {
+        row = other;
+        stands = stands;
+        of = All-contains (IsOfRange other.range) (take (mark.past - mark.first) (drop mark.first (v.written q).entries)) entry own inside;
+      }
+
+  -- a marked entry is of the range of a row
+  marked_of : (place : ℕ) (entry : Entry) → slice_get (v.written q).entries place ≡ Some entry → is_marked (v.written q).marks place ≡ true → IsOfRow v.rows entry
+  marked_of place entry at marked =
+      let found = Any-from_list_any (λ (mark : Mark). nat_le mark.first place && nat_lt place mark.past) (v.written q).marks marked in
+      let mark : Mark = found.1 in
+      let stands : Contains (v.written q).marks mark = (found.0, found.2, found.3) in
+      let parts = and_parts (nat_le mark.first place) (nat_lt place mark.past) found.4 in
+      of_known mark entry stands
+      (in_piece (v.written q).entries mark.first mark.past place entry (leb-true mark.first place parts.0)
+      (ltb-true place mark.past parts.1) at)
+      (row_of v.rows mark.tablet) refl
+      (All-contains (λ m. is_some (row_of v.rows m.tablet) ≡ true) (v.written q).marks mark (sound.cover.marks q) stands)
+
+  -- so a Joined bears none
+  pub joined_unmarked : (place : ℕ) (joined : Joined) → slice_get (v.written q).entries place ≡ Some (entries.Joined joined) → is_marked (v.written q).marks place ≡ false
+  joined_unmarked place joined at =
+      false_from_ne_true (is_marked (v.written q).marks place)
+      (λ marked. let is = marked_of place (entries.Joined joined) at marked in is.of)
+
+-- ---- where nothing that is marked counts, the same counts without it
+
+-- the first of some entries, where none of them counts
+first_counts : (range : Range) (b : Bool) (entry : Entry) (list : List Entry) → counts range entry ≡ b → counting range (entry ∷ list) ≡ [] → (b ≡ false) × (counting range list ≡ [])
+first_counts range true entry list is none =
+    let kept : entry ∷ counting range list ≡ [] = ap (λ (b : Bool). cond b (entry ∷ counting range list) (counting range list)) (sym is) ∙ none in
+    absurd (cc kept)
+first_counts range false entry list is none =
+    (refl, ap (λ (b : Bool). cond b (entry ∷ counting range list) (counting range list)) (sym is) ∙ none)
+
+-- an entry that does not count goes
+without_first : (range : Range) (entry : Entry) (list : List Entry) → counts range entry ≡ false → counting range (entry ∷ list) ≡ counting range list
+without_first range entry list none = ap (λ (b : Bool). cond b (entry ∷ counting range list) (counting range list)) none
+
+-- of a first part nothing marked counts either
+none_taken : (range : Range) (marks : List Mark) (place n : ℕ) (list : List Entry) → counting range (marked_entries marks place list) ≡ [] → counting range (marked_entries marks place (take n list)) ≡ []
+none_taken range marks place zero list none = refl
+none_taken range marks place (suc n) [] none = refl
+none_taken range marks place (suc n) (entry ∷ list) none = go (is_marked marks place) (none_taken range marks (suc place) n list) none
+  where
+    go : (b : Bool) → (counting range (marked_entries marks (suc place) list) ≡ [] → counting range (marked_entries marks (suc place) (take n list)) ≡ []) → counting range (cond b (entry ∷ marked_entries marks (suc place) list) (marked_entries marks (suc place) list)) ≡ [] → counting range (cond b (entry ∷ marked_entries marks (suc place) (take n list)) (marked_entries marks (suc place) (take n list))) ≡ []
+    go true later none =
+        let parts = first_counts range (counts range entry) entry (marked_entries marks (suc place) list) refl none in
+        without_first range entry (marked_entries marks (suc place) (take n list)) parts.0 ∙ later parts.1
+    go false later none = later none
+
+-- what bears no mark counts as all does
+same_counts : (range : Range) (marks : List Mark) (place : ℕ) (list : List Entry) → counting range (marked_entries marks place list) ≡ [] → counting range (unmarked marks place list) ≡ counting range list
+same_counts range marks place [] none = refl
+same_counts range marks place (entry ∷ list) none = go (is_marked marks place) (same_counts range marks (suc place) list) none
+  where
+    go : (b : Bool) → (counting range (marked_entries marks (suc place) list) ≡ [] → counting range (unmarked marks (suc place) list) ≡ counting range list) → counting range (cond b (entry ∷ marked_entries marks (suc place) list) (marked_entries marks (suc place) list)) ≡ [] → counting range (cond b (unmarked marks (suc place) list) (entry ∷ unmarked marks (suc place) list)) ≡ counting range (entry ∷ list)
+    go true later none =
+        let parts = first_counts range (counts range entry) entry (marked_entries marks (suc place) list) refl none in
+        later parts.1 ∙ sym (without_first range entry list parts.0)
+    go false later none = ap (λ (l : List Entry). cond (counts range entry) (entry ∷ l) l) (later none)
+
+pub taken_counts : (range : Range) (marks : List Mark) (place n : ℕ) (list : List Entry) → counting range (marked_entries marks place list) ≡ [] → counting range (unmarked marks place (take n list)) ≡ counting range (take n list)
+taken_counts range marks place n list none = same_counts range marks place (take n list) (none_taken range marks place n list none)
+
+-- ---- what stands without a mark
+
+-- what is left without a mark stood there
+pub unmarked_stood : (marks : List Mark) (place : ℕ) (list : List Entry) (entry : Entry) → Contains (unmarked marks place list) entry → Contains list entry
+unmarked_stood marks place [] entry stands = stands
+unmarked_stood marks place (first ∷ list) entry stands =
+    go (is_marked marks place) (unmarked_stood marks (suc place) list entry) stands
+  where
+    go : (b : Bool) → (Contains (unmarked marks (suc place) list) entry → Contains list entry) → Contains (cond b (unmarked marks (suc place) list) (first ∷ unmarked marks (suc place) list)) entry → Contains (first ∷ list) entry
+    go true behind stands = behind_stands first list entry (behind stands)
+    go false behind stands =
+        ⊎_elim (λ (is : first ≡ entry). subst (Contains (first ∷ list)) is (first_stands first list))
+        (λ (later : Contains (unmarked marks (suc place) list) entry).
+        behind_stands first list entry (behind later))
+        (stands_cases first (unmarked marks (suc place) list) entry stands)
+
+-- and what bears none stands there
+pub unmarked_stands : (marks : List Mark) (place k : ℕ) (list : List Entry) (entry : Entry) → slice_get list k ≡ Some entry → is_marked marks (place + k) ≡ false → Contains (unmarked marks place list) entry
+unmarked_stands marks place k [] entry at free = absurd (cc at)
+unmarked_stands marks place zero (first ∷ list) entry at free =
+    let here : place + 0 ≡ place = omega arith in
+    let is : first ≡ entry = cc at in
+    subst
+    (λ (b : Bool). Contains (cond b (unmarked marks (suc place) list) (first ∷ unmarked marks (suc place) list)) entry)
+    (sym (ap (is_marked marks) (sym here) ∙ free))
+    (subst (Contains (first ∷ unmarked marks (suc place) list)) is (first_stands first (unmarked marks (suc place) list)))
+unmarked_stands marks place (suc k) (first ∷ list) entry at free =
+    let there : place + suc k ≡ suc place + k = omega arith in
+    let later = unmarked_stands marks (suc place) k list entry at (ap (is_marked marks) (sym there) ∙ free) in
+    go (is_marked marks place) later
+  where
+    go : (b : Bool) → Contains (unmarked marks (suc place) list) entry → Contains (cond b (unmarked marks (suc place) list) (first ∷ unmarked marks (suc place) list)) entry
+    go true later = later
+    go false later = behind_stands first (unmarked marks (suc place) list) entry later
