@@ -1,0 +1,9 @@
+pub mod Inserted
+pub mod NextEntry
+pub mod Stagers
+pub mod Noting
+pub mod Applying
+pub mod AppliedFrames
+pub mod AppliedTruth
+pub mod AppliedCounters
+pub mod AppliedRest

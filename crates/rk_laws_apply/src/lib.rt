@@ -1,0 +1,4 @@
+//! Laws of a lane when the next entry of a master's log is applied: it stays sound.
+//!
+//! It stands on `rk_laws_parts`, and has no code: its headline law is the contract of a function that does nothing.
+#![tactic(auto)]
