@@ -7,3 +7,4 @@ pub mod AppliedFrames
 pub mod AppliedTruth
 pub mod AppliedCounters
 pub mod AppliedRest
+pub mod AppliedCalls
