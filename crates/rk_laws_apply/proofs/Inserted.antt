@@ -218,13 +218,17 @@ one_item (entries.Carried carried) a b at_a at_b = absurd (none_stands a at_a)
 one_item (entries.Joined joined) a b at_a at_b = absurd (none_stands a at_a)
 
 -- without an item in the entry the items are the same
+pub same_items : (entry : Entry) (old new : List Entry) → IsInserted entry old new → items_in entry ≡ [] → items_of new ≡ items_of old
+same_items entry old new put none =
+    parts_now entry old new put items_in
+    ∙ ap (λ (l : List Held). items_of put.before ++ (l ++ items_of put.behind)) none
+    ∙ sym (parts_old entry old new put items_in)
+
 without_items : (entry : Entry) (old new rest : List Entry) → IsInserted entry old new → items_in entry ≡ [] → items_of (new ++ rest) ≡ items_of (old ++ entry ∷ rest)
 without_items entry old new rest put none =
-    let b : List Held = items_of put.before in
-    let h : List Held = items_of put.behind in
     let r : List Held = items_of rest in
     flat_map-append items_in new rest
-    ∙ ap (λ (l : List Held). l ++ r) (parts_now entry old new put items_in ∙ ap (λ (l : List Held). b ++ (l ++ h)) none ∙ sym (parts_old entry old new put items_in))
+    ∙ ap (λ (l : List Held). l ++ r) (same_items entry old new put none)
     ∙ sym (flat_map-append items_in old (entry ∷ rest) ∙ ap (λ (l : List Held). items_of old ++ (l ++ r)) none)
 
 module _ (old new : List Entry) where

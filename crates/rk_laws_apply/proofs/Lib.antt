@@ -8,3 +8,5 @@ pub mod AppliedTruth
 pub mod AppliedCounters
 pub mod AppliedRest
 pub mod AppliedCalls
+pub mod ItemPut
+pub mod AppliedTables
