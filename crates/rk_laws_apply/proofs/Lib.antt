@@ -10,3 +10,6 @@ pub mod AppliedRest
 pub mod AppliedCalls
 pub mod ItemPut
 pub mod AppliedTables
+pub mod TargetApplied
+pub mod AppliedReceives
+pub mod AppliedMessages
