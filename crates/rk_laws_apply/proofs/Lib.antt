@@ -13,3 +13,4 @@ pub mod AppliedTables
 pub mod TargetApplied
 pub mod AppliedReceives
 pub mod AppliedMessages
+pub mod MergedEnds
