@@ -100,7 +100,7 @@ module _ (v : View) (row : Row) (lineage : List Member) (own : ℕ) (sound : Sou
           v.rows row (sound.rebuilds.marks first.master) has))
 
   -- so backup 1 stores what is needed
-  needed_stored : (members : List Member) → MarkedFit v.logs v.written v.stored v.live row.range members → (q : ℕ) (end : EntryEnd) → NeededOf row v.written members q end → IsStoredEnd (stored_of v.stored q READ_BACKUP) end
+  pub needed_stored : (members : List Member) → MarkedFit v.logs v.written v.stored v.live row.range members → (q : ℕ) (end : EntryEnd) → NeededOf row v.written members q end → IsStoredEnd (stored_of v.stored q READ_BACKUP) end
   needed_stored [] fit q end needed = absurd needed
   needed_stored (only ∷ []) fit q end needed = absurd needed
   needed_stored (first ∷ last ∷ []) fit q end needed =
