@@ -1,4 +1,4 @@
-ghost use Rattle.std.specs.Prelude.{◌≡◌, ◌+◌, ◌-◌, ◌<◌, ◌≤◌, ◌^◌, ◌++◌, ◌∷◌, [], length, map, take, replicate, vec_len, vec_capacity, OnOk};
+ghost use Rattle.std.specs.Prelude.{◌≡◌, ◌+◌, ◌-◌, ◌<◌, ◌≤◌, ◌^◌, ◌++◌, ◌∷◌, [], length, map, take, replicate, vec_len, vec_capacity, IfOk, OnOk};
 ghost use Rattle.std.specs.List.{All};
 ghost use Rattle.rk_types.specs.declared.held.Held.{Held as Item};
 ghost use Rattle.rk_entry.specs.Lawful.{IsLawfulHeld};
@@ -45,6 +45,17 @@ impl SideLog {
             segments: Vec::new(alloc),
             used: 0,
         }
+    }
+
+    /// A side log of its own with the same items and as many segments, of each of which the memory is taken whole.
+    pub(crate) fn duplicate(&self) -> Result<SideLog, NoMemory>
+        ensures { IfOk result (λ log. log ≡ self.now) }
+    {
+        let alloc = *self.segments.allocator();
+        Ok(SideLog {
+            segments: duplicates(alloc, self.segments.as_slice())?,
+            used: self.used,
+        })
     }
 
     /// How many segments are made for it.
@@ -99,6 +110,26 @@ impl SideLog {
         sealed.append(&mut self.segments).unwrap();
         self.used = 0;
     }
+}
+
+// Segments of their own with the same bytes and numbers.
+fn duplicates(alloc: Global, segments: &[Segment]) -> Result<Vec<Segment>, NoMemory>
+    ensures { IfOk result (λ duplicates. duplicates.items ≡ segments.now) }
+{
+    let mut duplicates = Vec::new(alloc);
+    for segment in segments {
+        duplicates.push(duplicate(alloc, segment)?)?;
+    }
+    Ok(duplicates)
+}
+
+// A segment of its own with the same bytes and number.
+fn duplicate(alloc: Global, segment: &Segment) -> Result<Segment, NoMemory>
+    ensures { IfOk result (λ duplicate. duplicate ≡ segment.now) }
+{
+    let mut duplicate = Segment::new(alloc, segment.number())?;
+    duplicate.append(segment.bytes()).unwrap();
+    Ok(duplicate)
 }
 
 // How many more bytes the last of the first so many segments takes, none where there is none.

@@ -62,6 +62,28 @@ impl SideLogs {
         }
     }
 
+    /// Side logs of their own with the same items. The memory of whole segments is taken for all that are made. A step for
+    /// each segment, and the time to copy its bytes.
+    pub fn duplicate(&self) -> Result<SideLogs, NoMemory>
+        ensures { IfOk result (λ logs. logs ≡ self.now) }
+    {
+        let alloc = *self.sealed.allocator();
+        let workers = [
+            self.workers[0].duplicate()?,
+            self.workers[1].duplicate()?,
+            self.workers[2].duplicate()?,
+            self.workers[3].duplicate()?,
+        ];
+        let mut sealed = Vec::new(alloc);
+        sealed.reserve(count_made(&workers))?;
+        Ok(SideLogs {
+            workers,
+            bytes: self.bytes,
+            sealed,
+            spelling: Vec::new(alloc),
+        })
+    }
+
     /// How many bytes the entries of all items take, in constant time.
     pub fn bytes(&self) -> u64
         ensures { result ≡ unsealed_in self.now }
