@@ -30,10 +30,6 @@ use Rattle.rk_world.specs.Worked.{from_master}
 use Rattle.rk_master.specs.Parts.{tablet_of}
 use Rattle.rk_master.specs.Places.{Row}
 
--- the records of a master can be counted by 32 bits
-abbrev pub HasFewRecords : Master → Type 0
-HasFewRecords master = length master.records < 2 ^ 32
-
 -- the items among entries that were pulled can be spelled
 abbrev pub HasLawfulItems : List Entry → Type 0
 HasLawfulItems entries = All IsLawfulHeld (items_of entries)

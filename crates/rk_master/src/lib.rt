@@ -1,14 +1,12 @@
-//! A master in one lane: what it makes of clients' requests, of what backups tell, and of the coordinator's orders that
-//! hand a tablet over or rebuild it.
+//! A master in one lane: what it makes of clients' requests, of what backups tell, of what other masters ask and tell, and
+//! of the coordinator's orders that hand a tablet over or rebuild it.
 //!
-//! It stands on `rk_world`, whose definitions say what a master does. What it promises: [`MasterLane::handle`] makes of a
-//! request just what the definitions do, [`MasterLane::take_stored`] of what a backup tells, and [`MasterLane::take_close`]
-//! and its like of an order, [`MasterLane::take_pull`] and its like of what another master asks or tells, and
-//! [`MasterLane::take_copy`] of what a rebuild reads: the master after it, what it sends, which calls it served, and which
-//! piece of its log a rebuild made. On its [`MasterLane::turn`] it sends each backup what that lacks, and does for each
-//! tablet what its role asks for. Neither requests nor commits nor turns walk over the log, the staged calls or the
-//! clients, and no pull over the records: tablets are looked at, and all else is found by searches. After want of memory
-//! within a change a master is spent, and answers no more.
+//! It stands on `rk_world`, whose definitions say what a master does. What it promises: [`MasterLane::step`] makes of a
+//! message just what the definitions do: the master after it, what it sends, which calls it served, and which piece of its
+//! log a rebuild made. On its [`MasterLane::turn`] it sends each backup what that lacks, and does for each tablet what its
+//! role asks for. Neither requests nor commits nor turns walk over the log, the staged calls or the clients, and no pull
+//! over the records: tablets are looked at, and all else is found by searches. After want of memory within a change a
+//! master is spent, and answers no more.
 #![tactic(auto)]
 
 pub use choice::Seen;
@@ -26,6 +24,7 @@ mod duties;
 mod effects;
 mod gathering;
 mod master_lane;
+mod messages;
 mod orders;
 mod own_entries;
 mod pulled;
@@ -33,11 +32,13 @@ mod pulling;
 mod pulls;
 mod rebuilds;
 mod requests;
+mod splits;
 mod staged_calls;
 mod staged_items;
 mod staging;
 mod state;
 mod stored;
+mod sums;
 mod tablet_lane;
 mod tablets;
 #[cfg(test)]

@@ -1,34 +1,26 @@
-ghost use Rattle.std.specs.Prelude.{◌≡◌, ◌≤◌, length, Some, None, replicate, IfSome, IsSomeAnd, IfOk, OnOk, OnErr};
+ghost use Rattle.std.specs.Prelude.{◌≡◌, ◌≤◌, false, ◌-◌, ◌^◌, length, min, Some, None, replicate, IfSome, IsSomeAnd, IfOk, OnOk, OnErr};
+ghost use Rattle.std.specs.Option.{option_map_or};
+ghost use Rattle.rk_log.specs.Cut.{EachFits};
 ghost use Rattle.rk_log.specs.Known.{nothing};
-ghost use Rattle.rk_world.specs.Master.{new_master};
-ghost use Rattle.rk_world.specs.Premises.{IsLawfulCall};
-ghost use Rattle.rk_log.specs.Log.{IsBackup, overreach};
-ghost use Rattle.rk_world.specs.Commits.{stored_taken};
-ghost use Rattle.rk_world.specs.Handovers.{close_taken, grant_taken, own_taken, prepare_taken, release_taken};
+ghost use Rattle.rk_world.specs.Master.{is_staged, log_bytes as log_bytes_lem, new_master, staged, tablet_at};
+ghost use Rattle.rk_world.specs.MasterStep.{master_step};
 ghost use Rattle.rk_world.specs.MasterTurn.{master_turn};
-ghost use Rattle.rk_world.specs.Pulls.{got_taken, pull_taken, pulled_taken, want_taken};
-ghost use Rattle.rk_world.specs.Rebuilds.{copy_taken, rebuild_taken};
-ghost use Rattle.rk_world.specs.Requests.{call_of, request_taken};
+ghost use Rattle.rk_world.specs.Splits.{with_split};
 ghost use Rattle.rk_world.specs.Step.{with_added};
-ghost use Rattle.rk_master.specs.Parts.{IsGrantable};
-ghost use Rattle.rk_master.specs.Pulls.{HasFewRecords, HasLawfulItems};
-ghost use Rattle.rk_master.specs.Rebuilding.{CanBeSpelled};
+ghost use Rattle.rk_world.specs.World.{counters_of, greatest};
+ghost use Rattle.rk_master.specs.Taking.{CanTake};
 
-use crate::orders::{take_close, take_grant, take_own, take_prepare, take_release};
-use crate::pulled::{take_got, take_pulled};
-use crate::pulls::{take_pull, take_want};
-use crate::rebuilds::{take_copy, take_rebuild};
-use crate::requests::take_request;
+use crate::messages::take_message;
+use crate::splits::split;
 use crate::state::MasterState;
-use crate::stored::take_stored;
-use crate::tablets::serve;
+use crate::sums::{greatest_counter, log_bytes};
+use crate::tablets::{handover_of, serve};
 use crate::turn::take_turn;
 use crate::work::Worked;
 use rk_log::MOST_BACKUPS;
-use rk_message::{
-    CopySegment, Got, Grant, Prepare, Pull, Pulled, Rebuild, Request, Stored, Tenure, Want,
-};
-use rk_types::{NoMemory, Node, Range};
+use rk_message::Message;
+use rk_transfer::Role;
+use rk_types::{NoMemory, Range};
 use std::alloc::Global;
 use std::marker::Model;
 
@@ -75,229 +67,41 @@ impl MasterLane {
         self.state.backups
     }
 
-    /// Takes a client's request: answers it at once, or stages it. After `NoMemory` the master is spent; it also comes
-    /// where no version of the tablet is left, or the log is full. A look at each tablet, a few searches, and the time to
-    /// copy the key and the value and to spell the entry.
-    pub fn handle(&mut self, client: u32, request: &Request) -> Result<Worked, NoMemory>
-        requires { IsLawfulCall (call_of client request.now) }
-        ensures ok { IfOk result (λ work. IsSomeAnd self.old (λ master. IsWork (request_taken master client request.now) self.new work)) }
+    /// Takes a message, by its sender and its kind, each once more where it comes again; one that is for nobody here changes
+    /// nothing. It stays with its owner: what the master keeps of it is copied.
+    ///
+    /// - A client's Request is answered at once, or staged. A look at each tablet, a few searches, and the time to copy the
+    ///   key and the value and to spell the entry.
+    /// - A backup's Stored tells that it holds so much of a segment; more than the segment has is ignored. What every
+    ///   backup holds by then is applied, and what waited for it goes on. A step for each entry that is committed and each
+    ///   segment that the backup is now known to hold whole, a few searches for each entry and a look at each tablet where
+    ///   a call ends; a step for each staged entry only where a tablet closes.
+    /// - The coordinator's orders (Prepare, Close, Grant, Own, Release, Rebuild) apply by a term that is great enough, and
+    ///   are told again where they have to be. A few binary searches and looks at each tablet; where one applies a step for
+    ///   each staged entry, for each client that is told or granted, or for each record of a range that is dropped.
+    /// - Another master's Pull or Want is answered by a tablet that is frozen at its term. A few searches, and a step for
+    ///   each item from the token's bucket to the end of the batch, or that has a wanted hash.
+    /// - Its Pulled or Got is replayed by a tablet that awaits just that: items that are newer than the records go into
+    ///   them and to those of a worker. Behind the last batch all that was pulled becomes side segments. A search of the
+    ///   records for each item and the time to copy and spell it, and a step for each segment that is sealed.
+    /// - A backup's Copy is gathered by a rebuild that awaits just that; with the last one what was gathered is merged: the
+    ///   copies are put at the end of the log, and then the entry that closes the rebuild. A look at each member of the
+    ///   lineage, and a step for each entry of the segment, or of the log that it ends; where a rebuild merges a step for
+    ///   each own entry from the place on from which the own log counts and each byte of the side segments that these name,
+    ///   what [`rk_rebuild::Gather::merge`] takes, and the time to spell what is appended.
+    ///
+    /// After `NoMemory` the master is spent; it also comes where no version of a tablet is left, the log is full, an entry
+    /// has no room in a segment, there are 2^32 records to be pulled, or numbers of batches or side segments run out.
+    pub fn step(&mut self, message: &Message) -> Result<Worked, NoMemory>
+        requires { IfSome self.old (λ master. CanTake master message.now) }
+        ensures ok { IfOk result (λ work. IsSomeAnd self.old (λ master. IsWork (master_step master message.now) self.new work)) }
         ensures err { OnErr result (self.new ≡ None) }
     {
         if self.spent {
             return Err(NoMemory);
         }
         self.spent = true;
-        let work = take_request(&mut self.state, client, request)?;
-        self.spent = false;
-        Ok(work)
-    }
-
-    /// Takes a backup's word that it holds so much of a segment; more than the segment has is ignored. What every backup
-    /// holds by then is applied, and what waited for it goes on. After `NoMemory` the master is spent; it also comes where
-    /// the log is full. A step for each entry that is committed and each segment that the backup is now known to hold
-    /// whole, a few searches for each entry and a look at each tablet where a call ends; a step for each staged entry
-    /// only where a tablet closes.
-    pub fn take_stored(&mut self, backup: u8, stored: Stored) -> Result<Worked, NoMemory>
-        requires { IfSome self.old (λ master. IsBackup master.log backup) }
-        ensures ok { IfOk result (λ work. IsSomeAnd self.old (λ master.
-            IsWork (stored_taken master backup stored (overreach master.log stored.segment stored.length)) self.new work)) }
-        ensures err { OnErr result (self.new ≡ None) }
-    {
-        if self.spent {
-            return Err(NoMemory);
-        }
-        self.spent = true;
-        let work = take_stored(&mut self.state, backup, stored)?;
-        self.spent = false;
-        Ok(work)
-    }
-
-    /// Takes the coordinator's order to close a tablet: it answers no more calls, and once nothing of it is staged it is
-    /// frozen, and what its next owner has to know is told, also again. After `NoMemory` the master is spent. A binary
-    /// search, a step for each staged entry, and one for each client where that is told.
-    pub fn take_close(&mut self, tenure: Tenure) -> Result<Worked, NoMemory>
-        ensures ok { IfOk result (λ work. IsSomeAnd self.old (λ master. IsWork (close_taken master tenure) self.new work)) }
-        ensures err { OnErr result (self.new ≡ None) }
-    {
-        if self.spent {
-            return Err(NoMemory);
-        }
-        self.spent = true;
-        let work = take_close(&mut self.state, tenure)?;
-        self.spent = false;
-        Ok(work)
-    }
-
-    /// Takes the coordinator's order to make ready for a tablet, which applies by a term above that of the tablet and of
-    /// each tablet here whose range meets this one: the items of the range are dropped, each other tablet there is given
-    /// up, and the coordinator is told at which place of the log the tablet's entries begin, also again. After `NoMemory`
-    /// the master is spent. Two binary searches, two looks at each tablet, and where the order applies one at each record.
-    pub fn take_prepare(&mut self, prepare: Prepare) -> Result<Worked, NoMemory>
-        ensures ok { IfOk result (λ work. IsSomeAnd self.old (λ master. IsWork (prepare_taken master prepare) self.new work)) }
-        ensures err { OnErr result (self.new ≡ None) }
-    {
-        if self.spent {
-            return Err(NoMemory);
-        }
-        self.spent = true;
-        let work = take_prepare(&mut self.state, prepare)?;
-        self.spent = false;
-        Ok(work)
-    }
-
-    /// Takes the coordinator's order to serve a tablet for which this master made ready at that term: by what the source
-    /// told, which begins the tablet's entries in the log, and pulling from there. Where it applies, the range and the
-    /// numbers of that entry must be lawful. After `NoMemory` the master is spent; it also comes where the log is full, or
-    /// the entry does not fit a segment. A binary search, and where it applies a search for each end and the time to spell
-    /// the entry.
-    pub fn take_grant(&mut self, grant: Grant) -> Result<Worked, NoMemory>
-        requires { IfSome self.old (λ master. IsGrantable master grant) }
-        ensures ok { IfOk result (λ work. IsSomeAnd self.old (λ master. IsWork (grant_taken master grant) self.new work)) }
-        ensures err { OnErr result (self.new ≡ None) }
-    {
-        if self.spent {
-            return Err(NoMemory);
-        }
-        self.spent = true;
-        let work = take_grant(&mut self.state, grant)?;
-        self.spent = false;
-        Ok(work)
-    }
-
-    /// Takes the coordinator's order to own a tablet, which applies once the entry that closes the target's role is
-    /// applied: from then on it is served as one that was never moved. `NoMemory` only where the master is spent. A
-    /// binary search.
-    pub fn take_own(&mut self, tenure: Tenure) -> Result<Worked, NoMemory>
-        ensures ok { IfOk result (λ work. IsSomeAnd self.old (λ master. IsWork (own_taken master tenure) self.new work)) }
-        ensures err { OnErr result (self.new ≡ None) }
-    {
-        if self.spent {
-            return Err(NoMemory);
-        }
-        Ok(take_own(&mut self.state, tenure))
-    }
-
-    /// Takes the coordinator's order to release a frozen tablet: it is absent, and its items are dropped. `NoMemory` only
-    /// where the master is spent. A binary search, and where the order applies a look at each record.
-    pub fn take_release(&mut self, tenure: Tenure) -> Result<Worked, NoMemory>
-        ensures ok { IfOk result (λ work. IsSomeAnd self.old (λ master. IsWork (release_taken master tenure) self.new work)) }
-        ensures err { OnErr result (self.new ≡ None) }
-    {
-        if self.spent {
-            return Err(NoMemory);
-        }
-        Ok(take_release(&mut self.state, tenure))
-    }
-
-    /// Takes a Pull of a node: a tablet that is frozen at its term answers with the batch of its live items from the token
-    /// on. There are fewer than 2^32 records. After `NoMemory` the master is spent. Two searches, and a step for each item
-    /// from the token's bucket to the end of the batch.
-    pub fn take_pull(&mut self, from: Node, pull: Pull) -> Result<Worked, NoMemory>
-        requires { IfSome self.old HasFewRecords }
-        ensures ok { IfOk result (λ work. IsSomeAnd self.old (λ master. IsWork (pull_taken master from pull) self.new work)) }
-        ensures err { OnErr result (self.new ≡ None) }
-    {
-        if self.spent {
-            return Err(NoMemory);
-        }
-        self.spent = true;
-        let work = take_pull(&self.state, from, pull)?;
-        self.spent = false;
-        Ok(work)
-    }
-
-    /// Takes a Want of a node: a tablet that is frozen at its term answers with its live items that have the wanted
-    /// hashes. After `NoMemory` the master is spent. A binary search, a search for each hash, and a step for each item that
-    /// has it.
-    pub fn take_want(&mut self, from: Node, want: Want) -> Result<Worked, NoMemory>
-        ensures ok { IfOk result (λ work. IsSomeAnd self.old (λ master. IsWork (want_taken master from want) self.new work)) }
-        ensures err { OnErr result (self.new ≡ None) }
-    {
-        if self.spent {
-            return Err(NoMemory);
-        }
-        self.spent = true;
-        let work = take_want(&self.state, from, want)?;
-        self.spent = false;
-        Ok(work)
-    }
-
-    /// Takes a batch that was pulled: a tablet that pulls at its term and awaits it replays its items, of which those that
-    /// are newer than the records go into them and to the items of the worker whose turn it is, and the token moves on.
-    /// Behind the last batch all that was pulled becomes side segments, and the tablet has all; where nothing was pulled,
-    /// the entry that closes its role is appended at once. After `NoMemory` the master is spent; it also comes where the
-    /// numbers of side segments or of batches run out, where they are more than an entry names, or where the log is full.
-    /// A binary search, a search of the records for each item and the time to spell it, and behind the last batch a step
-    /// for each segment that it sealed.
-    pub fn take_pulled(&mut self, pulled: Pulled) -> Result<Worked, NoMemory>
-        requires { HasLawfulItems pulled.entries }
-        ensures ok { IfOk result (λ work. IsSomeAnd self.old (λ master. IsWork (pulled_taken master pulled) self.new work)) }
-        ensures err { OnErr result (self.new ≡ None) }
-    {
-        if self.spent {
-            return Err(NoMemory);
-        }
-        self.spent = true;
-        let work = take_pulled(&mut self.state, pulled)?;
-        self.spent = false;
-        Ok(work)
-    }
-
-    /// Takes the items that were asked for first: a tablet that pulls at its term and asked for these hashes replays the
-    /// items as those of the first worker, and the hashes have come. After `NoMemory` the master is spent. A binary search,
-    /// and a search of the records for each item and the time to spell it.
-    pub fn take_got(&mut self, got: Got) -> Result<Worked, NoMemory>
-        requires { HasLawfulItems got.entries }
-        ensures ok { IfOk result (λ work. IsSomeAnd self.old (λ master. IsWork (got_taken master got) self.new work)) }
-        ensures err { OnErr result (self.new ≡ None) }
-    {
-        if self.spent {
-            return Err(NoMemory);
-        }
-        self.spent = true;
-        let work = take_got(&mut self.state, got)?;
-        self.spent = false;
-        Ok(work)
-    }
-
-    /// Takes the coordinator's order to rebuild a tablet from the logs of its lineage, which applies by a term above that of
-    /// the tablet and of each tablet here whose range meets this one: each other tablet there is given up, a master outside
-    /// the lineage drops the items of the range, and what the logs have is gathered. A master that has nothing to read
-    /// merges at once. What a merge appends must be lawful. After `NoMemory` the master is spent; it also comes where the
-    /// log is full, or an entry does not fit a segment. A few binary searches and two looks at each tablet; where the order
-    /// applies outside the lineage one at each record; and where it merges a step for each own entry from the place on from
-    /// which the own log counts and each byte of the side segments that these name, what [`rk_rebuild::Gather::merge`]
-    /// takes, and the time to spell what is appended.
-    pub fn take_rebuild(&mut self, rebuild: Rebuild) -> Result<Worked, NoMemory>
-        requires { IfSome self.old (λ master. CanBeSpelled (rebuild_taken master rebuild).master) }
-        ensures ok { IfOk result (λ work. IsSomeAnd self.old (λ master. IsWork (rebuild_taken master rebuild) self.new work)) }
-        ensures err { OnErr result (self.new ≡ None) }
-    {
-        if self.spent {
-            return Err(NoMemory);
-        }
-        self.spent = true;
-        let work = take_rebuild(&mut self.state, rebuild)?;
-        self.spent = false;
-        Ok(work)
-    }
-
-    /// Takes the copy of a segment for a rebuild, where that awaits just this one; another one changes nothing. With the
-    /// last one what was gathered is merged: the copies are put at the end of the log, and then the entry that closes the
-    /// rebuild. What a merge appends must be lawful. After `NoMemory` the master is spent; it also comes where the log is
-    /// full, or an entry does not fit a segment. Two binary searches, a look at each member of the lineage, and a step for
-    /// each entry of the segment, or of the log that it ends; and where it merges what that takes in
-    /// [`MasterLane::take_rebuild`].
-    pub fn take_copy(&mut self, copy: CopySegment) -> Result<Worked, NoMemory>
-        requires { IfSome self.old (λ master. CanBeSpelled (copy_taken master copy).master) }
-        ensures ok { IfOk result (λ work. IsSomeAnd self.old (λ master. IsWork (copy_taken master copy) self.new work)) }
-        ensures err { OnErr result (self.new ≡ None) }
-    {
-        if self.spent {
-            return Err(NoMemory);
-        }
-        self.spent = true;
-        let work = take_copy(&mut self.state, copy)?;
+        let work = take_message(&mut self.state, message)?;
         self.spent = false;
         Ok(work)
     }
@@ -333,5 +137,91 @@ impl MasterLane {
         }
         serve(&mut self.state.tablets, tablet, range)?;
         Ok(())
+    }
+
+    /// Splits a tablet at a hash, where both parts of its range have one; else nothing changes. Both parts are served from
+    /// now on at this term, the part from the hash on under the number `new`, with the tablet's counter and completions.
+    /// After `NoMemory` the master is spent. Three binary searches, what an insertion takes, and a copy of the completions
+    /// and of what was pulled.
+    pub fn split(&mut self, tablet: u32, at: u64, new: u32, term: u64) -> Result<(), NoMemory>
+        ensures ok { OnOk result (IsSomeAnd self.old (λ master. self.new ≡ Some (with_split master tablet at new term))) }
+        ensures err { OnErr result (self.new ≡ None) }
+    {
+        if self.spent {
+            return Err(NoMemory);
+        }
+        self.spent = true;
+        split(&mut self.state, tablet, at, new, term)?;
+        self.spent = false;
+        Ok(())
+    }
+
+    /// How many bytes the segments of the master have, those of side logs that are not sealed too, where that is below
+    /// 2^64, and else 2^64 - 1; 0 where it is spent. Each entry of its log fits a segment. A look at each tablet.
+    pub fn log_bytes(&self) -> u64
+        ensures bytes { result ≡ option_map_or (λ master. min (log_bytes_lem master) (2 ^ 64 - 1)) self.now 0 }
+        ensures fits { IfSome self.now (λ master. EachFits master.log.entries) }
+    {
+        if self.spent {
+            return 0;
+        }
+        log_bytes(&self.state)
+    }
+
+    /// The greatest counter of a tablet, and 0 where there is none or the master is spent. A look at each tablet.
+    pub fn greatest_counter(&self) -> u64
+        ensures { result ≡ option_map_or (λ master. greatest (counters_of master)) self.now 0 }
+    {
+        if self.spent {
+            return 0;
+        }
+        greatest_counter(self.state.tablets.as_slice())
+    }
+
+    /// How many records there are, tombstones among them; 0 where the master is spent. In constant time.
+    pub fn records(&self) -> u64
+        ensures { result ≡ option_map_or (λ master. length master.records) self.now 0 }
+    {
+        if self.spent {
+            return 0;
+        }
+        self.state.records.len() as u64
+    }
+
+    /// What the master does for a tablet; nothing where it is spent. A binary search.
+    pub fn role(&self, tablet: u32) -> Role
+        ensures { result ≡ option_map_or (λ master. (tablet_at master tablet).handover.role) self.now Role.Absent }
+    {
+        if self.spent {
+            return Role::Absent;
+        }
+        handover_of(self.state.tablets.as_slice(), tablet).role
+    }
+
+    /// The next version of a tablet, which is 1 for one that the master does not know; 0 where it is spent. A binary search.
+    pub fn counter(&self, tablet: u32) -> u64
+        ensures { result ≡ option_map_or (λ master. (tablet_at master tablet).handover.counter) self.now 0 }
+    {
+        if self.spent {
+            return 0;
+        }
+        handover_of(self.state.tablets.as_slice(), tablet).counter
+    }
+
+    /// How many entries of the log are not applied; 0 where the master is spent. In constant time.
+    pub fn staged(&self) -> u64
+        ensures { result ≡ option_map_or (λ master. length (staged master)) self.now 0 }
+    {
+        if self.spent {
+            return 0;
+        }
+        self.state.log.length() - self.state.applied
+    }
+
+    /// Whether the call of a client with a seq waits for its entry to be applied; false where the master is spent. A search.
+    pub fn staged_call(&self, client: u32, seq: u64) -> bool
+        ensures { result ≡ option_map_or (λ master. is_staged master client seq) self.now false }
+    {
+        !self.spent && self.state.calls.is_staged(client, seq)
     }
 }

@@ -165,12 +165,12 @@ fn make_ready(state: &mut MasterState, prepare: Prepare, before: Handover) -> Re
 
 /// A master takes a Grant: the tablet is served by what its source told, and pulled from there, where this master made
 /// ready at its term. `NoMemory` also where the log is full, or the ends have no room in a segment. One binary search, and
-/// where it applies a search for each end and the time to spell the entry.
-pub(crate) fn take_grant(state: &mut MasterState, grant: Grant) -> Result<Worked, NoMemory>
+/// where it applies a search for each end, and the time to copy the ends and to spell the entry.
+pub(crate) fn take_grant(state: &mut MasterState, grant: &Grant) -> Result<Worked, NoMemory>
     requires state { IsState state.old }
-    requires lawful { IsGrantable (master_of state.old) grant }
+    requires lawful { IsGrantable (master_of state.old) grant.now }
     ensures state { OnOk result (IsState state.new) }
-    ensures ok { IfOk result (λ work. worked_of (master_of state.new) work ≡ handovers.grant_taken (master_of state.old) grant) }
+    ensures ok { IfOk result (λ work. worked_of (master_of state.new) work ≡ handovers.grant_taken (master_of state.old) grant.now) }
 {
     let Ok(at) = search(state.tablets.as_slice(), grant.tenure.tablet) else {
         return Ok(state.nothing());
@@ -180,12 +180,12 @@ pub(crate) fn take_grant(state: &mut MasterState, grant: Grant) -> Result<Worked
 }
 
 // The tablet at a place is received where that move applies.
-fn receive(state: &mut MasterState, at: usize, grant: Grant) -> Result<(), NoMemory>
+fn receive(state: &mut MasterState, at: usize, grant: &Grant) -> Result<(), NoMemory>
     requires state { IsState state.old }
-    requires place { IsAt grant.tenure.tablet state.old.tablets.items at }
-    requires lawful { IsGrantable (master_of state.old) grant }
+    requires place { IsAt grant.now.tenure.tablet state.old.tablets.items at }
+    requires lawful { IsGrantable (master_of state.old) grant.now }
     ensures state { OnOk result (IsState state.new) }
-    ensures ok { OnOk result (changed (master_of state.new) ≡ handovers.grant_taken (master_of state.old) grant) }
+    ensures ok { OnOk result (changed (master_of state.new) ≡ handovers.grant_taken (master_of state.old) grant.now) }
 {
     let alloc = *state.tablets.allocator();
     let tablet = &mut state.tablets[at].1;
@@ -195,11 +195,8 @@ fn receive(state: &mut MasterState, at: usize, grant: Grant) -> Result<(), NoMem
     let handover = tablet.handover;
     tablet.completions = completions_of(alloc, grant.ends.as_slice())?;
     tablet.pull_from(grant.source);
-    append(
-        &mut state.log,
-        &mut state.items,
-        carried_entry(handover, grant),
-    )?;
+    let entry = carried_entry(handover, grant)?;
+    append(&mut state.log, &mut state.items, entry)?;
     Ok(())
 }
 
@@ -216,15 +213,15 @@ pub(crate) fn completions_of(alloc: Global, ends: &[Ended]) -> Result<Completion
 }
 
 // The entry that begins what a target has of a tablet.
-fn carried_entry(handover: Handover, grant: Grant) -> Entry
-    ensures { result ≡ handovers.carried_entry handover grant }
+fn carried_entry(handover: Handover, grant: &Grant) -> Result<Entry, NoMemory>
+    ensures { IfOk result (λ entry. entry ≡ handovers.carried_entry handover grant.now) }
 {
-    Entry::Carried(Carried {
+    Ok(Entry::Carried(Carried {
         range: handover.range,
         term: handover.term,
         floor: grant.floor,
-        ends: grant.ends,
-    })
+        ends: grant.ends.duplicate()?,
+    }))
 }
 
 // The tablet at a place closes where that move applies, and freezes at once where nothing of it is staged. A step for each

@@ -28,6 +28,7 @@ use rk_message::{Got, Pulled};
 use rk_segment::Segment;
 use rk_table::END;
 use rk_types::{Held, Listed, NoMemory, Token};
+use std::alloc::Global;
 
 // A log whose segments have so many bytes takes no more side segments.
 const MOST_BYTES: u64 = 1 << 63;
@@ -36,19 +37,20 @@ const MOST_BYTES: u64 = 1 << 63;
 const MOST_SEALED: usize = 32_000;
 
 /// A master takes a Pulled: where the tablet pulls at its term and awaits that batch, the batch is replayed by the worker
-/// whose turn it is; behind the last one the side logs are sealed, and the tablet has all. A binary search, and a search of
-/// the records for each item; behind the last batch a step for each segment that is sealed.
-pub(crate) fn take_pulled(state: &mut MasterState, pulled: Pulled) -> Result<Worked, NoMemory>
+/// whose turn it is; behind the last one the side logs are sealed, and the tablet has all. A binary search; where it is
+/// awaited the time to copy its items and to spell them, and a search of the records for each; behind the last batch a
+/// step for each segment that is sealed.
+pub(crate) fn take_pulled(state: &mut MasterState, pulled: &Pulled) -> Result<Worked, NoMemory>
     requires state { IsState state.old }
-    requires lawful { HasLawfulItems pulled.entries }
+    requires lawful { HasLawfulItems pulled.now.entries }
     ensures state { OnOk result (IsState state.new) }
-    ensures ok { IfOk result (λ work. worked_of (master_of state.new) work ≡ pulls.pulled_taken (master_of state.old) pulled) }
+    ensures ok { IfOk result (λ work. worked_of (master_of state.new) work ≡ pulls.pulled_taken (master_of state.old) pulled.now) }
 {
     let Ok(at) = search(state.tablets.as_slice(), pulled.tenure.tablet) else {
         return Ok(state.nothing());
     };
     let tablet = &state.tablets[at].1;
-    if !tablet.awaits(&pulled) {
+    if !tablet.awaits(pulled) {
         return Ok(state.nothing());
     }
     pull_on(state, at, pulled)?;
@@ -56,16 +58,16 @@ pub(crate) fn take_pulled(state: &mut MasterState, pulled: Pulled) -> Result<Wor
 }
 
 // The tablet at a place takes the batch that it awaits.
-fn pull_on(state: &mut MasterState, at: usize, pulled: Pulled) -> Result<(), NoMemory>
+fn pull_on(state: &mut MasterState, at: usize, pulled: &Pulled) -> Result<(), NoMemory>
     requires state { IsState state.old }
-    requires place { IsAt pulled.tenure.tablet state.old.tablets.items at }
+    requires place { IsAt pulled.now.tenure.tablet state.old.tablets.items at }
     requires pulls { DoesPull state.old.tablets.items at }
-    requires lawful { HasLawfulItems pulled.entries }
+    requires lawful { HasLawfulItems pulled.now.entries }
     ensures state { OnOk result (IsState state.new) }
-    ensures ok { OnOk result (master_of state.new ≡ pulls.batch_taken (master_of state.old) pulled.tenure.tablet pulled) }
+    ensures ok { OnOk result (master_of state.new ≡ pulls.batch_taken (master_of state.old) pulled.now.tenure.tablet pulled.now) }
 {
     let next = pulled.next;
-    let items = items_of(pulled.entries)?;
+    let items = items_of(*state.tablets.allocator(), &pulled.entries)?;
     take_batch(state, at, items, next)?;
     if !is_token(&next, &END) {
         return Ok(());
@@ -75,15 +77,14 @@ fn pull_on(state: &mut MasterState, at: usize, pulled: Pulled) -> Result<(), NoM
     Ok(())
 }
 
-// The items among entries, in their order.
-fn items_of(entries: Listed<Entry>) -> Result<Vec<Held>, NoMemory>
-    ensures { IfOk result (λ items. items.items ≡ items_of_lem entries) }
+// Duplicates of the items among entries, in their order.
+fn items_of(alloc: Global, entries: &Listed<Entry>) -> Result<Vec<Held>, NoMemory>
+    ensures { IfOk result (λ items. items.items ≡ items_of_lem entries.now) }
 {
-    let entries = entries.into_vec();
-    let mut items = Vec::new(*entries.allocator());
-    for entry in entries {
+    let mut items = Vec::new(alloc);
+    for entry in entries.as_slice() {
         if let Entry::Held(held) = entry {
-            items.push(held)?;
+            items.push(held.duplicate()?)?;
         }
     }
     Ok(items)
@@ -189,12 +190,13 @@ fn end_at(state: &mut MasterState, at: usize) -> Result<(), NoMemory>
 }
 
 /// A master takes a Got: where the tablet pulls at its term and these are the hashes that it asked for, the items are
-/// replayed, and the hashes have come. A binary search, and a search of the records for each item.
-pub(crate) fn take_got(state: &mut MasterState, got: Got) -> Result<Worked, NoMemory>
+/// replayed, and the hashes have come. A binary search; where they are those the time to copy the items and to spell them,
+/// and a search of the records for each.
+pub(crate) fn take_got(state: &mut MasterState, got: &Got) -> Result<Worked, NoMemory>
     requires state { IsState state.old }
-    requires lawful { HasLawfulItems got.entries }
+    requires lawful { HasLawfulItems got.now.entries }
     ensures state { OnOk result (IsState state.new) }
-    ensures ok { IfOk result (λ work. worked_of (master_of state.new) work ≡ pulls.got_taken (master_of state.old) got) }
+    ensures ok { IfOk result (λ work. worked_of (master_of state.new) work ≡ pulls.got_taken (master_of state.old) got.now) }
 {
     let Ok(at) = search(state.tablets.as_slice(), got.tenure.tablet) else {
         return Ok(state.nothing());
@@ -208,18 +210,19 @@ pub(crate) fn take_got(state: &mut MasterState, got: Got) -> Result<Worked, NoMe
 }
 
 // The tablet at a place, which pulls, takes the items that it asked for first, where they are those.
-fn resolve(state: &mut MasterState, at: usize, got: Got) -> Result<(), NoMemory>
+fn resolve(state: &mut MasterState, at: usize, got: &Got) -> Result<(), NoMemory>
     requires state { IsState state.old }
-    requires place { IsAt got.tenure.tablet state.old.tablets.items at }
-    requires pulls { is_receiving_at (tablet_at (master_of state.old) got.tenure.tablet) got.tenure.term ≡ true }
-    requires lawful { HasLawfulItems got.entries }
+    requires place { IsAt got.now.tenure.tablet state.old.tablets.items at }
+    requires pulls { is_receiving_at (tablet_at (master_of state.old) got.now.tenure.tablet) got.now.tenure.term ≡ true }
+    requires lawful { HasLawfulItems got.now.entries }
     ensures state { OnOk result (IsState state.new) }
-    ensures ok { OnOk result (changed (master_of state.new) ≡ pulls.got_taken (master_of state.old) got) }
+    ensures ok { OnOk result (changed (master_of state.new) ≡ pulls.got_taken (master_of state.old) got.now) }
 {
+    let alloc = *state.tablets.allocator();
     let tablet = &mut state.tablets[at].1;
     if !tablet.resolve(got.hashes.as_slice()) {
         return Ok(());
     }
-    tablet.replay(&mut state.records, 0, items_of(got.entries)?)?;
+    tablet.replay(&mut state.records, 0, items_of(alloc, &got.entries)?)?;
     Ok(())
 }

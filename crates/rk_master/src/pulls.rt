@@ -8,7 +8,7 @@ ghost use Rattle.rk_world.specs.Material.{as_entries};
 ghost use Rattle.rk_world.specs.Pulls as pulls;
 ghost use Rattle.rk_master.specs.Parts.{worked_of};
 ghost use Rattle.rk_master.specs.Places.{IsAt};
-ghost use Rattle.rk_master.specs.Pulls.{HasFewRecords, batch_answer, want_answer};
+ghost use Rattle.rk_master.specs.Pulls.{batch_answer, want_answer};
 ghost use Rattle.rk_master.specs.State.{IsState, master_of};
 
 use crate::state::MasterState;
@@ -21,11 +21,13 @@ use rk_table::{RecordTable, SortedTable};
 use rk_types::{Held, Listed, NoMemory, Node, Range};
 use std::alloc::Global;
 
+// So many records are too many for the token of a batch.
+const MOST_RECORDS: usize = 1 << 32;
+
 /// A master takes a Pull of a node: where the tablet is frozen at its term, it answers with the batch from the token on.
-/// Two searches, and a step for each item from the token's bucket to the end of the batch.
+/// `NoMemory` also where there are [`MOST_RECORDS`]. Two searches, and a step for each item from the token's bucket to the end of the batch.
 pub(crate) fn take_pull(state: &MasterState, from: Node, pull: Pull) -> Result<Worked, NoMemory>
     requires state { IsState state.now }
-    requires few { HasFewRecords (master_of state.now) }
     ensures { IfOk result (λ work. worked_of (master_of state.now) work ≡ pulls.pull_taken (master_of state.now) from pull) }
 {
     let Ok(at) = search(state.tablets.as_slice(), pull.tenure.tablet) else {
@@ -38,7 +40,6 @@ pub(crate) fn take_pull(state: &MasterState, from: Node, pull: Pull) -> Result<W
 fn answer_pull(state: &MasterState, at: usize, from: Node, pull: Pull) -> Result<Worked, NoMemory>
     requires order { IsInOrder state.now.tablets.items }
     requires place { IsAt pull.tenure.tablet state.now.tablets.items at }
-    requires few { HasFewRecords (master_of state.now) }
     ensures { IfOk result (λ work. worked_of (master_of state.now) work ≡ pulls.pull_taken (master_of state.now) from pull) }
 {
     let tablet = &state.tablets[at].1;
@@ -51,10 +52,10 @@ fn answer_pull(state: &MasterState, at: usize, from: Node, pull: Pull) -> Result
 }
 
 /// A master takes a Want of a node: where the tablet is frozen at its term, it answers with the live items that have the
-/// wanted hashes. A search for the tablet and one for each hash, and a step for each item that has it.
-pub(crate) fn take_want(state: &MasterState, from: Node, want: Want) -> Result<Worked, NoMemory>
+/// wanted hashes. A search for the tablet and one for each hash, a step for each item that has it, and a copy of the hashes.
+pub(crate) fn take_want(state: &MasterState, from: Node, want: &Want) -> Result<Worked, NoMemory>
     requires state { IsState state.now }
-    ensures { IfOk result (λ work. worked_of (master_of state.now) work ≡ pulls.want_taken (master_of state.now) from want) }
+    ensures { IfOk result (λ work. worked_of (master_of state.now) work ≡ pulls.want_taken (master_of state.now) from want.now) }
 {
     let Ok(at) = search(state.tablets.as_slice(), want.tenure.tablet) else {
         return Ok(state.nothing());
@@ -63,10 +64,10 @@ pub(crate) fn take_want(state: &MasterState, from: Node, want: Want) -> Result<W
 }
 
 // The tablet at a place answers a Want where it is frozen at its term.
-fn answer_want(state: &MasterState, at: usize, from: Node, want: Want) -> Result<Worked, NoMemory>
+fn answer_want(state: &MasterState, at: usize, from: Node, want: &Want) -> Result<Worked, NoMemory>
     requires order { IsInOrder state.now.tablets.items }
-    requires place { IsAt want.tenure.tablet state.now.tablets.items at }
-    ensures { IfOk result (λ work. worked_of (master_of state.now) work ≡ pulls.want_taken (master_of state.now) from want) }
+    requires place { IsAt want.now.tenure.tablet state.now.tablets.items at }
+    ensures { IfOk result (λ work. worked_of (master_of state.now) work ≡ pulls.want_taken (master_of state.now) from want.now) }
 {
     let tablet = &state.tablets[at].1;
     let mut work = state.nothing();
@@ -78,11 +79,14 @@ fn answer_want(state: &MasterState, at: usize, from: Node, want: Want) -> Result
 }
 
 impl MasterState {
-    // The live items of a range from the token of a Pull on, for the node that pulls.
+    // The live items of a range from the token of a Pull on, for the node that pulls. `NoMemory` also where the records
+    // cannot be counted by 32 bits.
     fn batch_message(&self, to: Node, range: &Range, pull: Pull) -> Result<Message, NoMemory>
-        requires { HasFewRecords (master_of self.now) }
         ensures { IfOk result (λ message. message ≡ batch_answer (master_of self.now) to range.now pull) }
     {
+        if self.records.len() >= MOST_RECORDS {
+            return Err(NoMemory);
+        }
         let alloc = *self.tablets.allocator();
         let (items, next) = batch(alloc, &self.records, range, &pull.token)?;
         Ok(Message {
@@ -98,8 +102,8 @@ impl MasterState {
     }
 
     // The live items of a range that have the hashes of a Want, for the node that wants them.
-    fn wanted_message(&self, to: Node, range: &Range, want: Want) -> Result<Message, NoMemory>
-        ensures { IfOk result (λ message. message ≡ want_answer (master_of self.now) to range.now want) }
+    fn wanted_message(&self, to: Node, range: &Range, want: &Want) -> Result<Message, NoMemory>
+        ensures { IfOk result (λ message. message ≡ want_answer (master_of self.now) to range.now want.now) }
     {
         let alloc = *self.tablets.allocator();
         let items = with_hashes(alloc, &self.records, range, want.hashes.as_slice())?;
@@ -108,7 +112,7 @@ impl MasterState {
             to,
             body: Body::Got(Got {
                 tenure: want.tenure,
-                hashes: want.hashes,
+                hashes: want.hashes.duplicate()?,
                 entries: entries_of(items)?,
             }),
         })

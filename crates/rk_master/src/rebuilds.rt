@@ -26,12 +26,12 @@ use rk_world::{Mark, Merged};
 /// A master takes a Rebuild: it gives up each other tablet of the range, and gathers what the logs of the lineage have;
 /// where no log but its own is of the lineage, it merges at once. `NoMemory` also where the log is full, or an entry has
 /// no room in a segment. A few binary searches and two looks at each tablet; where it applies at a master outside the
-/// lineage one at each record; and what a merge takes, where it comes to that.
-pub(crate) fn take_rebuild(state: &mut MasterState, rebuild: Rebuild) -> Result<Worked, NoMemory>
+/// lineage one at each record, and a copy of the lineage; and what a merge takes, where it comes to that.
+pub(crate) fn take_rebuild(state: &mut MasterState, rebuild: &Rebuild) -> Result<Worked, NoMemory>
     requires state { IsState state.old }
-    requires lawful { CanBeSpelled (rebuilds.rebuild_taken (master_of state.old) rebuild).master }
+    requires lawful { CanBeSpelled (rebuilds.rebuild_taken (master_of state.old) rebuild.now).master }
     ensures state { OnOk result (IsState state.new) }
-    ensures ok { IfOk result (λ work. worked_of (master_of state.new) work ≡ rebuilds.rebuild_taken (master_of state.old) rebuild) }
+    ensures ok { IfOk result (λ work. worked_of (master_of state.new) work ≡ rebuilds.rebuild_taken (master_of state.old) rebuild.now) }
 {
     let tenure = rebuild.tenure;
     let before = handover_of(state.tablets.as_slice(), tenure.tablet);
@@ -45,19 +45,19 @@ pub(crate) fn take_rebuild(state: &mut MasterState, rebuild: Rebuild) -> Result<
 }
 
 // A rebuild begins at a tablet that has this handover, by a greater term.
-fn begin(state: &mut MasterState, rebuild: Rebuild, before: Handover) -> Result<(), NoMemory>
+fn begin(state: &mut MasterState, rebuild: &Rebuild, before: Handover) -> Result<(), NoMemory>
     requires state { IsState state.old }
-    requires before { before ≡ (tablet_in state.old.tablets.items rebuild.tenure.tablet).handover }
-    requires greater { before.term < rebuild.tenure.term }
+    requires before { before ≡ (tablet_in state.old.tablets.items rebuild.now.tenure.tablet).handover }
+    requires greater { before.term < rebuild.now.tenure.term }
     ensures state { OnOk result (IsState state.new) }
-    ensures ok { OnOk result (master_of state.new ≡ rebuilds.rebuild_begun (master_of state.old) rebuild) }
+    ensures ok { OnOk result (master_of state.new ≡ rebuilds.rebuild_begun (master_of state.old) rebuild.now) }
 {
     let tablet = rebuild.tenure.tablet;
-    let from = begin_from(state, &rebuild);
+    let from = begin_from(state, rebuild);
     let mut handover = before;
     let _ = handover.rebuild(rebuild.tenure.term, rebuild.range, from);
     let alloc = *state.tablets.allocator();
-    let lineage = rebuild.lineage.into_vec();
+    let lineage = rebuild.lineage.duplicate()?.into_vec();
     let gather = Gather::new(alloc, rebuild.range, lineage, state.number)?;
     give_up_others(state.tablets.as_mut_slice(), tablet, &rebuild.range);
     hand(&mut state.tablets, tablet, handover)?;
@@ -98,13 +98,13 @@ fn own_member(lineage: &[Member], master: u8) -> Option<Member>
 /// merges. `NoMemory` also where the log is full, or an entry has no room in a segment. A few binary searches, a look at
 /// each member of the lineage, a step for each entry of the segment, or of the log that it ends; and what a merge takes,
 /// where it comes to that.
-pub(crate) fn take_copy(state: &mut MasterState, copy: CopySegment) -> Result<Worked, NoMemory>
+pub(crate) fn take_copy(state: &mut MasterState, copy: &CopySegment) -> Result<Worked, NoMemory>
     requires state { IsState state.old }
-    requires lawful { CanBeSpelled (rebuilds.copy_taken (master_of state.old) copy).master }
+    requires lawful { CanBeSpelled (rebuilds.copy_taken (master_of state.old) copy.now).master }
     ensures state { OnOk result (IsState state.new) }
-    ensures ok { IfOk result (λ work. worked_of (master_of state.new) work ≡ rebuilds.copy_taken (master_of state.old) copy) }
+    ensures ok { IfOk result (λ work. worked_of (master_of state.new) work ≡ rebuilds.copy_taken (master_of state.old) copy.now) }
 {
-    let awaited = gather(state, &copy)?;
+    let awaited = gather(state, copy)?;
     if !awaited {
         return Ok(state.nothing());
     }

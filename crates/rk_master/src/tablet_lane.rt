@@ -12,10 +12,12 @@ ghost use Rattle.rk_world.specs.Requests.{counted_up, is_known as is_known_lem, 
 ghost use Rattle.rk_transfer.specs.Handover.{frozen, joined};
 ghost use Rattle.rk_world.specs.Tablet.{no_tablet, pulling_from, with_handover, without_merged};
 ghost use Rattle.rk_world.specs.MasterTurn.{with_outstanding};
+ghost use Rattle.rk_world.specs.Splits.{with_half};
 ghost use Rattle.rk_world.specs.Waiting.{joined_entry};
 ghost use Rattle.rk_master.specs.Parts.{tablet_of};
 
 use crate::choice::is_receiving;
+use crate::splits::half_of;
 use rk_done::Completions;
 use rk_entry::{Entry, Joined};
 use rk_message::{Body, Message, Tenure, Transfer};
@@ -24,7 +26,7 @@ use rk_rebuild::Gather;
 use rk_side_log::SideLogs;
 use rk_table::FIRST;
 use rk_transfer::{Handover, Role};
-use rk_types::{Ended, Key, Listed, NoMemory, Node, Token, bucket_of, hash};
+use rk_types::{Ended, Key, Listed, NoMemory, Node, Range, Token, bucket_of, hash};
 use rk_world::Reading;
 use std::alloc::Global;
 
@@ -146,6 +148,25 @@ impl TabletLane {
             gather: None,
             merged_ends: Listed::new(alloc),
         }
+    }
+
+    /// A part of the tablet that is served with this range at this term, and has what the tablet has but for what was
+    /// gathered and merged. A copy of the completions, and of what was pulled.
+    pub(crate) fn half(&self, range: Range, term: u64) -> Result<TabletLane, NoMemory>
+        ensures { IfOk result (λ half. tablet_of half ≡ with_half (tablet_of self.now) range term) }
+    {
+        Ok(TabletLane {
+            handover: half_of(self.handover, range, term),
+            completions: self.completions.duplicate()?,
+            source: self.source,
+            wanted: self.wanted.duplicate()?,
+            token: self.token,
+            batches: self.batches,
+            sides: self.sides.duplicate()?,
+            sealed: self.sealed.duplicate()?,
+            gather: None,
+            merged_ends: self.merged_ends.empty_like(),
+        })
     }
 
     /// A tablet that closes freezes.

@@ -1,7 +1,9 @@
 ghost use Rattle.std.specs.Prelude.{◌≤◌, IfOk};
 ghost use Rattle.rk_message.specs.Calls.{IsLawfulOp};
+ghost use Rattle.rk_world.specs.Master.{Master};
 ghost use Rattle.rk_world.specs.Premises.{IsLawfulCall};
 ghost use Rattle.rk_world.specs.Requests.{call_of};
+ghost use Rattle.rk_master.specs.Taking.{CanTakeOrder};
 
 use crate::choice::{Seen, mutation};
 use crate::master_lane::MasterLane;
@@ -94,10 +96,25 @@ fn asked(alloc: Global, seq: u64, op: Op) -> Result<Request, Fail>
     })
 }
 
+// A client asks master 1.
+fn ask(master: &mut MasterLane, client: u32, request: Request) -> Result<Worked, Fail>
+    requires { IsLawfulCall (call_of client request) }
+{
+    Ok(master.step(&Message {
+        from: Node::Client(client),
+        to: Node::Master(1),
+        body: Body::Request(request),
+    })?)
+}
+
 // What the only backup tells of segment 1.
 fn told<R: Abort>(rt: &R, master: &mut MasterLane, length: u32) -> Result<Worked, Fail> {
     assert!(rt; master.backups() > 0);
-    Ok(master.take_stored(1, Stored { segment: 1, length })?)
+    Ok(master.step(&Message {
+        from: Node::Backup(1),
+        to: Node::Master(1),
+        body: Body::Stored(Stored { segment: 1, length }),
+    })?)
 }
 
 // What master 1 answers to the first call of a client.
@@ -121,23 +138,59 @@ fn clients_are_told_once_the_backup_holds_their_entries(rt: HostRuntime) -> Resu
     master.add(7, RANGE)?;
     let put = asked(rt.alloc(), 1, Op::Put(Value::new(rt.alloc(), b"x")?))?;
     let other = asked(rt.alloc(), 1, Op::CondPut(9, Value::new(rt.alloc(), b"y")?))?;
-    assert_eq!(rt; master.handle(1, &put)?.sends.len(), 0);
-    assert_eq!(rt; master.handle(1, &put)?.sends.len(), 0);
-    assert_eq!(rt; master.handle(2, &other)?.sends.len(), 0);
+    assert_eq!(rt; ask(&mut master, 1, put.duplicate()?)?.sends.len(), 0);
+    assert_eq!(rt; ask(&mut master, 1, put.duplicate()?)?.sends.len(), 0);
+    assert_eq!(rt; ask(&mut master, 2, other)?.sends.len(), 0);
+    assert!(rt; master.staged_call(2, 1));
+    assert_eq!(rt; master.staged(), 2);
     assert_eq!(rt; told(&rt, &mut master, 77)?.sends.len(), 0);
     let work = told(&rt, &mut master, 76)?;
     assert_eq!(rt; work.sends.len(), 2);
     assert_eq!(rt; work.sends[0], reply(1, 1, Outcome::Written(1)));
     assert_eq!(rt; work.sends[1], reply(2, 1, Outcome::Mismatch(1)));
     assert_eq!(rt; work.served.len(), 2);
-    let again = master.handle(1, &put)?;
+    assert_eq!(rt; master.staged(), 0);
+    let again = ask(&mut master, 1, put)?;
     assert_eq!(rt; again.sends.len(), 1);
     assert_eq!(rt; again.sends[0], reply(1, 1, Outcome::Written(1)));
     let get = asked(rt.alloc(), 2, Op::Get)?;
-    let read = master.handle(2, &get)?;
+    let read = ask(&mut master, 2, get)?;
     assert_eq!(rt; read.sends.len(), 1);
     let value = Value::new(rt.alloc(), b"x")?;
     assert_eq!(rt; read.sends[0], reply(2, 2, Outcome::Found(1, value)));
+    Ok(())
+}
+
+// The coordinator orders master 1 something.
+fn ordered(master: &mut MasterLane, body: Body) -> Result<usize, Fail>
+    requires { (master : Master) → CanTakeOrder master body }
+{
+    let message = Message {
+        from: Node::Coordinator,
+        to: Node::Master(1),
+        body,
+    };
+    Ok(master.step(&message)?.sends.len())
+}
+
+// A split tablet's upper half is given away, and its lower one is served on.
+#[test]
+fn a_half_is_given_away(rt: HostRuntime) -> Result<(), Fail> {
+    let mut master = MasterLane::new(rt.alloc(), 1, 1)?;
+    master.add(7, RANGE)?;
+    master.split(7, 1 << 63, 8, 2)?;
+    assert_eq!(rt; master.role(8), Role::Serving);
+    let tenure = Tenure { tablet: 8, term: 3 };
+    assert_eq!(rt; ordered(&mut master, Body::Close(tenure))?, 1);
+    assert_eq!(rt; master.role(8), Role::Frozen);
+    assert_eq!(rt; ordered(&mut master, Body::Joined(tenure))?, 0);
+    assert_eq!(rt; ordered(&mut master, Body::Release(tenure))?, 0);
+    assert_eq!(rt; master.role(8), Role::Absent);
+    assert_eq!(rt; master.role(7), Role::Serving);
+    assert_eq!(rt; master.counter(7), 1);
+    assert_eq!(rt; master.greatest_counter(), 1);
+    assert_eq!(rt; master.records(), 0);
+    assert_eq!(rt; master.log_bytes(), 0);
     Ok(())
 }
 

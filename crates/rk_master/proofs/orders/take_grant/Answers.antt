@@ -10,5 +10,5 @@ returns-in_default-clause-ok c =
     let master : Master = master_of c.args.state.now in
     let rows : List Row = c.args.state.now.tablets.items in
     worked_quietly master c.nothing.result c.nothing.ensures.sends c.nothing.ensures.served c.nothing.ensures.marked
-    ∙ grant_absent master c.args.grant
-    (none_lent rows c.as_slice.result.now c.args.grant.tenure.tablet c.in_default.field-0 c.as_slice.ensures.value c.in_default.ensures.absent)
+    ∙ grant_absent master c.args.grant.now
+    (none_lent rows c.as_slice.result.now c.args.grant.now.tenure.tablet c.in_default.field-0 c.as_slice.ensures.value c.in_default.ensures.absent)

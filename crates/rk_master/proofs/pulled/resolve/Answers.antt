@@ -44,14 +44,14 @@ returns-then-not-resolve-clause-ok c =
     let master : Master = master_of c.args.state.now in
     let rows : List Row = c.args.state.now.tablets.items in
     let read : Row = c.index_mut.result.now in
-    let tablet = tablet_read rows c.args.got.tenure.tablet c.args.at read c.requires.state.tablets.order c.requires.place c.index_mut.ensures.value in
-    let receives = subst (λ (t : Tablet). is_receiving_at t c.args.got.tenure.term ≡ true) tablet c.requires.pulls in
-    let failed : is_batch read.1.wanted.outstanding c.args.got.hashes ≡ false =
+    let tablet = tablet_read rows c.args.got.now.tenure.tablet c.args.at read c.requires.state.tablets.order c.requires.place c.index_mut.ensures.value in
+    let receives = subst (λ (t : Tablet). is_receiving_at t c.args.got.now.tenure.term ≡ true) tablet c.requires.pulls in
+    let failed : is_batch read.1.wanted.outstanding c.args.got.now.hashes ≡ false =
     ap (is_batch read.1.wanted.outstanding) (sym c.as_slice.ensures) ∙ sym c.resolve.ensures.answer ∙ c.if-not-resolve.true in
     let same : tablet_of c.resolve.new.self ≡ tablet_of read.1 =
-    c.resolve.ensures.tablet ∙ ap (with_resolved (tablet_of read.1)) c.as_slice.ensures ∙ not_resolved (tablet_of read.1) c.args.got.hashes failed in
+    c.resolve.ensures.tablet ∙ ap (with_resolved (tablet_of read.1)) c.as_slice.ensures ∙ not_resolved (tablet_of read.1) c.args.got.now.hashes failed in
     ap (λ (tablets : NumberMap Tablet). changed (record master { tablets = tablets })) (same_tablets rows c.args.at read c.resolve.new.self c.index_mut.ensures.value same)
-    ∙ got_failed master c.args.got (tablet_of read.1) tablet (asked (tablet_of read.1) c.args.got.tenure.term c.args.got.hashes false receives failed)
+    ∙ got_failed master c.args.got.now (tablet_of read.1) tablet (asked (tablet_of read.1) c.args.got.now.tenure.term c.args.got.now.hashes false receives failed)
 
 pub replay-requires-clause-lawful : goal.replay-requires-clause-lawful
 replay-requires-clause-lawful c = subst (All IsLawfulHeld) (sym c.in_ok-items_of.ensures) c.requires.lawful
@@ -77,9 +77,9 @@ returns-clause-ok c =
     let master : Master = master_of c.args.state.now in
     let rows : List Row = c.args.state.now.tablets.items in
     let read : Row = c.index_mut.result.now in
-    let hashes : List ℕ = c.args.got.hashes in
-    let tablet = tablet_read rows c.args.got.tenure.tablet c.args.at read c.requires.state.tablets.order c.requires.place c.index_mut.ensures.value in
-    let receives = subst (λ (t : Tablet). is_receiving_at t c.args.got.tenure.term ≡ true) tablet c.requires.pulls in
+    let hashes : List ℕ = c.args.got.now.hashes in
+    let tablet = tablet_read rows c.args.got.now.tenure.tablet c.args.at read c.requires.state.tablets.order c.requires.place c.index_mut.ensures.value in
+    let receives = subst (λ (t : Tablet). is_receiving_at t c.args.got.now.tenure.term ≡ true) tablet c.requires.pulls in
     let yields : is_batch read.1.wanted.outstanding hashes ≡ true = ap (is_batch read.1.wanted.outstanding) (sym c.as_slice.ensures) ∙ sym c.resolve.ensures.answer ∙ c.if-not-resolve.false in
     let resolved : tablet_of c.resolve.new.self ≡ with_resolved (tablet_of read.1) hashes = c.resolve.ensures.tablet ∙ ap (with_resolved (tablet_of read.1)) c.as_slice.ensures in
     let sides : c.resolve.new.self.sides ≡ read.1.sides = ap (λ (t : Tablet). t.pulling.sides) resolved in
@@ -87,7 +87,7 @@ returns-clause-ok c =
     let records = c.in_ok-replay.ensures.records ∙ ap (λ all. (made all).records) sides in
     let lane = c.in_ok-replay.ensures.tablet ∙ (λ i. with_side (resolved i) 0 (made (sides i)).items) in
     let some = subst (λ (all : List (List Held)). 0 < length all) sides c.in_ok-replay.ensures.workers in
-    let now = got_made master (records_of c.replay.new.records) rows c.args.got.tenure.tablet c.args.at read c.replay.new.self c.in_ok-items_of.field-0.items hashes
+    let now = got_made master (records_of c.replay.new.records) rows c.args.got.now.tenure.tablet c.args.at read c.replay.new.self c.in_ok-items_of.field-0.items hashes
     c.requires.state.tablets.order c.requires.place c.index_mut.ensures.value some records lane in
-    got_resolved master _ c.args.got (tablet_of read.1) c.in_ok-items_of.field-0.items tablet
-    (asked (tablet_of read.1) c.args.got.tenure.term hashes true receives yields) c.in_ok-items_of.ensures now
+    got_resolved master _ c.args.got.now (tablet_of read.1) c.in_ok-items_of.field-0.items tablet
+    (asked (tablet_of read.1) c.args.got.now.tenure.term hashes true receives yields) c.in_ok-items_of.ensures now

@@ -15,29 +15,29 @@ returns-in_default-clause-ok c =
     let master : Master = master_of c.args.state.now in
     let rows : List Row = c.args.state.now.tablets.items in
     worked_quietly master c.nothing.result c.nothing.ensures.sends c.nothing.ensures.served c.nothing.ensures.marked
-    ∙ got_failed master c.args.got no_tablet
-    (none_lent rows c.as_slice.result.now c.args.got.tenure.tablet c.in_default.field-0 c.as_slice.ensures.value c.in_default.ensures.absent) refl
+    ∙ got_failed master c.args.got.now no_tablet
+    (none_lent rows c.as_slice.result.now c.args.got.now.tenure.tablet c.in_default.field-0 c.as_slice.ensures.value c.in_default.ensures.absent) refl
 
 pub returns-then-not-is_receiving_at-clause-ok : goal.returns-then-not-is_receiving_at-clause-ok
 returns-then-not-is_receiving_at-clause-ok c =
     let master : Master = master_of c.args.state.now in
     let read : Row = c.index.result.now in
-    let found = subst (λ (xs : List Row). IsAt c.args.got.tenure.tablet xs c.in-Ok.at) c.as_slice.ensures.value c.in-Ok.ensures.found in
-    let tablet = tablet_read c.args.state.now.tablets.items c.args.got.tenure.tablet c.in-Ok.at read c.requires.state.tablets.order found c.index.ensures in
+    let found = subst (λ (xs : List Row). IsAt c.args.got.now.tenure.tablet xs c.in-Ok.at) c.as_slice.ensures.value c.in-Ok.ensures.found in
+    let tablet = tablet_read c.args.state.now.tablets.items c.args.got.now.tenure.tablet c.in-Ok.at read c.requires.state.tablets.order found c.index.ensures in
     let failed = sym c.is_receiving_at.ensures ∙ c.if-not-is_receiving_at.true in
     worked_quietly master c.nothing-then-not-is_receiving_at.result c.nothing-then-not-is_receiving_at.ensures.sends
     c.nothing-then-not-is_receiving_at.ensures.served c.nothing-then-not-is_receiving_at.ensures.marked
-    ∙ got_failed master c.args.got (tablet_of read.1) tablet (ap (λ b. b && is_batch read.1.wanted.outstanding c.args.got.hashes) failed)
+    ∙ got_failed master c.args.got.now (tablet_of read.1) tablet (ap (λ b. b && is_batch read.1.wanted.outstanding c.args.got.now.hashes) failed)
 
 pub resolve-requires-clause-place : goal.resolve-requires-clause-place
-resolve-requires-clause-place c = subst (λ (xs : List Row). IsAt c.args.got.tenure.tablet xs c.in-Ok.at) c.as_slice.ensures.value c.in-Ok.ensures.found
+resolve-requires-clause-place c = subst (λ (xs : List Row). IsAt c.args.got.now.tenure.tablet xs c.in-Ok.at) c.as_slice.ensures.value c.in-Ok.ensures.found
 
 pub resolve-requires-clause-pulls : goal.resolve-requires-clause-pulls
 resolve-requires-clause-pulls c =
     let read : Row = c.index.result.now in
-    let found = subst (λ (xs : List Row). IsAt c.args.got.tenure.tablet xs c.in-Ok.at) c.as_slice.ensures.value c.in-Ok.ensures.found in
-    let tablet = tablet_read c.args.state.now.tablets.items c.args.got.tenure.tablet c.in-Ok.at read c.requires.state.tablets.order found c.index.ensures in
-    ap (λ (t : Tablet). is_receiving_at t c.args.got.tenure.term) tablet ∙ sym c.is_receiving_at.ensures ∙ c.if-not-is_receiving_at.false
+    let found = subst (λ (xs : List Row). IsAt c.args.got.now.tenure.tablet xs c.in-Ok.at) c.as_slice.ensures.value c.in-Ok.ensures.found in
+    let tablet = tablet_read c.args.state.now.tablets.items c.args.got.now.tenure.tablet c.in-Ok.at read c.requires.state.tablets.order found c.index.ensures in
+    ap (λ (t : Tablet). is_receiving_at t c.args.got.now.tenure.term) tablet ∙ sym c.is_receiving_at.ensures ∙ c.if-not-is_receiving_at.false
 
 pub returns-clause-ok : goal.returns-clause-ok
 returns-clause-ok c =

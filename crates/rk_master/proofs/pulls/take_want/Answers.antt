@@ -12,8 +12,8 @@ returns-in_default c =
     let master : Master = master_of c.args.state.now in
     let rows : List Row = c.args.state.now.tablets.items in
     worked_quietly master c.nothing.result c.nothing.ensures.sends c.nothing.ensures.served c.nothing.ensures.marked
-    ∙ want_ignored master c.args.from c.args.want no_tablet
-    (none_lent rows c.as_slice.result.now c.args.want.tenure.tablet c.in_default.field-0 c.as_slice.ensures.value c.in_default.ensures.absent) refl
+    ∙ want_ignored master c.args.from c.args.want.now no_tablet
+    (none_lent rows c.as_slice.result.now c.args.want.now.tenure.tablet c.in_default.field-0 c.as_slice.ensures.value c.in_default.ensures.absent) refl
 
 pub answer_want-requires-clause-place : goal.answer_want-requires-clause-place
-answer_want-requires-clause-place c = subst (λ (xs : List Row). IsAt c.args.want.tenure.tablet xs c.in-Ok.at) c.as_slice.ensures.value c.in-Ok.ensures.found
+answer_want-requires-clause-place c = subst (λ (xs : List Row). IsAt c.args.want.now.tenure.tablet xs c.in-Ok.at) c.as_slice.ensures.value c.in-Ok.ensures.found
