@@ -5,7 +5,6 @@ use Rattle.std.proofs.lemmas.Bool.{eqb-true, false≢true}
 use Rattle.std.proofs.lemmas.List.Elements.{All-contains, All-tail}
 use Rattle.rk_types.specs.declared.lineage.Member.{Member}
 use Rattle.rk_transfer.specs.Handover.{is_serving}
-use Rattle.rk_transfer.specs.declared.handover.Handover.{Handover}
 use Rattle.rk_transfer.specs.declared.role.Role.{Role}
 use Rattle.rk_transfer.specs.declared.role.Role.TheVariants as roles
 use Rattle.rk_tablet_map.specs.Phase.{lineage_of, member as member_at}
@@ -18,7 +17,7 @@ use Rattle.rk_sound.specs.View.{View, view}
 use Rattle.rk_sound.specs.Rows.{IsPlaced}
 use Rattle.rk_sound.specs.Posts.{Bystander, MovingSource, MovingTarget, Owner, Post, Holds, StillCounts, bond_of, post_of, speaks}
 use Rattle.rk_sound.specs.Roles.{RoleFits}
-use Rattle.rk_sound.specs.Tables.{HasItems, IsTableOf, has_all_items}
+use Rattle.rk_sound.specs.Tables.{HasItems, has_all_items}
 use Rattle.rk_sound.specs.Messages.{HasJoined}
 use Rattle.rk_sound.specs.Whole.{IsSound, SoundView}
 use Rattle.rk_sound.specs.Moves.{HasSome, MayTakeJoined, row_at}

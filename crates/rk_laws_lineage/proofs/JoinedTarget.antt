@@ -1,15 +1,13 @@
 -- What is known of the target of a row that moves, once its closing entry is applied: what counts of its log tells all of the row.
-use Rattle.std.proofs.Common.{◌≡◌, ℕ, ◌≤◌, ◌<◌, true, false, List, [], ◌∷◌, ◌++◌, Option, Some, None, refl, sym, ap, subst, ◌∙◌, ⊎_elim, arith, inl, inr, append-nil, append_assoc}
-use Rattle.std.specs.Prelude.{All, IfSome, drop, max, take, ◌⊎◌, ◌↔◌}
+use Rattle.std.proofs.Common.{◌≡◌, ℕ, ◌≤◌, ◌<◌, true, List, [], ◌∷◌, ◌++◌, Option, Some, refl, sym, ap, subst, ◌∙◌, ⊎_elim, arith, inl, inr, append-nil, append_assoc}
+use Rattle.std.specs.Prelude.{All, IfSome, drop, max, take}
 use Rattle.std.specs.List.{Contains, flat_map}
 use Rattle.std.specs.Option.{option_map}
 use Rattle.std.proofs.lemmas.Bool.{false≢true}
 use Rattle.std.proofs.lemmas.Grind.{flat_map-append}
 use Rattle.std.proofs.lemmas.List.Elements.{All-contains, All-weaker, Contains-append_cases, Contains-append_left, Contains-append_right}
 use Rattle.rk_types.specs.NumberMap.{get}
-use Rattle.rk_types.specs.declared.call.Ended.{Ended}
 use Rattle.rk_types.specs.declared.held.Held.{Held}
-use Rattle.rk_types.specs.declared.history.Placed.{Placed}
 use Rattle.rk_types.specs.declared.lineage.Member.{Member}
 use Rattle.rk_types.specs.declared.range.Range.{Range}
 use Rattle.rk_model.specs.History.{map_after}
@@ -27,14 +25,13 @@ use Rattle.rk_tablet_map.specs.declared.phase.Phase.{Phase}
 use Rattle.rk_tablet_map.specs.declared.phase.Phase.TheVariants.{Moving, Rebuilding}
 use Rattle.rk_tablet_map.specs.declared.row.Row.{Row}
 use Rattle.rk_overlay.specs.Live.{live}
-use Rattle.rk_overlay.specs.Newest.{newest}
 use Rattle.rk_overlay.specs.Plain.{IsPlain}
 use Rattle.rk_overlay.proofs.Members.{stands_cases}
 use Rattle.rk_world.specs.Ends.{items_in, items_of, told, told_by}
 use Rattle.rk_world.specs.Base.{base_map}
 use Rattle.rk_world.specs.Coordinator.{Handed}
-use Rattle.rk_world.specs.Marks.{is_marked, unmarked_from}
-use Rattle.rk_world.specs.Material.{counting, counts, joined_from, of_key, side_entries, tells_of}
+use Rattle.rk_world.specs.Marks.{unmarked_from}
+use Rattle.rk_world.specs.Material.{counts, joined_from, of_key, side_entries, tells_of}
 use Rattle.rk_world.specs.Merge.{floor_of}
 use Rattle.rk_world.specs.Ranges.{has_all}
 use Rattle.rk_world.specs.Tablet.{Pulling}
@@ -45,16 +42,15 @@ use Rattle.rk_sound.specs.Roles.{KeepTerm}
 use Rattle.rk_sound.specs.Handing.{beginning_in, target_truth}
 use Rattle.rk_sound.specs.Calls.{IsKnown, IsReached, TellAll, is_record_in}
 use Rattle.rk_sound.specs.Counters.{AreAboveMap}
-use Rattle.rk_sound.specs.Rest.{FirstIsDone, IsDone}
+use Rattle.rk_sound.specs.Rest.{FirstIsDone}
 use Rattle.rk_sound.specs.Tables.{IsTableOf}
-use Rattle.rk_sound.specs.Receives.{HandedFits, HasArrived, HasClosing, IsClosedAt, IsFound, IsHandedBy, IsOutdone, IsReceived, IsTarget, MembersFit, before_closing, beginning_of, closing_joined, copied_items, entries_from, is_granted, joined_place, scan_items}
+use Rattle.rk_sound.specs.Receives.{HandedFits, HasArrived, HasClosing, IsClosedAt, IsOutdone, IsReceived, IsTarget, MembersFit, before_closing, beginning_of, closing_joined, copied_items, entries_from, is_granted, joined_place, scan_items}
 use Rattle.rk_sound.specs.Messages.{HasJoined}
 use Rattle.rk_sound.specs.Whole.{SoundView}
 use Rattle.rk_sound.specs.Moves.{MayTakeJoined}
 use Rattle.rk_laws_parts.proofs.InRange.{scan_in, truth_in}
 use Rattle.rk_laws_parts.proofs.Lists.{all_by}
 use Rattle.rk_laws_parts.proofs.MarkedApart.{marks_none}
-use Rattle.rk_laws_parts.proofs.Records.{filter_from}
 use Rattle.rk_laws_lineage.specs.Lineages.{TellHistory}
 use Rattle.rk_laws_lineage.proofs.Among.{first_stand, flat_among, kept_among, later_stands, longer_stands}
 use Rattle.rk_laws_lineage.proofs.FloorsOf.{floor_among}
@@ -438,13 +434,15 @@ module _ (v : View) (row : Row) (source sfrom target dfrom : ℕ) (sound : Sound
 
   pub table_is : IsTableOf row.range mine (v.records target)
   table_is =
-      table_over row.range (items_of mine) (v.records target) mine_plain (sound.records.ordered target)
-      (λ x stands.
-      All-contains (λ item. is_in row.range item ≡ true) (items_of mine) x (truth_in v.written row.range last) stands)
-      (λ x stands inside.
-      ⊎_elim (λ (its : Contains own x). both.has_own x its) (λ (copy : Contains copies x). both.has_copied x copy)
-      (received.come x stands inside))
-      (λ x stands.
-      ⊎_elim (λ (its : Contains own x). received.found x (inl its))
-      (λ (copy : Contains copies x). received.found x (inr (received.within x copy, arrived x)))
-      (both.from x stands))
+      table_over row.range (items_of mine) (v.records target)
+      (record {
+        plain = mine_plain;
+        order = sound.records.ordered target;
+        come = λ x stands inside.
+            ⊎_elim (λ (its : Contains own x). both.has_own x its) (λ (copy : Contains copies x). both.has_copied x copy)
+            (received.come x stands inside);
+        found = λ x stands.
+            ⊎_elim (λ (its : Contains own x). received.found x (inl its))
+            (λ (copy : Contains copies x). received.found x (inr (received.within x copy, arrived x)))
+            (both.from x stands);
+      })

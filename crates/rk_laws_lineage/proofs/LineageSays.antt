@@ -1,22 +1,15 @@
 -- What messages say of a row, and hand over for it, where that passes on and takes another lineage.
-use Rattle.std.proofs.Common.{◌≡◌, ℕ, ◌≤◌, ◌<◌, Bool, true, false, ◌&&◌, cond, eqb, List, [], ◌∷◌, Option, Some, None, refl, sym, ap, subst, ◌∙◌, ⊎_elim, arith, inl}
-use Rattle.std.specs.Prelude.{IfSome, ◌⊎◌}
-use Rattle.std.specs.List.{Contains}
+use Rattle.std.proofs.Common.{◌≡◌, ℕ, ◌≤◌, ◌<◌, true, false, ◌&&◌, eqb, Option, Some, None, refl, sym, ap, ◌∙◌, ⊎_elim, arith, inl}
+use Rattle.std.specs.Prelude.{◌⊎◌}
 use Rattle.std.proofs.lemmas.Bool.{and_parts, cases_Bool, cond-false, cond_both, eqb-true, false_from_ne_true, false≢true}
-use Rattle.std.proofs.lemmas.List.Elements.{All-contains}
 use Rattle.rk_types.specs.NumberMap.{NumberMap, get}
 use Rattle.rk_types.specs.declared.node.Node.{Node}
-use Rattle.rk_types.specs.declared.node.Node.TheVariants as nodes
-use Rattle.rk_types.specs.declared.lineage.Member.{Member}
-use Rattle.rk_transfer.specs.declared.handover.Handover.{Handover}
 use Rattle.rk_tablet_map.specs.Phase.{lineage_of}
 use Rattle.rk_tablet_map.specs.declared.phase.Phase.{Phase}
-use Rattle.rk_tablet_map.specs.declared.phase.Phase.TheVariants.{Owned, Opening, Moving}
 use Rattle.rk_tablet_map.specs.declared.row.Row.{Row}
 use Rattle.rk_message.specs.declared.handover.Grant.{Grant}
 use Rattle.rk_message.specs.declared.handover.Prepare.{Prepare}
 use Rattle.rk_message.specs.declared.handover.Tenure.{Tenure}
-use Rattle.rk_message.specs.declared.handover.Transfer.{Transfer}
 use Rattle.rk_message.specs.declared.message.Body.{Body}
 use Rattle.rk_message.specs.declared.message.Body.TheVariants as bodies
 use Rattle.rk_message.specs.declared.pulling.Got.{Got}
@@ -25,16 +18,15 @@ use Rattle.rk_message.specs.declared.rebuilding.Rebuild.{Rebuild}
 use Rattle.rk_world.specs.Coordinator.{Handed}
 use Rattle.rk_world.specs.Lineage.{is_member, second_of}
 use Rattle.rk_sound.specs.View.{View}
-use Rattle.rk_sound.specs.Terms.{IsBelowOthers, IsWithinTerm, SentFits, range_in, tenure_in}
+use Rattle.rk_sound.specs.Terms.{IsWithinTerm, SentFits}
 use Rattle.rk_sound.specs.Handing.{handed_by, is_opening, is_waiting_at, is_wanting, second_has}
 use Rattle.rk_sound.specs.Roles.{KeepTerm}
-use Rattle.rk_sound.specs.Messages.{SaysOf, IsOf, IsOfTarget, PrepareFits, CloseFits, OwnFits, ReleaseFits, RebuildFits, ReadyIn, TransferIn, JoinedIn, RebuiltIn, AfterMove, AsksFor, GrantIn, GrantAgrees, AskAgrees, PulledAgrees, GotAgrees, IsMovingOrOwned}
+use Rattle.rk_sound.specs.Messages.{SaysOf, IsOf, PrepareFits, CloseFits, OwnFits, ReleaseFits, RebuildFits, ReadyIn, TransferIn, JoinedIn, RebuiltIn, AfterMove, AsksFor, GrantAgrees, AskAgrees, PulledAgrees, GotAgrees, IsMovingOrOwned}
 use Rattle.rk_sound.specs.Moves.{row_at}
 use Rattle.rk_laws_parts.proofs.Joining.{differ}
 use Rattle.rk_laws_parts.proofs.Messages.{if_master, by_master}
-use Rattle.rk_laws_lineage.specs.Passing.{PassesOn}
 use Rattle.rk_laws_lineage.specs.Lineages.{MayTakeLineage}
-use Rattle.rk_laws_lineage.proofs.Passing.{any_copy, any_lineage, any_read, formed_still, has_moved, joined_goes, member_before, none_closes, none_granted, none_invited, none_opens, none_owned, none_rebuilt, none_rebuilt_by, none_released, owner_at, passes_by, ready_goes, source_stays, transfer_goes}
+use Rattle.rk_laws_lineage.proofs.Passing.{any_copy, any_lineage, any_read, has_moved, joined_goes, member_before, none_closes, none_granted, none_invited, none_opens, none_owned, none_rebuilt, none_rebuilt_by, none_released, owner_at, passes_by, ready_goes, source_stays, transfer_goes}
 
 module _ (v : View) (row : Row) (phase : Phase) (handed : NumberMap Handed) (may : MayTakeLineage v row phase handed) where
   abbrev new : Row
@@ -122,7 +114,7 @@ module _ (v : View) (row : Row) (phase : Phase) (handed : NumberMap Handed) (may
     reached = agrees.reached;
     told = λ its lives at wants.
         absurd
-        (none_granted row.phase phase (get v.handed row.tablet) row.term q (v.handovers q row.tablet) (v.written q).applied grant may.passes
+        (none_granted row.phase new (get v.handed row.tablet) q (v.handovers q row.tablet) (v.written q).applied grant may.passes
         (may.fits q (inl lives)) wants (agrees.told its lives at wants));
   }
 

@@ -1,5 +1,5 @@
 -- A view stays sound when a row that passes on takes another lineage, where what counts for it now tells all of it.
-use Rattle.std.proofs.Common.{◌≡◌, ℕ, ◌≤◌, ◌<◌, true, false, cond, List, [], ◌∷◌, ◌++◌, Option, Some, None, refl, sym, ap, subst, ◌∙◌, ⊎_elim, arith, inl, inr}
+use Rattle.std.proofs.Common.{◌≡◌, ℕ, ◌≤◌, true, false, cond, List, [], ◌∷◌, ◌++◌, Option, Some, None, refl, sym, ap, subst, ◌∙◌, ⊎_elim, arith, inl, inr}
 use Rattle.std.specs.Prelude.{All, IfSome, drop, is_some, ◌⊎◌}
 use Rattle.std.specs.Option.{option_map}
 use Rattle.std.specs.List.{Contains, flat_map, list_any}
@@ -86,7 +86,12 @@ target_as v row old new (Moving source sfrom target dfrom) same =
     same
 target_as v row old new phase same = refl
 
-says_as : (v : View) (row : Row) (old new : NumberMap Handed) (from to : Node) (body : Body) → get new row.tablet ≡ get old row.tablet → SaysOf row v.logs v.written v.stored v.handovers v.completions v.merged v.live old from to body → SaysOf row v.logs v.written v.stored v.handovers v.completions v.merged v.live new from to body
+-- so does what a message says of a row
+abbrev SaysIn : View → Row → Node → Node → Body → NumberMap Handed → Type 0
+SaysIn v row from to body handed =
+    SaysOf row v.logs v.written v.stored v.handovers v.completions v.merged v.live handed from to body
+
+says_as : (v : View) (row : Row) (old new : NumberMap Handed) (from to : Node) (body : Body) → get new row.tablet ≡ get old row.tablet → SaysIn v row from to body old → SaysIn v row from to body new
 says_as v row old new from to (bodies.Grant grant) same said = (
   said.0,
   subst (λ (o : Option Handed). IfMaster to (λ q. GrantAgrees row (v.handovers q row.tablet) (v.live q) o q grant)) (sym same) said.1,

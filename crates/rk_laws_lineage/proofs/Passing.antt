@@ -1,5 +1,5 @@
 -- What is known of a row that passes on: of its old phase and its new one, where source and target keep the row's term.
-use Rattle.std.proofs.Common.{◌≡◌, ℕ, ◌<◌, Bool, true, false, ◌||◌, cond, eqb, List, [], ◌∷◌, Option, Some, None, refl, sym, ap, subst, ◌∙◌, ⊎_elim, arith, inl, inr}
+use Rattle.std.proofs.Common.{◌≡◌, ℕ, ◌<◌, Bool, true, false, ◌||◌, cond, eqb, List, Option, Some, refl, sym, ap, subst, ◌∙◌, ⊎_elim, arith, inl, inr}
 use Rattle.std.specs.Prelude.{◌⊎◌}
 use Rattle.std.proofs.lemmas.Bool.{eq-eqb, eqb-true, false≢true}
 use Rattle.rk_types.specs.declared.call.Ended.{Ended}
@@ -26,13 +26,21 @@ use Rattle.rk_world.specs.Notices.{names}
 use Rattle.rk_world.specs.Written.{Written}
 use Rattle.rk_sound.specs.Rows.{IsFormed}
 use Rattle.rk_sound.specs.Posts.{InvitedTarget, OpeningSource, ReadyTarget, MovingSource, MovingTarget, Owner, Bystander, Post, Holds, bond_of, post_of}
-use Rattle.rk_sound.specs.Roles.{KeepTerm}
+use Rattle.rk_sound.specs.Roles.{KeepTerm, RoleFits}
 use Rattle.rk_sound.specs.Handing.{is_opening, is_wanting}
 use Rattle.rk_sound.specs.Messages.{HasSource, HasLineage, IsClosing, IsOnlyRebuilder, IsOwnedBy, IsOwnedByOther, IsOwner, IsRebuiltBy, IsMovingOrOwned, GrantIn, ReadyIn, TransferIn, JoinedIn, RebuiltIn, ReadIn, CopyIn}
 use Rattle.rk_laws_lineage.specs.Passing.{BeginsToMove, HasMoved, PassesOn}
 
--- what holds where a row begins to move, and where it has moved, holds where it passes on
-pub passes_by : (P : Phase → Phase → Type 0) (old new : Phase) → ((source sfrom target dfrom : ℕ) → P (Opening source sfrom target (Some dfrom)) (Moving source sfrom target dfrom)) → ((source sfrom target dfrom : ℕ) → P (Moving source sfrom target dfrom) (Owned target dfrom)) → PassesOn old new → P old new
+-- this holds wherever a row begins to move, and wherever it has moved
+abbrev pub WhereBegun : (Phase → Phase → Type 0) → Type 0
+WhereBegun P =
+    (source sfrom target dfrom : ℕ) → P (Opening source sfrom target (Some dfrom)) (Moving source sfrom target dfrom)
+
+abbrev pub WhereMoved : (Phase → Phase → Type 0) → Type 0
+WhereMoved P = (source sfrom target dfrom : ℕ) → P (Moving source sfrom target dfrom) (Owned target dfrom)
+
+-- then it holds where a row passes on
+pub passes_by : (P : Phase → Phase → Type 0) (old new : Phase) → WhereBegun P → WhereMoved P → PassesOn old new → P old new
 passes_by P old new begins ends passes =
     ⊎_elim
     (λ (b : BeginsToMove old new).
@@ -211,13 +219,13 @@ owner_wants place term own applied (roles.Wanting from) fits wants = fits
 owner_wants place term own applied role fits wants = false≢true wants
 
 -- no Grant is taken: one member alone waits for none, and of two the last does not wait where it owns the tablet
-pub none_granted : (old new : Phase) (handed : Option Handed) (term master : ℕ) (handover : Handover) (applied : ℕ) (grant : Grant) → PassesOn old new → Holds (bond_of (post_of new master) handover.role) term handover.term applied → is_wanting handover.role ≡ true → GrantIn (lineage_of old) handed master grant → ⊥
-none_granted old new handed term master handover applied grant =
+pub none_granted : (old : Phase) (row : Row) (h : Option Handed) (master : ℕ) (handover : Handover) (applied : ℕ) (grant : Grant) → PassesOn old row.phase → RoleFits row master handover applied → is_wanting handover.role ≡ true → GrantIn (lineage_of old) h master grant → ⊥
+none_granted old row h master handover applied grant =
     passes_by
-    (λ was is. Holds (bond_of (post_of is master) handover.role) term handover.term applied → is_wanting handover.role ≡ true
-    → GrantIn (lineage_of was) handed master grant → ⊥) old new
+    (λ was is. Holds (bond_of (post_of is master) handover.role) row.term handover.term applied → is_wanting handover.role ≡ true
+    → GrantIn (lineage_of was) h master grant → ⊥) old row.phase
     (λ source sfrom target dfrom fits wants none. none)
     (λ source sfrom target dfrom fits wants granted.
     let here : eqb target master ≡ true = eq-eqb target master granted.0 in
-    owner_wants dfrom term handover.term applied handover.role
-    (subst (λ (b : Bool). Holds (bond_of (cond b (Owner dfrom) Bystander) handover.role) term handover.term applied) here fits) wants)
+    owner_wants dfrom row.term handover.term applied handover.role
+    (subst (λ (b : Bool). Holds (bond_of (cond b (Owner dfrom) Bystander) handover.role) row.term handover.term applied) here fits) wants)

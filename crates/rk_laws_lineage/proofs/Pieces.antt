@@ -77,30 +77,40 @@ first_counts range false entry list is none =
 without_first : (range : Range) (entry : Entry) (list : List Entry) → counts range entry ≡ false → counting range (entry ∷ list) ≡ counting range list
 without_first range entry list none = ap (λ (b : Bool). cond b (entry ∷ counting range list) (counting range list)) none
 
+-- nothing that is marked counts, where the first of some entries stands at a place
+abbrev NoneCounts : Range → List Mark → ℕ → List Entry → Type 0
+NoneCounts range marks place list = counting range (marked_entries marks place list) ≡ []
+
 -- of a first part nothing marked counts either
-none_taken : (range : Range) (marks : List Mark) (place n : ℕ) (list : List Entry) → counting range (marked_entries marks place list) ≡ [] → counting range (marked_entries marks place (take n list)) ≡ []
+first_taken : (range : Range) (marked : Bool) (entry : Entry) (many few : List Entry) → (counting range many ≡ [] → counting range few ≡ []) → counting range (cond marked (entry ∷ many) many) ≡ [] → counting range (cond marked (entry ∷ few) few) ≡ []
+first_taken range true entry many few later none =
+    let parts = first_counts range (counts range entry) entry many refl none in without_first range entry few parts.0 ∙ later parts.1
+first_taken range false entry many few later none = later none
+
+none_taken : (range : Range) (marks : List Mark) (place n : ℕ) (list : List Entry) → NoneCounts range marks place list → NoneCounts range marks place (take n list)
 none_taken range marks place zero list none = refl
 none_taken range marks place (suc n) [] none = refl
-none_taken range marks place (suc n) (entry ∷ list) none = go (is_marked marks place) (none_taken range marks (suc place) n list) none
-  where
-    go : (b : Bool) → (counting range (marked_entries marks (suc place) list) ≡ [] → counting range (marked_entries marks (suc place) (take n list)) ≡ []) → counting range (cond b (entry ∷ marked_entries marks (suc place) list) (marked_entries marks (suc place) list)) ≡ [] → counting range (cond b (entry ∷ marked_entries marks (suc place) (take n list)) (marked_entries marks (suc place) (take n list))) ≡ []
-    go true later none =
-        let parts = first_counts range (counts range entry) entry (marked_entries marks (suc place) list) refl none in
-        without_first range entry (marked_entries marks (suc place) (take n list)) parts.0 ∙ later parts.1
-    go false later none = later none
+none_taken range marks place (suc n) (entry ∷ list) none =
+    first_taken range (is_marked marks place) entry (marked_entries marks (suc place) list) (marked_entries marks (suc place) (take n list))
+    (none_taken range marks (suc place) n list) none
+
+-- the same of two lists counts
+abbrev CountAs : Range → List Entry → List Entry → Type 0
+CountAs range these those = counting range these ≡ counting range those
+
+first_same : (range : Range) (marked : Bool) (entry : Entry) (gone free list : List Entry) → (counting range gone ≡ [] → CountAs range free list) → counting range (cond marked (entry ∷ gone) gone) ≡ [] → CountAs range (cond marked free (entry ∷ free)) (entry ∷ list)
+first_same range true entry gone free list later none =
+    let parts = first_counts range (counts range entry) entry gone refl none in later parts.1 ∙ sym (without_first range entry list parts.0)
+first_same range false entry gone free list later none = ap (λ (l : List Entry). cond (counts range entry) (entry ∷ l) l) (later none)
 
 -- what bears no mark counts as all does
-same_counts : (range : Range) (marks : List Mark) (place : ℕ) (list : List Entry) → counting range (marked_entries marks place list) ≡ [] → counting range (unmarked marks place list) ≡ counting range list
+same_counts : (range : Range) (marks : List Mark) (place : ℕ) (list : List Entry) → NoneCounts range marks place list → CountAs range (unmarked marks place list) list
 same_counts range marks place [] none = refl
-same_counts range marks place (entry ∷ list) none = go (is_marked marks place) (same_counts range marks (suc place) list) none
-  where
-    go : (b : Bool) → (counting range (marked_entries marks (suc place) list) ≡ [] → counting range (unmarked marks (suc place) list) ≡ counting range list) → counting range (cond b (entry ∷ marked_entries marks (suc place) list) (marked_entries marks (suc place) list)) ≡ [] → counting range (cond b (unmarked marks (suc place) list) (entry ∷ unmarked marks (suc place) list)) ≡ counting range (entry ∷ list)
-    go true later none =
-        let parts = first_counts range (counts range entry) entry (marked_entries marks (suc place) list) refl none in
-        later parts.1 ∙ sym (without_first range entry list parts.0)
-    go false later none = ap (λ (l : List Entry). cond (counts range entry) (entry ∷ l) l) (later none)
+same_counts range marks place (entry ∷ list) none =
+    first_same range (is_marked marks place) entry (marked_entries marks (suc place) list) (unmarked marks (suc place) list) list
+    (same_counts range marks (suc place) list) none
 
-pub taken_counts : (range : Range) (marks : List Mark) (place n : ℕ) (list : List Entry) → counting range (marked_entries marks place list) ≡ [] → counting range (unmarked marks place (take n list)) ≡ counting range (take n list)
+pub taken_counts : (range : Range) (marks : List Mark) (place n : ℕ) (list : List Entry) → NoneCounts range marks place list → counting range (unmarked marks place (take n list)) ≡ counting range (take n list)
 taken_counts range marks place n list none = same_counts range marks place (take n list) (none_taken range marks place n list none)
 
 -- ---- what stands without a mark

@@ -166,12 +166,19 @@ module _ (source scan own copies target : List Held) (takes : TakesOver source s
 
 -- ---- its records
 
-module _ (range : Range) (target records : List Held) (plain : IsPlain target) (order : IsInScanOrder records) (inside : (x : Held) → Contains target x → is_in range x ≡ true) (come : (x : Held) → Contains records x → is_in range x ≡ true → Contains target x) (found : (x : Held) → Contains target x → IsFound records x) where
+-- records have what came to a target, and of each key one that is not older
+pub record HasRecords (range : Range) (target records : List Held) : Type 0 where
+  pub plain : IsPlain target
+  pub order : IsInScanOrder records
+  pub come : (x : Held) → Contains records x → is_in range x ≡ true → Contains target x
+  pub found : (x : Held) → Contains target x → IsFound records x
+
+module _ (range : Range) (target records : List Held) (has : HasRecords range target records) where
   -- the one record of a key
   one_record : (x y : Held) → Contains records x → Contains records y → is_of x.table x.key y ≡ true → y ≡ x
   one_record x y first second of =
-      let a = stands_is_found records x.table x.key x order first (is_of_from x.table x.key x refl refl) in
-      let b = stands_is_found records x.table x.key y order second of in
+      let a = stands_is_found records x.table x.key x has.order first (is_of_from x.table x.key x refl refl) in
+      let b = stands_is_found records x.table x.key y has.order second of in
       let same : Some y ≡ Some x = sym b ∙ a in
       let is : y ≡ x = cc in is
 
@@ -181,11 +188,11 @@ module _ (range : Range) (target records : List Held) (plain : IsPlain target) (
     where
       forth : Contains records item → newest target item.table item.key ≡ Some item
       forth stands =
-          newest_found target item.table item.key item plain (record {
-            stands = come item stands in_range;
+          newest_found target item.table item.key item has.plain (record {
+            stands = has.come item stands in_range;
             of_record = is_of_from item.table item.key item refl refl;
             greatest = λ other at of.
-                let there = found other at in
+                let there = has.found other at in
                 let mine = is_of_parts item.table item.key other of in
                 let its = is_of_parts other.table other.key there.there there.same_key in
                 let is : there.there ≡ item =
@@ -197,11 +204,11 @@ module _ (range : Range) (target records : List Held) (plain : IsPlain target) (
       back : newest target item.table item.key ≡ Some item → Contains records item
       back is =
           let best = newest_is target item.table item.key item is in
-          let there = found item best.stands in
+          let there = has.found item best.stands in
           let its = is_of_parts item.table item.key there.there there.same_key in
           let back : Contains target there.there =
-          come there.there there.stands (in_by_key range item there.there there.same_key ∙ in_range) in
+          has.come there.there there.stands (in_by_key range item there.there there.same_key ∙ in_range) in
           let most : there.there.version ≤ item.version = best.greatest there.there back there.same_key in
           let least : item.version ≤ there.there.version = there.as_new in
           subst (Contains records)
-          (plain there.there item back best.stands its.0 its.1 (omega (arith, most, least))) there.stands
+          (has.plain there.there item back best.stands its.0 its.1 (omega (arith, most, least))) there.stands

@@ -1,11 +1,11 @@
--- Parts of a log that do not touch a range: what stands behind a place, and what counts where the end of a log does not.
-use Rattle.std.proofs.Common.{◌≡◌, ℕ, zero, suc, ◌≤◌, Bool, true, false, cond, ◌||◌, List, [], ◌∷◌, ◌++◌, refl, sym, ap, subst, ◌∙◌, arith, append-nil}
-use Rattle.std.specs.Prelude.{drop, take, fold, max}
+-- Parts of a log that do not touch a range: a member that has nothing behind a place, and one whose log ends with nothing of it.
+use Rattle.std.proofs.Common.{◌≡◌, ℕ, zero, suc, ◌≤◌, Bool, true, false, cond, List, [], ◌∷◌, ◌++◌, refl, sym, ap, ◌∙◌, arith, append-nil}
+use Rattle.std.specs.Prelude.{drop, fold, max}
 use Rattle.std.specs.List.{All, flat_map, list_any}
 use Rattle.std.proofs.lemmas.Bool.{or_parts}
 use Rattle.std.proofs.lemmas.Grind.{flat_map-append}
 use Rattle.std.proofs.lemmas.List.{take-append-drop}
-use Rattle.std.proofs.lemmas.List.Elements.{All-nil, All-cons, All-tail, filter-append}
+use Rattle.std.proofs.lemmas.List.Elements.{All-nil, All-cons, filter-append}
 use Rattle.rk_types.specs.declared.lineage.Member.{Member}
 use Rattle.rk_types.specs.declared.range.Range.{Range}
 use Rattle.rk_entry.specs.declared.entry.Entry.{Entry}
@@ -13,9 +13,10 @@ use Rattle.rk_world.specs.declared.work.Mark.{Mark}
 use Rattle.rk_world.specs.Marks.{is_marked, unmarked, unmarked_from}
 use Rattle.rk_world.specs.Master.{touches}
 use Rattle.rk_world.specs.Material.{counting, material_of, named, named_by, side_entries, with_number}
-use Rattle.rk_world.specs.Written.{Written, applied_entries, member_material, member_rest, member_truth}
+use Rattle.rk_world.specs.Written.{Written, applied_entries, member_rest, member_truth}
 use Rattle.rk_sound.specs.Rest.{IsDone}
-use Rattle.rk_laws_parts.proofs.Missed.{Misses, all_names_none, counting_none, drop_missed, material_none, take_missed, unmarked_missed}
+use Rattle.rk_laws_parts.proofs.Missed.{Misses, all_names_none, counting_none, drop_missed, material_none, unmarked_missed}
+use Rattle.rk_laws_lineage.proofs.Among.{first_all, later_all}
 
 -- where none passes a test, each does not
 pub each_misses : (range : Range) (list : List Entry) → list_any (touches range) list ≡ false → All (Misses range) list
@@ -23,19 +24,6 @@ each_misses range [] none = All-nil (Misses range)
 each_misses range (entry ∷ list) none =
     let parts = or_parts (touches range entry) (list_any (touches range) list) none in
     All-cons (Misses range) entry list parts.0 (each_misses range list parts.1)
-
--- what misses a range from a place on does so from a later one, and so does a first part
-pub later_missed : (range : Range) (n m : ℕ) (list : List Entry) → n ≤ m → All (Misses range) (drop n list) → All (Misses range) (drop m list)
-later_missed range zero m list behind all = drop_missed range m list all
-later_missed range (suc n) zero list behind all = absurd (omega (arith, behind))
-later_missed range (suc n) (suc m) [] behind all = all
-later_missed range (suc n) (suc m) (entry ∷ list) behind all = later_missed range n m list (omega (arith, behind)) all
-
-pub first_missed : (range : Range) (n m : ℕ) (list : List Entry) → All (Misses range) (drop n list) → All (Misses range) (drop n (take m list))
-first_missed range zero m list all = take_missed range m list all
-first_missed range (suc n) zero list all = All-nil (Misses range)
-first_missed range (suc n) (suc m) [] all = all
-first_missed range (suc n) (suc m) (entry ∷ list) all = first_missed range n m list all
 
 -- ---- more that misses a range tells nothing more of it
 
@@ -50,15 +38,18 @@ drop_more range zero list more missed = record { more = more; parts = refl; miss
 drop_more range (suc n) [] more missed = record { more = drop (suc n) more; parts = refl; missed = drop_missed range (suc n) more missed }
 drop_more range (suc n) (entry ∷ list) more missed = drop_more range n list more missed
 
+-- the first of them goes or stays in both
+first_kept : (range : Range) (gone : Bool) (entry : Entry) (short long : List Entry) → HasMissed range short long → HasMissed range (cond gone short (entry ∷ short)) (cond gone long (entry ∷ long))
+first_kept range true entry short long has = has
+first_kept range false entry short long has =
+    record { more = has.more; parts = ap (λ (l : List Entry). entry ∷ l) has.parts; missed = has.missed }
+
 unmarked_more : (range : Range) (marks : List Mark) (place : ℕ) (list more : List Entry) → All (Misses range) more → HasMissed range (unmarked marks place list) (unmarked marks place (list ++ more))
 unmarked_more range marks place [] more missed =
     record { more = unmarked marks place more; parts = refl; missed = unmarked_missed range marks place more missed }
 unmarked_more range marks place (entry ∷ list) more missed =
-    go (is_marked marks place) (unmarked_more range marks (suc place) list more missed)
-  where
-    go : (b : Bool) → HasMissed range (unmarked marks (suc place) list) (unmarked marks (suc place) (list ++ more)) → HasMissed range (cond b (unmarked marks (suc place) list) (entry ∷ unmarked marks (suc place) list)) (cond b (unmarked marks (suc place) (list ++ more)) (entry ∷ unmarked marks (suc place) (list ++ more)))
-    go true later = later
-    go false later = record { more = later.more; parts = ap (λ (l : List Entry). entry ∷ l) later.parts; missed = later.missed }
+    first_kept range (is_marked marks place) entry (unmarked marks (suc place) list) (unmarked marks (suc place) (list ++ more))
+    (unmarked_more range marks (suc place) list more missed)
 
 from_more : (range : Range) (marks : List Mark) (from : ℕ) (list more : List Entry) → All (Misses range) more → HasMissed range (unmarked_from marks from list) (unmarked_from marks from (list ++ more))
 from_more range marks from list more missed =
@@ -92,7 +83,7 @@ done_settled written range member some settled =
       rest =
           counting_none range (unmarked_from w.marks (max member.from w.applied) w.entries) some
           (unmarked_missed range w.marks (max member.from w.applied) (drop (max member.from w.applied) w.entries)
-          (later_missed range w.applied (max member.from w.applied) w.entries (omega arith) missed));
+          (later_all (Misses range) w.applied (max member.from w.applied) w.entries (omega arith) missed));
       all =
           ap (λ (l : List Entry). material_of range (side_entries w.sides) (unmarked_from w.marks member.from l))
           (sym (take-append-drop w.applied w.entries))
@@ -112,13 +103,13 @@ module _ (written : ℕ → Written) (range : Range) (member : Member) (some : r
   pub truth_none : member_truth written range member ≡ []
   truth_none =
       material_none range (side_entries w.sides) (unmarked_from w.marks member.from (applied_entries w)) some
-      (unmarked_missed range w.marks member.from (drop member.from (applied_entries w)) (first_missed range member.from w.applied w.entries missed))
+      (unmarked_missed range w.marks member.from (drop member.from (applied_entries w)) (first_all (Misses range) member.from w.applied w.entries missed))
 
   pub rest_none : member_rest written range member ≡ []
   rest_none =
       counting_none range (unmarked_from w.marks (max member.from w.applied) w.entries) some
       (unmarked_missed range w.marks (max member.from w.applied) (drop (max member.from w.applied) w.entries)
-      (later_missed range member.from (max member.from w.applied) w.entries (omega arith) missed))
+      (later_all (Misses range) member.from (max member.from w.applied) w.entries (omega arith) missed))
 
   pub names_none : named range (unmarked_from w.marks member.from w.entries) ≡ []
   names_none =
