@@ -110,7 +110,7 @@ module _ (v : View) (a : Applying v) where
       ⊎_elim (λ (is : a.end ≡ end). is) (λ (none : Contains [] end). absurd (none_stands end none))
       (stands_cases a.end [] end (subst (λ (l : List Ended). Contains l end) a.ended.tells at))
 
-  tells_it : Contains (told_by (entry v a)) a.end
+  pub tells_it : Contains (told_by (entry v a)) a.end
   tells_it = subst (λ (l : List Ended). Contains l a.end) (sym a.ended.tells) (first_stands a.end [])
 
   -- no mutation of its client has its seq

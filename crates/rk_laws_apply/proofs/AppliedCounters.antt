@@ -69,6 +69,7 @@ low_inserted range map call (entries.Held held) old now own put low table key wi
     was =
         let before : last_version (map table key) < floor_of (of_key table key old) = low table key within in
         let grows = key_floor (entries.Held held) old now put table key in omega (arith, before, grows)
+
     go : (here : Bool) → (eqb table call.table && bytes_eq key call.key) ≡ here
         → last_version (cond here (map_entry_of held held.value) (map table key)) < floor_of (of_key table key now)
     go false is = was

@@ -78,9 +78,11 @@ module _ (v : View) (a : Applying v) where
   entry_within : IsEntryWithin v.rows (entry v a)
   entry_within =
       let w = v.written a.master in
-      All-contains (IsEntryWithin v.rows) w.entries (entry v a) (a.sound.cover.entries a.master)
-      (w.applied, slice_get_within w.entries w.applied (entry v a) a.waits.stands,
-      get_or_from_slice_get w.entries w.applied (entry v a) (entry v a) a.waits.stands)
+      All-contains (IsEntryWithin v.rows) w.entries (entry v a) (a.sound.cover.entries a.master) (
+        w.applied,
+        slice_get_within w.entries w.applied (entry v a) a.waits.stands,
+        get_or_from_slice_get w.entries w.applied (entry v a) (entry v a) a.waits.stands,
+      )
 
   pub cover : CoverOf (after v a)
   cover = record {

@@ -97,6 +97,7 @@ module _ (base : Base) (journal : List Placed) (asked : ℕ → Option LastCall)
       All-front (end ∷ front) back all =
           All-cons (λ (end : Ended). end.client ≢ new.call.client) end front (All-head (λ (end : Ended). end.client ≢ new.call.client) end (front ++ back) all)
           (All-front front back (All-tail (λ (end : Ended). end.client ≢ new.call.client) end (front ++ back) all))
+
       All-back : (front back : List Ended) → All (λ end. end.client ≢ new.call.client) (front ++ back) → All (λ end. end.client ≢ new.call.client) back
       All-back [] back all = all
       All-back (end ∷ front) back all = All-back front back (All-tail (λ (end : Ended). end.client ≢ new.call.client) end (front ++ back) all)
@@ -122,6 +123,7 @@ module _ (base : Base) (journal : List Placed) (asked : ℕ → Option LastCall)
     where
       one : (end : Ended) → end.client ≢ call.client → All (λ end. end.client ≢ call.client) (end ∷ [])
       one end other = All-cons (λ (end : Ended). end.client ≢ call.client) end [] other (All-nil (λ (end : Ended). end.client ≢ call.client))
+
       at : (entry : Entry) → counts range entry ≡ true → IsStaged base asked journal entry → All (λ end. end.client ≢ call.client) (call_end entry)
       at (entries.Held held) inside staged = one (item_end held) (other_client its staged.last inside)
       at (entries.Refused refused) inside staged = one (refusal_end refused) (other_client its staged inside)

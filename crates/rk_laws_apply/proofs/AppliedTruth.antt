@@ -204,6 +204,7 @@ module _ (v : View) (a : Applying v) where
           where
             inside_row : counts (its_row v a).range (entry v a) ≡ true
             inside_row = inside v a
+
         of_handed : (handed : Option Handed)
             → IfSome (option_map (λ h. beginning_in (its_row v a) h ∷ member_truth v.written (its_row v a).range (at_target target dfrom)) handed) (Old (its_row v a))
             → IfSome (option_map (λ h. beginning_in (its_row v a) h ∷ member_truth (after v a).written (its_row v a).range (at_target target dfrom)) handed) (New (its_row v a))

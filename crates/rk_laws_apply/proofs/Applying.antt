@@ -136,7 +136,7 @@ pub record Applying (v : View) : Type 0 where
   pub ended : IsCallEnd call waits.entry end
 
 -- so it is where the entry may be applied
-pub applying : (v : View) (master : ℕ) (call : Call) → SoundView v → MayApplyCall v master call → Applying v
+abbrev pub applying : (v : View) (master : ℕ) (call : Call) → SoundView v → MayApplyCall v master call → Applying v
 applying v master call sound may =
     let waits = sound.rest.waiting master may.held.lives (v.written master).applied call may.waits in
     let ended = call_ended call waits.entry waits.own in

@@ -14,3 +14,5 @@ pub mod TargetApplied
 pub mod AppliedReceives
 pub mod AppliedMessages
 pub mod MergedEnds
+pub mod AppliedRebuilds
+pub mod CallApplied

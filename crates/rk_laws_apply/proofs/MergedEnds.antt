@@ -217,7 +217,7 @@ placed_somewhere all (ends ∷ members) g free at =
 -- ---- what was merged
 
 -- what a function makes of an element stands among what it makes
-mapped : {X Y : Type 0} (f : X → Y) (xs : List X) (x : X) → Contains xs x → Contains (map f xs) (f x)
+pub mapped : {X Y : Type 0} (f : X → Y) (xs : List X) (x : X) → Contains xs x → Contains (map f xs) (f x)
 mapped f [] x at = absurd (none_stands x at)
 mapped {X} {Y} f (first ∷ xs) x at =
     ⊎_elim (λ (same : first ≡ x). subst (λ (y : X). Contains (map f (first ∷ xs)) (f y)) same (first_stands (f first) (map f xs)))

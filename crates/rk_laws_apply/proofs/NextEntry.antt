@@ -1,10 +1,10 @@
 -- What counts for a range of a log, of which one more entry is applied: the next one, which bears no mark.
 use Rattle.std.proofs.Common.{◌≡◌, ℕ, zero, suc, ◌+◌, ◌-◌, ◌≤◌, ◌<◌, max, Bool, true, false, cond, ◌||◌, List, [], ◌∷◌, ◌++◌, Some, refl, sym, ap, ◌∙◌, subst, ⊎_elim, arith, append_assoc, length, drop, take, filter}
 use Rattle.std.specs.Prelude.{slice_get}
-use Rattle.std.specs.List.{flat_map, list_any}
+use Rattle.std.specs.List.{Contains, flat_map, list_any}
 use Rattle.std.proofs.lemmas.Bool.{cases_lt, cases_Bool}
-use Rattle.std.proofs.lemmas.List.{drop-append-le, drop-drop, drop_more, length-take-le, take_more}
-use Rattle.std.proofs.lemmas.List.Elements.{filter-append}
+use Rattle.std.proofs.lemmas.List.{drop-append-le, drop-drop, drop_more, length-take-le, take-append-drop, take_more}
+use Rattle.std.proofs.lemmas.List.Elements.{Contains-push, filter-append}
 use Rattle.std.proofs.lemmas.Option.{get_or_from_slice_get, slice_get_within}
 use Rattle.rk_types.specs.declared.held.Held.{Held}
 use Rattle.rk_types.specs.declared.range.Range.{Range}
@@ -13,6 +13,7 @@ use Rattle.rk_table.proofs.Ordered.{filter_kept, filter_left_out}
 use Rattle.rk_world.specs.declared.work.Mark.{Mark}
 use Rattle.rk_world.specs.Marks.{is_marked, unmarked, unmarked_from}
 use Rattle.rk_world.specs.Material.{counting, counts, log_material, material_of, named, named_by, side_entries}
+use Rattle.rk_laws_parts.proofs.Grows.{Extends, counting_extends, still_contains}
 use Rattle.rk_laws_parts.proofs.Shares.{append_nil, drop_none, material_outside, named_same, unless_marked, unmarked_from_last}
 use Rattle.rk_laws_apply.proofs.Inserted.{IsInserted, inserted_before, inserted_kept, inserted_last}
 
@@ -26,6 +27,7 @@ none_fewer p count xs none =
     either : (a b : Bool) → (a || b) ≡ false → b ≡ false
     either true b is = absurd (cc is)
     either false b is = is
+
     tail : (xs : List _) → list_any p xs ≡ false → list_any p (drop 1 xs) ≡ false
     tail [] none = refl
     tail (x ∷ xs) none = either (p x) (list_any p xs) none
@@ -149,6 +151,24 @@ module _ (range : Range) (list : List Entry) (place : ℕ) (entry : Entry) (stan
       ap (material_of range side) (drop-append-le from (take place list) (entry ∷ []) before)
       ∙ material_beside range side (drop from (take place list)) entry names outside)
       (cases_lt (length (take place list)) from)
+
+  -- of all that is written it counts, too
+  pub counted_next : (marks : List Mark) (from : ℕ) → counts range entry ≡ true → is_marked marks place ≡ false → from ≤ place → Contains (counting range (unmarked_from marks from list)) entry
+  counted_next marks from inside free behind =
+      let size : length (take place list) ≡ place = length_first list place entry stands in
+      let before : List Entry = unmarked_from marks from (take place list) in
+      let first : List Entry = take (place + 1) list in
+      let here : unmarked_from marks from first ≡ before ++ entry ∷ [] =
+      ap (unmarked_from marks from) (taken_next list place entry stands)
+      ∙ unmarked_from_last marks from (take place list) entry (omega (arith, behind, size))
+      ∙ ap (λ (n : ℕ). before ++ unless_marked (is_marked marks n) entry) size
+      ∙ ap (λ (b : Bool). before ++ unless_marked b entry) free in
+      let counted : counting range (unmarked_from marks from first) ≡ counting range before ++ entry ∷ [] =
+      ap (counting range) here ∙ filter-append (counts range) before (entry ∷ [])
+      ∙ ap (λ (l : List Entry). counting range before ++ l) (filter_kept (counts range) entry [] inside) in
+      still_contains (counting range (unmarked_from marks from first)) (counting range (unmarked_from marks from list)) entry
+      (counting_extends range marks from first list (record { more = drop (place + 1) list; parts = sym (take-append-drop (place + 1) list) }))
+      (subst (λ (l : List Entry). Contains l entry) (sym counted) (Contains-push (counting range before) entry))
 
   -- ---- what is not applied
 

@@ -22,10 +22,30 @@ use Rattle.rk_laws_apply.proofs.ItemPut.{found_with, item_cases, item_counts, it
 use Rattle.rk_laws_apply.proofs.NextEntry.{none_fewer, own_beside, own_more}
 
 -- own items, with those of an entry where it counts
-record HasOwn (range : Range) (entry : Entry) (own now : List Held) : Type 0 where
-  still : (x : Held) → Contains own x → Contains now x
-  new : counts range entry ≡ true → (x : Held) → Contains (items_in entry) x → Contains now x
-  cases : (x : Held) → Contains now x → Contains (items_in entry) x ⊎ Contains own x
+pub record HasOwn (range : Range) (entry : Entry) (own now : List Held) : Type 0 where
+  pub still : (x : Held) → Contains own x → Contains now x
+  pub new : counts range entry ≡ true → (x : Held) → Contains (items_in entry) x → Contains now x
+  pub cases : (x : Held) → Contains now x → Contains (items_in entry) x ⊎ Contains own x
+
+-- so they are of entries with that entry, or of the same ones
+pub has_own : (range : Range) (entry : Entry) (own now : List Entry) → (counts range entry ≡ true → IsInserted entry own now) → (counts range entry ≡ false → now ≡ own) → HasOwn range entry (items_of own) (items_of now)
+has_own range entry own now more same =
+    ⊎_elim
+    (λ (inside : counts range entry ≡ true).
+    let put : IsInserted entry own now = more inside in
+    record {
+      still = told_still entry own now put items_in;
+      new = λ _. told_new entry own now put items_in;
+      cases = told_cases entry own now put items_in;
+    })
+    (λ (outside : counts range entry ≡ false).
+    let is : now ≡ own = same outside in
+    record {
+      still = λ x at. subst (λ (l : List Entry). Contains (items_of l) x) (sym is) at;
+      new = λ inside x at. absurd (false≢true (sym outside ∙ inside));
+      cases = λ x at. inr (subst (λ (l : List Entry). Contains (items_of l) x) is at);
+    })
+    (cases_Bool (counts range entry))
 
 -- what has been received, with the entry among the own ones and in the records
 received_with : (Arrived : Held → Type 0) (range : Range) (entry : Entry) (items own now sides records : List Held) → IsInScanOrder records → HasOwn range entry own now → IsReceived Arrived range items own sides records → IsReceived Arrived range items now sides (with_item_of entry records)
@@ -56,31 +76,14 @@ received_with Arrived range entry items own now sides records order has old = re
 }
 
 module _ (range : Range) (w : Written) (entry : Entry) (stands : slice_get w.entries w.applied ≡ Some entry) (names : named_by range entry ≡ []) (from : ℕ) where
-  -- a log with one more entry applied
-  abbrev pub one_more : Written
-  one_more = record w { applied = w.applied + 1 }
-
   own_with : (counts range entry ≡ true → from ≤ w.applied) → HasOwn range entry (items_of (entries_from range from (applied_entries w))) (items_of (entries_from range from (take (w.applied + 1) w.entries)))
   own_with behind =
-      let own : List Entry = entries_from range from (applied_entries w) in
-      let now : List Entry = entries_from range from (take (w.applied + 1) w.entries) in
-      ⊎_elim
-      (λ (inside : counts range entry ≡ true).
-      let put : IsInserted entry own now =
-      subst (IsInserted entry own) (sym (own_more range w.entries w.applied entry stands names from inside (behind inside))) (inserted_last entry own) in
-      record {
-        still = told_still entry own now put items_in;
-        new = λ _. told_new entry own now put items_in;
-        cases = told_cases entry own now put items_in;
-      })
-      (λ (outside : counts range entry ≡ false).
-      let same : now ≡ own = own_beside range w.entries w.applied entry stands names from outside in
-      record {
-        still = λ x at. subst (λ (l : List Entry). Contains (items_of l) x) (sym same) at;
-        new = λ inside x at. absurd (false≢true (sym outside ∙ inside));
-        cases = λ x at. inr (subst (λ (l : List Entry). Contains (items_of l) x) same at);
-      })
-      (cases_Bool (counts range entry))
+      has_own range entry (entries_from range from (applied_entries w)) (entries_from range from (take (w.applied + 1) w.entries))
+      (λ inside.
+      subst (IsInserted entry (entries_from range from (applied_entries w)))
+      (sym (own_more range w.entries w.applied entry stands names from inside (behind inside)))
+      (inserted_last entry (entries_from range from (applied_entries w))))
+      (λ outside. own_beside range w.entries w.applied entry stands names from outside)
 
   pub target_applied : (source : ℕ) (truth material : List Entry) (handover : Handover) (pulling : Pulling) (handed : Option Handed) (records : List Held) → IsInScanOrder records → (counts range entry ≡ true → from ≤ w.applied)
       → IsTarget range source truth material from w handover pulling handed records
