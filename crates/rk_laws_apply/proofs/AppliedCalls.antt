@@ -1,9 +1,8 @@
 -- The ends of calls once the entry of a call is applied: whoever may be asked for the call again knows its end.
-use Rattle.std.proofs.Common.{◌≡◌, ℕ, suc, ◌+◌, ◌≤◌, ◌<◌, Bool, true, false, ◌&&◌, List, [], ◌∷◌, ◌++◌, Option, Some, None, refl, sym, ap, ◌∙◌, subst, ⊎_elim, inl, inr, ◌⊎◌, arith, length}
-use Rattle.std.specs.Prelude.{◌≢◌, slice_index_or, slice_get, IfSome, if◌then◌else◌}
+use Rattle.std.proofs.Common.{◌≡◌, ℕ, ◌<◌, true, false, List, [], ◌∷◌, Option, Some, None, refl, sym, ap, ◌∙◌, subst, ⊎_elim, inl, inr, ◌⊎◌, arith, length}
+use Rattle.std.specs.Prelude.{◌≢◌, slice_index_or, slice_get, IfSome}
 use Rattle.std.specs.List.{All, Contains}
 use Rattle.std.proofs.lemmas.Bool.{and_from, cases_Bool, cond-false, eq-eqb, false≢true}
-use Rattle.std.proofs.lemmas.List.Concat.{flat_map-append}
 use Rattle.std.proofs.lemmas.List.Elements.{All-contains, All-head, All-push, All-tail, All-weaker, Contains-append_cases, Contains-append_left, Contains-append_right, Contains-get_or, Contains-push}
 use Rattle.std.proofs.lemmas.List.Folds.{list_any_at}
 use Rattle.std.proofs.lemmas.Option.{get_or_from_slice_get, IfSome_then, slice_get_within}
@@ -11,7 +10,6 @@ use Rattle.rk_types.specs.NumberMap.{get}
 use Rattle.rk_types.specs.declared.call.Call.{Call}
 use Rattle.rk_types.specs.declared.call.Ended.{Ended}
 use Rattle.rk_types.specs.declared.history.Placed.{Placed}
-use Rattle.rk_types.specs.declared.range.Range.{Range}
 use Rattle.rk_model.specs.Merged.{is_mutation}
 use Rattle.rk_model.specs.Ordered.{AreOneMutation}
 use Rattle.rk_entry.specs.declared.entry.Entry.{Entry}
@@ -23,10 +21,9 @@ use Rattle.rk_tablet_map.specs.declared.row.Row.{Row}
 use Rattle.rk_world.specs.Base.{Base, ends_told}
 use Rattle.rk_world.specs.Coordinator.{Handed}
 use Rattle.rk_world.specs.Ends.{outcome_of, told, told_by}
-use Rattle.rk_world.specs.Journal.{has_record, is_of_mutation}
+use Rattle.rk_world.specs.Journal.{is_of_mutation}
 use Rattle.rk_world.specs.Lineage.{second_of}
 use Rattle.rk_world.specs.Material.{of_key, tells_of}
-use Rattle.rk_world.specs.Premises.{IsAfterStart}
 use Rattle.rk_world.specs.declared.ledger.LastCall.{LastCall}
 use Rattle.rk_sound.specs.Asked.{IsAccepted, IsLastCall, WasAsked}
 use Rattle.rk_sound.specs.Calls.{AreHandedOver, IsKnown, IsReached, IsRecorded, IsStagedEnd, ReachAll, Reaches, TellAll, is_record_in}

@@ -1,5 +1,5 @@
 -- The parts that see an applied entry and need little: each sentence holds as it did, or of the entry by what the call says.
-use Rattle.std.proofs.Common.{◌≡◌, ℕ, ◌+◌, ◌≤◌, ◌<◌, true, List, [], ◌∷◌, ◌++◌, Option, Some, None, refl, sym, ap, ◌∙◌, subst, ⊎_elim, inl, inr, ◌⊎◌, arith}
+use Rattle.std.proofs.Common.{◌≡◌, ℕ, ◌≤◌, ◌<◌, true, List, [], ◌∷◌, Option, Some, None, refl, sym, ap, ◌∙◌, subst, ⊎_elim, inl, inr, arith}
 use Rattle.std.specs.Prelude.{slice_get, slice_index_or, length, IfSome}
 use Rattle.std.specs.List.{All, Contains}
 use Rattle.std.proofs.lemmas.List.Elements.{All-cons, All-contains, All-nil, All-push, All-weaker, Contains-get_or}
@@ -24,7 +24,7 @@ use Rattle.rk_sound.specs.Asked.{AreOneAccepted, IsLastCall, WasAsked}
 use Rattle.rk_sound.specs.View.{View, truths, rests}
 use Rattle.rk_sound.specs.Whole.{AskedOf, CoverOf, LogsOf, OrderOf, RolesOf, RowsOf}
 use Rattle.rk_laws_parts.proofs.Cover.{covered_by}
-use Rattle.rk_laws_parts.proofs.Lists.{all_by, all_in}
+use Rattle.rk_laws_parts.proofs.Lists.{all_by}
 use Rattle.rk_laws_parts.proofs.MoreRecords.{asked_still, got_cases, is_request_still, request_says_still}
 use Rattle.rk_laws_parts.proofs.Records.{newer_cases}
 use Rattle.rk_laws_apply.specs.Small.{with_item_of}

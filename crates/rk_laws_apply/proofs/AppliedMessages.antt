@@ -1,21 +1,19 @@
 -- What messages say once the entry of a call is applied: a report of an applied entry says so still, and no source whose items are pulled,
 -- or that told its ends, is the master.
-use Rattle.std.proofs.Common.{◌≡◌, ℕ, ◌+◌, ◌≤◌, ◌<◌, Bool, true, false, List, [], ◌∷◌, ◌++◌, Option, Some, None, refl, sym, ap, ◌∙◌, subst, ⊎_elim, arith, length, take, ◌⊎◌}
+use Rattle.std.proofs.Common.{◌≡◌, ℕ, ◌≤◌, ◌<◌, false, List, [], ◌∷◌, Some, refl, sym, ap, ◌∙◌, subst, arith}
 use Rattle.std.specs.Prelude.{slice_index_or}
-use Rattle.std.specs.List.{All, Contains, flat_map}
+use Rattle.std.specs.List.{Contains, flat_map}
 use Rattle.std.proofs.lemmas.Bool.{false≢true}
 use Rattle.std.proofs.lemmas.List.Elements.{Contains-get_or}
 use Rattle.rk_types.specs.declared.call.Ended.{Ended}
 use Rattle.rk_types.specs.declared.lineage.Member.{Member}
 use Rattle.rk_types.specs.declared.node.Node.{Node}
-use Rattle.rk_types.specs.declared.node.Node.TheVariants as nodes
 use Rattle.rk_outside.specs.Segments.{bytes_of as copied_bytes}
 use Rattle.rk_entry.specs.declared.entry.Entry.{Entry}
 use Rattle.rk_log.specs.Log.{known_of}
 use Rattle.rk_log.specs.declared.ends.EntryEnd.{EntryEnd}
 use Rattle.rk_table.specs.Items.{at_hash}
 use Rattle.rk_table.specs.Scans.{batch_at, next_token}
-use Rattle.rk_done.specs.Completions.{Completions}
 use Rattle.rk_transfer.specs.declared.handover.Handover.{Handover}
 use Rattle.rk_transfer.specs.declared.role.Role.{Role}
 use Rattle.rk_transfer.specs.declared.role.Role.TheVariants as roles
@@ -31,11 +29,10 @@ use Rattle.rk_message.specs.declared.pulling.Got.{Got}
 use Rattle.rk_message.specs.declared.pulling.Pulled.{Pulled}
 use Rattle.rk_message.specs.declared.rebuilding.CopySegment.{CopySegment}
 use Rattle.rk_message.specs.declared.rebuilding.Rebuilt.{Rebuilt}
-use Rattle.rk_world.specs.Material.{as_entries, counts}
+use Rattle.rk_world.specs.Material.{as_entries}
 use Rattle.rk_world.specs.RoleTests.{may_have_staged}
-use Rattle.rk_world.specs.Written.{Written, member_truth}
 use Rattle.rk_sound.specs.Logs.{stored_of}
-use Rattle.rk_sound.specs.Messages.{CopyIn, GotAgrees, HasJoined, HasRebuilt, IfMaster, IsFromSource, IsOf, JoinedIn, PulledAgrees, RebuiltIn, SaysOf, TransferIn}
+use Rattle.rk_sound.specs.Messages.{CopyIn, GotAgrees, HasJoined, HasRebuilt, IsFromSource, IsOf, JoinedIn, PulledAgrees, RebuiltIn, SaysOf, TransferIn}
 use Rattle.rk_sound.specs.Rebuilds.{NeededOf, READ_BACKUP}
 use Rattle.rk_sound.specs.Receives.{scan_items}
 use Rattle.rk_sound.specs.Rows.{AreApart}
@@ -45,7 +42,7 @@ use Rattle.rk_laws_parts.proofs.Messages.{by_master, if_master}
 use Rattle.rk_laws_parts.proofs.MoreRecords.{says_still}
 use Rattle.rk_laws_parts.proofs.Needed.{part_weaker}
 use Rattle.rk_laws_apply.specs.Small.{with_one_applied}
-use Rattle.rk_laws_apply.proofs.Applying.{Applying, after, apart_in, applied_grows, entry, first_apart, its_row, its_speaker, new, of_completions, same_row, truth_same}
+use Rattle.rk_laws_apply.proofs.Applying.{Applying, after, apart_in, applied_grows, first_apart, new, of_completions, truth_same}
 
 -- ---- reports
 

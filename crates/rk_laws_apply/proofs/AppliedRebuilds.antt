@@ -1,22 +1,20 @@
 -- What rebuilds have once the entry of a call is applied: where the master rebuilds its own row, one more of its own entries is found in
 -- its records, and what it merged has the end of the call already.
-use Rattle.std.proofs.Common.{◌≡◌, ℕ, ◌+◌, ◌≤◌, ◌<◌, Bool, true, false, cond, List, [], ◌∷◌, ◌++◌, Option, Some, None, refl, sym, ap, ◌∙◌, subst, ⊎_elim, inl, inr, ◌⊎◌, arith, drop, map, take}
-use Rattle.std.specs.Prelude.{◌==◌, IfSome, if◌then◌else◌, slice_get, slice_index_or}
-use Rattle.std.specs.List.{All, Contains, flat_map, list_any}
-use Rattle.std.proofs.lemmas.Bool.{cases_Bool, cond-false, cond-true, eq-eqb, eqb-true, false≢true, ne_eqb}
-use Rattle.std.proofs.lemmas.List.Elements.{All-contains, Contains-append_left, Contains-get_or}
+use Rattle.std.proofs.Common.{◌≡◌, ℕ, ◌+◌, ◌≤◌, ◌<◌, true, cond, List, [], ◌∷◌, Option, Some, None, refl, sym, ap, ◌∙◌, subst, ⊎_elim, inl, inr, arith, map}
+use Rattle.std.specs.Prelude.{◌==◌, if◌then◌else◌, slice_index_or}
+use Rattle.std.specs.List.{Contains, flat_map}
+use Rattle.std.proofs.lemmas.Bool.{cond-false, cond-true, eq-eqb, eqb-true, false≢true, ne_eqb}
+use Rattle.std.proofs.lemmas.List.Elements.{Contains-append_left, Contains-get_or}
 use Rattle.std.proofs.lemmas.List.Folds.{Any-from_list_any}
 use Rattle.std.proofs.lemmas.Option.{IfSome_then}
-use Rattle.rk_types.specs.declared.call.Ended.{Ended}
 use Rattle.rk_types.specs.declared.held.Held.{Held}
 use Rattle.rk_types.specs.declared.lineage.Member.{Member}
 use Rattle.rk_types.specs.declared.range.Range.{Range}
 use Rattle.rk_entry.specs.declared.entry.Entry.{Entry}
 use Rattle.rk_log.specs.Log.{known_of}
 use Rattle.rk_log.specs.declared.ends.EntryEnd.{EntryEnd}
-use Rattle.rk_table.specs.Items.{is_in}
 use Rattle.rk_table.specs.Order.{IsInScanOrder}
-use Rattle.rk_done.specs.Completions.{Completions, completions_from, noted}
+use Rattle.rk_done.specs.Completions.{Completions, completions_from}
 use Rattle.rk_transfer.specs.declared.handover.Handover.{Handover}
 use Rattle.rk_transfer.specs.declared.role.Role.{Role}
 use Rattle.rk_transfer.specs.declared.role.Role.TheVariants as roles
@@ -36,8 +34,7 @@ use Rattle.rk_world.specs.Rebuilds.{own_place}
 use Rattle.rk_world.specs.Written.{Written, member_material}
 use Rattle.rk_sound.specs.Logs.{stored_of}
 use Rattle.rk_sound.specs.Posts.{Bystander, FormerMember, LastRebuilder, OnlyRebuilder, FirstRebuilder, OutsideRebuilder, Holds, Post, bond_of, post_of, rebuilder_post}
-use Rattle.rk_sound.specs.Rebuilds.{IsMergedOf, IsPieceOf, IsRebuildTable, IsRebuilder, MarkFits, MarkedFit, NeededOf, READ_BACKUP, RowIsRebuilt, applied_from, merged_place}
-use Rattle.rk_sound.specs.Receives.{IsFound, named_items}
+use Rattle.rk_sound.specs.Rebuilds.{IsPieceOf, IsRebuildTable, IsRebuilder, MarkFits, MarkedFit, NeededOf, READ_BACKUP, RowIsRebuilt, applied_from, merged_place}
 use Rattle.rk_sound.specs.Rows.{AreApart}
 use Rattle.rk_sound.specs.View.{View, truths}
 use Rattle.rk_sound.specs.Whole.{RebuildsOf}

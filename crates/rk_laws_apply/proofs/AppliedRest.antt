@@ -1,9 +1,9 @@
 -- What is staged once the entry of a call is applied: the others of its row go on behind its record, and those of other rows beside it.
-use Rattle.std.proofs.Common.{◌≡◌, ℕ, suc, ◌+◌, ◌≤◌, ◌<◌, max, Bool, true, false, ◌&&◌, ◌||◌, eqb, List, [], ◌∷◌, ◌++◌, Option, Some, None, refl, sym, ap, ◌∙◌, subst, ⊎_elim, inl, inr, ◌⊎◌, arith, append_assoc, filter, drop}
-use Rattle.std.specs.Prelude.{◌≢◌, slice_index_or, slice_get, IfSome}
-use Rattle.std.specs.List.{All, AllPairs, Contains, flat_map, list_any}
+use Rattle.std.proofs.Common.{◌≡◌, ℕ, suc, ◌+◌, ◌≤◌, max, Bool, true, false, ◌&&◌, ◌||◌, eqb, List, [], ◌∷◌, ◌++◌, Option, Some, None, refl, sym, ap, ◌∙◌, subst, arith, append_assoc, drop}
+use Rattle.std.specs.Prelude.{◌≢◌, slice_index_or}
+use Rattle.std.specs.List.{All, AllPairs, Contains, list_any}
 use Rattle.std.proofs.lemmas.Bool.{cond-false, false≢true, false_from_ne_true, ne_eqb}
-use Rattle.std.proofs.lemmas.List.Elements.{All-append, All-cons, All-contains, All-head, All-nil, All-tail, All-weaker, Contains-get_or, filter_passes}
+use Rattle.std.proofs.lemmas.List.Elements.{All-append, All-cons, All-head, All-nil, All-tail, All-weaker, Contains-get_or, filter_passes}
 use Rattle.std.proofs.lemmas.List.Folds.{list_any-append}
 use Rattle.rk_types.proofs.NumberMaps.{get_remove, get_removed, remove_less}
 use Rattle.rk_types.specs.NumberMap.{EachIn, NumberMap, get, remove}
@@ -19,12 +19,12 @@ use Rattle.rk_model.specs.History.{IsLegal, Map, is_at, map_after, map_with, rec
 use Rattle.rk_model.specs.Merged.{is_mutation}
 use Rattle.rk_entry.specs.declared.entry.Entry.{Entry}
 use Rattle.rk_entry.specs.declared.entry.Entry.TheVariants as entries
-use Rattle.rk_overlay.specs.Live.{live as live_items, record_of}
+use Rattle.rk_overlay.specs.Live.{record_of}
 use Rattle.rk_table.proofs.Ordered.{filter_left_out}
 use Rattle.rk_tablet_map.specs.Phase.{lineage_of}
 use Rattle.rk_tablet_map.specs.declared.row.Row.{Row}
 use Rattle.rk_world.specs.Base.{Base, base_map}
-use Rattle.rk_world.specs.Ends.{item_end, items_of, outcome_of, refusal_end}
+use Rattle.rk_world.specs.Ends.{item_end, outcome_of, refusal_end}
 use Rattle.rk_world.specs.Journal.{has_record, is_of_call, is_of_mutation}
 use Rattle.rk_world.specs.Marks.{unmarked_from}
 use Rattle.rk_world.specs.Master.{touches}
@@ -41,7 +41,7 @@ use Rattle.rk_laws_parts.proofs.MoreRecords.{known_still}
 use Rattle.rk_laws_parts.proofs.Shares.{none_of}
 use Rattle.rk_laws_apply.proofs.Inserted.{newest_inserted}
 use Rattle.rk_laws_apply.proofs.NextEntry.{none_fewer, none_from}
-use Rattle.rk_laws_apply.proofs.Applying.{Applying, after, allowed, apart_in, applied_grows, by_row, entry, first_apart, its_last, its_row, key_outside, legal_behind, lives, new, of_applied, of_calls, place, records_first, rest_same, same_call, truth_here, truth_same, was_rest}
+use Rattle.rk_laws_apply.proofs.Applying.{Applying, after, allowed, apart_in, applied_grows, by_row, entry, first_apart, its_last, its_row, key_outside, legal_behind, new, of_applied, of_calls, place, records_first, rest_same, truth_here, truth_same, was_rest}
 use Rattle.rk_laws_apply.proofs.AppliedTruth.{key_apart, legal_now, map_was, map_with_new, newest_here}
 
 -- ---- staged entries, with one more record

@@ -1,9 +1,9 @@
 -- The records of masters once the entry of a call is applied: whoever has all of a tablet has the newest of it still.
-use Rattle.std.proofs.Common.{◌≡◌, ℕ, ◌≤◌, ◌<◌, Option, Bool, true, false, cond, List, [], ◌∷◌, ◌++◌, Some, None, refl, sym, ap, ◌∙◌, subst, ⊎_elim, inl, inr, ◌⊎◌}
-use Rattle.std.specs.Prelude.{◌==◌, IfSome, if◌then◌else◌, slice_index_or}
-use Rattle.std.specs.List.{All, Contains}
+use Rattle.std.proofs.Common.{◌≡◌, ℕ, ◌≤◌, ◌<◌, Option, Bool, true, false, cond, List, [], ◌∷◌, ◌++◌, Some, None, refl, sym, ap, ◌∙◌, subst, ⊎_elim}
+use Rattle.std.specs.Prelude.{◌==◌, IfSome, slice_index_or}
+use Rattle.std.specs.List.{Contains}
 use Rattle.std.proofs.lemmas.Bool.{eqb-true}
-use Rattle.std.proofs.lemmas.List.Elements.{All-weaker, All-contains, Contains-append_left, Contains-get_or}
+use Rattle.std.proofs.lemmas.List.Elements.{All-weaker, All-contains, Contains-get_or}
 use Rattle.std.proofs.lemmas.Option.{IfSome_then}
 use Rattle.rk_types.specs.declared.held.Held.{Held}
 use Rattle.rk_types.specs.declared.lineage.Member.{Member}
@@ -27,7 +27,6 @@ use Rattle.rk_sound.specs.View.{View, truths}
 use Rattle.rk_sound.specs.Whole.{TablesOf}
 use Rattle.rk_laws_parts.proofs.Lists.{all_by}
 use Rattle.rk_laws_parts.proofs.Shares.{append_nil}
-use Rattle.rk_laws_apply.specs.Small.{with_item_of}
 use Rattle.rk_laws_apply.proofs.Inserted.{AreNewest}
 use Rattle.rk_laws_apply.proofs.ItemPut.{order_with, table_apart, table_inserted}
 use Rattle.rk_laws_apply.proofs.Applying.{Applying, after, apart_in, entry, inside, its_row, of_records, outside, place, row_cases, truth_grows, truth_same}

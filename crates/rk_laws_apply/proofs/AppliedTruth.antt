@@ -1,9 +1,9 @@
 -- The journal and the truths of rows once the entry of a call is applied: the call has its record, and the truth of its row the entry,
 -- which leave the same.
-use Rattle.std.proofs.Common.{◌≡◌, ℕ, ◌+◌, ◌≤◌, ◌<◌, max, Bool, true, false, ◌&&◌, eqb, List, [], ◌∷◌, ◌++◌, Option, Some, None, refl, sym, ap, ◌∙◌, subst, ⊎_elim, arith}
+use Rattle.std.proofs.Common.{◌≡◌, ℕ, ◌<◌, true, false, ◌&&◌, eqb, List, [], ◌∷◌, ◌++◌, Option, Some, None, refl, sym, ap, ◌∙◌, subst, ⊎_elim, arith}
 use Rattle.std.specs.Prelude.{bytes_eq, slice_index_or, IfSome}
 use Rattle.std.specs.Option.{option_map}
-use Rattle.std.specs.List.{All, Contains}
+use Rattle.std.specs.List.{Contains}
 use Rattle.std.proofs.lemmas.Bool.{cases_Bool, cond-true, cond-false, false≢true, false_from_ne_true}
 use Rattle.std.proofs.lemmas.List.Concat.{flat_map-append}
 use Rattle.std.proofs.lemmas.List.Elements.{All-contains, All-head, All-push, Contains-get_or}
@@ -13,11 +13,9 @@ use Rattle.rk_types.specs.declared.call.Outcome.{Outcome}
 use Rattle.rk_types.specs.declared.held.Held.{Held}
 use Rattle.rk_types.specs.declared.history.Placed.{Placed}
 use Rattle.rk_types.specs.declared.lineage.Member.{Member}
-use Rattle.rk_types.specs.declared.range.Range.{Range}
 use Rattle.rk_model.proofs.Histories.{legal_push, map_after-append}
 use Rattle.rk_model.proofs.Keys.{is_at_parts, map_with-other, name-swap}
 use Rattle.rk_model.specs.History.{IsLegal, Map, is_at, map_after, map_with, record_of as map_record_of, with_change, with_entry}
-use Rattle.rk_model.specs.Machine.{Entry as MapEntry}
 use Rattle.rk_entry.specs.declared.entry.Entry.{Entry}
 use Rattle.rk_entry.specs.declared.entry.Entry.TheVariants as entries
 use Rattle.rk_overlay.proofs.Bridges.{newest_is}

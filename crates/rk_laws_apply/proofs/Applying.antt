@@ -1,13 +1,12 @@
 -- The next entry of a master's log is applied, and a call ends with it: what is known of the call and of its row, and what stays as it
 -- was.
-use Rattle.std.proofs.Common.{◌≡◌, ℕ, ◌+◌, ◌≤◌, ◌<◌, max, Bool, true, false, List, [], ◌∷◌, ◌++◌, Option, Some, None, refl, sym, ap, ◌∙◌, subst, ⊎_elim, inl, inr, ◌⊎◌, arith, take}
+use Rattle.std.proofs.Common.{◌≡◌, ℕ, ◌+◌, ◌≤◌, max, Bool, true, false, List, [], ◌∷◌, ◌++◌, Option, Some, None, refl, sym, ap, ◌∙◌, subst, ⊎_elim, inl, inr, ◌⊎◌, arith, take}
 use Rattle.std.specs.Prelude.{slice_get, if◌then◌else◌}
-use Rattle.std.specs.List.{All, Contains, flat_map}
-use Rattle.std.proofs.lemmas.Bool.{cases_eq, false≢true}
+use Rattle.std.specs.List.{Contains, flat_map}
+use Rattle.std.proofs.lemmas.Bool.{cases_eq}
 use Rattle.std.proofs.lemmas.List.Elements.{All-contains, All-head}
 use Rattle.rk_types.specs.NumberMap.{NumberMap, remove}
 use Rattle.rk_types.specs.declared.call.Call.{Call}
-use Rattle.rk_types.specs.declared.call.End.{End}
 use Rattle.rk_types.specs.declared.call.End.TheVariants as ends
 use Rattle.rk_types.specs.declared.call.Ended.{Ended}
 use Rattle.rk_types.specs.declared.call.Op.{Op}
@@ -17,25 +16,24 @@ use Rattle.rk_types.specs.declared.held.Held.{Held}
 use Rattle.rk_types.specs.declared.history.Placed.{Placed}
 use Rattle.rk_types.specs.declared.lineage.Member.{Member}
 use Rattle.rk_types.specs.declared.range.Range.{Range}
-use Rattle.rk_model.specs.History.{IsLegal, Map, map_after, map_with}
+use Rattle.rk_model.specs.History.{IsLegal, map_after, map_with}
 use Rattle.rk_model.specs.Machine.{Allowed, Entry as MapEntry, change_of}
 use Rattle.rk_model.specs.Merged.{is_mutation}
 use Rattle.rk_model.proofs.Histories.{legal_back}
 use Rattle.rk_entry.specs.declared.entry.Entry.{Entry}
 use Rattle.rk_entry.specs.declared.entry.Entry.TheVariants as entries
 use Rattle.rk_done.specs.Completions.{Completions, noted}
-use Rattle.rk_transfer.specs.declared.handover.Handover.{Handover}
 use Rattle.rk_tablet_map.specs.Phase.{lineage_of}
 use Rattle.rk_tablet_map.specs.declared.row.Row.{Row}
 use Rattle.rk_world.specs.Base.{Base, base_map, map_entry_of}
-use Rattle.rk_world.specs.Ends.{end_of_refusal, item_end, outcome_of, refusal_end, told_by}
+use Rattle.rk_world.specs.Ends.{item_end, outcome_of, refusal_end, told_by}
 use Rattle.rk_world.specs.Journal.{has_record, next_record}
 use Rattle.rk_world.specs.Ranges.{has_key}
 use Rattle.rk_world.specs.Ledger.{seen_of}
 use Rattle.rk_world.specs.Lineage.{is_member, last_of}
 use Rattle.rk_world.specs.Marks.{is_marked, unmarked_from}
 use Rattle.rk_world.specs.Material.{counting, counts, log_material, named_by}
-use Rattle.rk_world.specs.RoleTests.{is_absent, may_have_staged}
+use Rattle.rk_world.specs.RoleTests.{may_have_staged}
 use Rattle.rk_world.specs.Written.{Written, lineage_rest, lineage_truth, member_rest, member_truth}
 use Rattle.rk_world.specs.declared.ledger.LastCall.{LastCall}
 use Rattle.rk_sound.specs.Posts.{StillCounts}
@@ -50,7 +48,7 @@ use Rattle.rk_laws_parts.proofs.Histories.{record_for}
 use Rattle.rk_laws_parts.proofs.InRest.{lineage_last}
 use Rattle.rk_laws_parts.proofs.Put.{put2_by, put_by}
 use Rattle.rk_laws_parts.proofs.Rebuilders.{last_member}
-use Rattle.rk_laws_parts.proofs.Shares.{append_nil, counts_call, names_call}
+use Rattle.rk_laws_parts.proofs.Shares.{counts_call, names_call}
 use Rattle.rk_laws_parts.proofs.Speakers.{speaker_of}
 use Rattle.rk_laws_apply.specs.Small.{MayApplyCall, call_applied, with_item_of}
 use Rattle.rk_laws_apply.proofs.Inserted.{IsInserted, inserted_before, inserted_behind}

@@ -1,37 +1,36 @@
 -- A lane stays sound when the next entry of a living master's log is applied and the call that waited for it ends: the item goes into the
 -- records, the tablet notes the end, and the call gets its record.
-use Rattle.std.proofs.Common.{◌≡◌, ℕ, ◌+◌, Bool, true, false, cond, not, ◌&&◌, eqb, List, [], ◌∷◌, ◌++◌, Option, Some, None, refl, sym, ap, ◌∙◌, subst, ⊎_elim, map, fold}
-use Rattle.std.specs.Prelude.{slice_get, if◌then◌else◌, unwrap_or}
+use Rattle.std.proofs.Common.{◌≡◌, ℕ, ◌+◌, Bool, true, false, cond, not, ◌&&◌, [], ◌∷◌, ◌++◌, Some, refl, sym, ap, ◌∙◌, subst, ⊎_elim, map}
+use Rattle.std.specs.Prelude.{slice_get, unwrap_or}
 use Rattle.std.specs.Ordering.{nat_cmp, eq_by_cmp}
-use Rattle.std.proofs.lemmas.Bool.{cases_Bool, cases_eq, cond-false, cond-true}
+use Rattle.std.proofs.lemmas.Bool.{cases_Bool, cond-false, cond-true}
 use Rattle.rk_types.specs.NumberMap.{NumberMap, get, get_or, remove}
 use Rattle.rk_types.specs.Range.{meets}
 use Rattle.rk_types.specs.declared.call.Call.{Call}
 use Rattle.rk_types.specs.declared.call.Ended.{Ended}
-use Rattle.rk_types.specs.declared.held.Held.{Held}
 use Rattle.rk_types.specs.declared.range.Range.{Range}
 use Rattle.rk_model.specs.Merged.{is_mutation}
 use Rattle.rk_entry.specs.declared.entry.Entry.{Entry}
 use Rattle.rk_entry.specs.declared.entry.Entry.TheVariants as entries
-use Rattle.rk_done.specs.Completions.{Completions, noted}
-use Rattle.rk_world.specs.Commits.{apply_entry, ended_call, noting, with_applied, with_ended, with_entry_item, with_noted, without_call}
-use Rattle.rk_world.specs.Ends.{outcome_of, told_by}
-use Rattle.rk_world.specs.Journal.{has_record, next_record}
-use Rattle.rk_world.specs.Ledger.{Ledger, asked_by, marks_of, seen_of, with_all_served, with_mutation, with_record, with_served}
+use Rattle.rk_done.specs.Completions.{noted}
+use Rattle.rk_world.specs.Commits.{apply_entry, ended_call, noting, with_applied, with_ended, with_entry_item}
+use Rattle.rk_world.specs.Ends.{outcome_of}
+use Rattle.rk_world.specs.Journal.{has_record}
+use Rattle.rk_world.specs.Ledger.{Ledger, asked_by, marks_of, seen_of, with_all_served, with_mutation, with_record}
 use Rattle.rk_world.specs.Master.{Master, tablet_at}
 use Rattle.rk_world.specs.Ranges.{has_key}
 use Rattle.rk_world.specs.RoleTests.{is_absent}
 use Rattle.rk_world.specs.Tablet.{Tablet, no_tablet}
 use Rattle.rk_world.specs.Worked.{Worked}
-use Rattle.rk_world.specs.Written.{Written, written_by}
+use Rattle.rk_world.specs.Written.{written_by}
 use Rattle.rk_world.specs.World.{World, log_in, master_at, tablet_in, with_ledger, with_master}
 use Rattle.rk_sound.specs.Small.{put, put2}
-use Rattle.rk_sound.specs.View.{View, view, truths, rests}
-use Rattle.rk_sound.specs.Whole.{IsSound, SoundParts, SoundView}
+use Rattle.rk_sound.specs.View.{View, view}
+use Rattle.rk_sound.specs.Whole.{IsSound, SoundView}
 use Rattle.rk_laws_parts.proofs.Apart.{key_outside}
 use Rattle.rk_laws_parts.proofs.Put.{put2_same, put_here, put_is, put_other, put_same}
-use Rattle.rk_laws_parts.proofs.Views.{changed_view, view_master}
-use Rattle.rk_laws_apply.specs.Small.{MayApplyCall, call_applied, entry_applied_in, with_item_of, with_one_applied, worked_in}
+use Rattle.rk_laws_parts.proofs.Views.{view_master}
+use Rattle.rk_laws_apply.specs.Small.{MayApplyCall, entry_applied_in, with_item_of, with_one_applied, worked_in}
 use Rattle.rk_laws_apply.proofs.Applying.{Applying, after, applying, entry, its_last, its_range, its_row, mutation, new}
 use Rattle.rk_laws_apply.proofs.Stagers.{staging_present}
 use Rattle.rk_laws_apply.proofs.AppliedFrames.{asked, cover, logs, order, roles, rows}

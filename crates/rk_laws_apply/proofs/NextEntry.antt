@@ -1,8 +1,8 @@
 -- What counts for a range of a log, of which one more entry is applied: the next one, which bears no mark.
-use Rattle.std.proofs.Common.{◌≡◌, ℕ, zero, suc, ◌+◌, ◌-◌, ◌≤◌, ◌<◌, max, Bool, true, false, cond, ◌||◌, List, [], ◌∷◌, ◌++◌, Some, refl, sym, ap, ◌∙◌, subst, ⊎_elim, arith, append_assoc, length, drop, take, filter}
+use Rattle.std.proofs.Common.{◌≡◌, ℕ, zero, suc, ◌+◌, ◌-◌, ◌≤◌, ◌<◌, max, Bool, true, false, cond, ◌||◌, List, [], ◌∷◌, ◌++◌, Some, refl, sym, ap, ◌∙◌, subst, ⊎_elim, arith, length, drop, take, filter}
 use Rattle.std.specs.Prelude.{slice_get}
 use Rattle.std.specs.List.{Contains, flat_map, list_any}
-use Rattle.std.proofs.lemmas.Bool.{cases_lt, cases_Bool}
+use Rattle.std.proofs.lemmas.Bool.{cases_lt}
 use Rattle.std.proofs.lemmas.List.{drop-append-le, drop-drop, drop_more, length-take-le, take-append-drop, take_more}
 use Rattle.std.proofs.lemmas.List.Elements.{Contains-push, filter-append}
 use Rattle.std.proofs.lemmas.Option.{get_or_from_slice_get, slice_get_within}
@@ -13,7 +13,7 @@ use Rattle.rk_table.proofs.Ordered.{filter_kept, filter_left_out}
 use Rattle.rk_world.specs.declared.work.Mark.{Mark}
 use Rattle.rk_world.specs.Marks.{is_marked, unmarked, unmarked_from}
 use Rattle.rk_world.specs.Material.{counting, counts, log_material, material_of, named, named_by, side_entries}
-use Rattle.rk_laws_parts.proofs.Grows.{Extends, counting_extends, still_contains}
+use Rattle.rk_laws_parts.proofs.Grows.{counting_extends, still_contains}
 use Rattle.rk_laws_parts.proofs.Shares.{append_nil, drop_none, material_outside, named_same, unless_marked, unmarked_from_last}
 use Rattle.rk_laws_apply.proofs.Inserted.{IsInserted, inserted_before, inserted_kept, inserted_last}
 

@@ -1,12 +1,10 @@
 -- Whose calls may be staged for a row: those of the one master that speaks for it. While that may have some, no grant is awaited, and no
 -- Transfer counts.
-use Rattle.std.proofs.Common.{◌≡◌, ℕ, Bool, true, false, ◌&&◌, cond, eqb, List, [], ◌∷◌, Option, Some, None, refl, sym, ap, subst, ◌∙◌, ⊎_elim}
-use Rattle.std.proofs.lemmas.Bool.{cases_eq, eqb-true, false≢true, and_left, and_right, cond-false}
-use Rattle.rk_types.specs.declared.call.Ended.{Ended}
+use Rattle.std.proofs.Common.{◌≡◌, ℕ, Bool, true, false, ◌&&◌, cond, eqb, List, [], ◌∷◌, Some, None, refl, sym, ap, ◌∙◌, ⊎_elim}
+use Rattle.std.proofs.lemmas.Bool.{cases_eq, eqb-true, false≢true, and_right, cond-false}
 use Rattle.rk_types.specs.declared.lineage.Member.{Member}
 use Rattle.rk_types.specs.declared.node.Node.{Node}
 use Rattle.rk_types.specs.declared.node.Node.TheVariants as nodes
-use Rattle.rk_done.specs.Completions.{Completions}
 use Rattle.rk_transfer.specs.declared.handover.Handover.{Handover}
 use Rattle.rk_transfer.specs.declared.role.Role.{Role}
 use Rattle.rk_transfer.specs.declared.role.Role.TheVariants as roles
@@ -19,7 +17,7 @@ use Rattle.rk_message.specs.declared.message.Body.{Body}
 use Rattle.rk_message.specs.declared.message.Body.TheVariants as bodies
 use Rattle.rk_world.specs.Coordinator.{Handed}
 use Rattle.rk_world.specs.Lineage.{last_of, second_of}
-use Rattle.rk_world.specs.RoleTests.{is_absent, is_frozen, is_idle, may_have_staged}
+use Rattle.rk_world.specs.RoleTests.{is_absent, is_idle, may_have_staged}
 use Rattle.rk_sound.specs.Rows.{AreApart}
 use Rattle.rk_sound.specs.Posts.{Post, InvitedTarget, ReadyTarget, MovingSource, FormerMember, Bystander, bond_of, post_of, Holds}
 use Rattle.rk_sound.specs.Roles.{RoleFits}

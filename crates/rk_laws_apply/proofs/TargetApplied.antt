@@ -1,12 +1,11 @@
 -- What a target has that pulls, once the next entry of its log is applied: one of its own, if it is of the range.
-use Rattle.std.proofs.Common.{◌≡◌, ℕ, ◌+◌, ◌≤◌, Bool, true, false, List, [], ◌∷◌, ◌++◌, Option, Some, refl, sym, ap, ◌∙◌, subst, ⊎_elim, inl, inr, ◌⊎◌, take, drop}
+use Rattle.std.proofs.Common.{◌≡◌, ℕ, ◌+◌, ◌≤◌, true, false, List, [], Option, Some, sym, ◌∙◌, subst, ⊎_elim, inl, inr, ◌⊎◌, take}
 use Rattle.std.specs.Prelude.{slice_get}
 use Rattle.std.specs.List.{Contains}
 use Rattle.std.proofs.lemmas.Bool.{cases_Bool, false≢true}
 use Rattle.rk_types.specs.declared.held.Held.{Held}
 use Rattle.rk_types.specs.declared.range.Range.{Range}
 use Rattle.rk_entry.specs.declared.entry.Entry.{Entry}
-use Rattle.rk_table.specs.Items.{is_in}
 use Rattle.rk_table.specs.Order.{IsInScanOrder}
 use Rattle.rk_transfer.specs.declared.handover.Handover.{Handover}
 use Rattle.rk_world.specs.Coordinator.{Handed}
@@ -15,7 +14,7 @@ use Rattle.rk_world.specs.Master.{touches}
 use Rattle.rk_world.specs.Material.{counts, named_by}
 use Rattle.rk_world.specs.Tablet.{Pulling}
 use Rattle.rk_world.specs.Written.{Written, applied_entries}
-use Rattle.rk_sound.specs.Receives.{HasArrived, HasCome, IsFound, IsOutdone, IsReceived, IsTarget, copied_items, entries_from, scan_items}
+use Rattle.rk_sound.specs.Receives.{HasArrived, IsOutdone, IsReceived, IsTarget, copied_items, entries_from, scan_items}
 use Rattle.rk_laws_apply.specs.Small.{with_item_of}
 use Rattle.rk_laws_apply.proofs.Inserted.{IsInserted, inserted_last, told_cases, told_new, told_still}
 use Rattle.rk_laws_apply.proofs.ItemPut.{found_with, item_cases, item_counts, item_found}

@@ -1,5 +1,5 @@
 -- Small changes of a view: the next entry of a master's log is applied.
-use Rattle.std.specs.Prelude.{◌≡◌, ℕ, ◌+◌, fold, List, [], ◌∷◌, ◌++◌, Some}
+use Rattle.std.specs.Prelude.{◌≡◌, ℕ, ◌+◌, List, [], ◌∷◌, ◌++◌, Some}
 use Rattle.rk_types.specs.NumberMap.{get, remove}
 use Rattle.rk_types.specs.declared.call.Call.{Call}
 use Rattle.rk_types.specs.declared.call.Ended.{Ended}
