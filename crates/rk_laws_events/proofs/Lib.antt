@@ -4,3 +4,6 @@ pub mod Clients
 pub mod Questions
 pub mod Storing
 pub mod Copying
+pub mod AllSent
+pub mod Pending
+pub mod Appends

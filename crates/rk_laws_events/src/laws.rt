@@ -1,15 +1,25 @@
 // The headline laws of events. Each function does nothing: its contract is the law.
-ghost use Rattle.std.specs.Prelude.{ℕ, IfSome};
+ghost use Rattle.std.specs.Prelude.{◌≡◌, ◌<◌, ℕ, true, length, IfSome, Some, Option};
+ghost use Rattle.rk_entry.specs.declared.lists.TheConstants.{FIRST_SIDE_SEGMENT};
+ghost use Rattle.rk_log.specs.Cut.{cut};
+ghost use Rattle.rk_log.specs.Log.{known_of};
+ghost use Rattle.rk_types.specs.NumberMap.{get};
+ghost use Rattle.rk_outside.specs.Segments.{Segments};
+ghost use Rattle.rk_message.specs.declared.message.Body.TheVariants as bodies;
+ghost use Rattle.rk_message.specs.declared.rebuilding.ReadSegment.{ReadSegment};
+ghost use Rattle.rk_message.specs.declared.replication.Append.{Append};
+ghost use Rattle.rk_sound.specs.Logs.{IsFromLog};
 ghost use Rattle.rk_message.specs.declared.message.Body.{Body};
 ghost use Rattle.rk_sound.specs.Whole.{IsSound};
 ghost use Rattle.rk_types.specs.declared.node.Node.TheVariants as nodes;
 ghost use Rattle.rk_world.specs.declared.event.Event.TheVariants as events;
-ghost use Rattle.rk_world.specs.Backup.{Called};
+ghost use Rattle.rk_world.specs.Backup.{Called, append_called, read_called};
+ghost use Rattle.rk_world.specs.MasterTurn.{appends};
 ghost use Rattle.rk_world.specs.Client.{Session};
-ghost use Rattle.rk_world.specs.Premises.{IsAfterStart, MayAct};
+ghost use Rattle.rk_world.specs.Premises.{IsAfterStart, IsMaster, MayAct};
 ghost use Rattle.rk_world.specs.Runs as runs;
-ghost use Rattle.rk_world.specs.Step.{happened, to_coordinator};
-ghost use Rattle.rk_world.specs.World.{World};
+ghost use Rattle.rk_world.specs.Step.{happened, to_backup, to_coordinator};
+ghost use Rattle.rk_world.specs.World.{World, is_backup, log_in, master_at, with_all_sent};
 
 /// A sound lane stays sound at what clients do there: one that comes, a turn, an answer that is taken, and a last request that is sent
 /// again. A session that takes its turn may act in the lane, and its call comes after the start of the history.
@@ -32,4 +42,26 @@ pub fn questions_keep_lanes_sound()
     ensures question { (w : World) (client : ℕ) (body : Body)
         → IsSound w
         → IsSound (to_coordinator w (record { from = nodes.Client client; to = nodes.Coordinator; body = body })).world }
+{}
+
+/// A sound lane stays sound when a backup of it that tells what it stores takes an Append of a master's log, or a Read that stands on the
+/// wire, whether or not its replica fails.
+pub fn backups_keep_lanes_sound()
+    ensures appended { (w : World) (backup master : ℕ) (append : Append) (segments : Segments)
+        → IsSound w → is_backup w backup ≡ true → IsMaster w.coordinator.masters master → get w.backups backup ≡ Some segments
+        → IsFromLog (log_in w master) (known_of (log_in w master) backup) append → (fault : Option ℕ)
+        → IsSound (to_backup w backup (nodes.Master master) (bodies.Append append) (append_called segments master append fault)).world }
+    ensures read { (w : World) (number backup reader : ℕ) (read : ReadSegment) (segments : Segments)
+        → IsSound w → is_backup w backup ≡ true → IsMaster w.coordinator.masters read.master → get w.backups backup ≡ Some segments
+        → get w.wire.messages number ≡ Some (record { from = nodes.Master reader; to = nodes.Backup backup; body = bodies.Read read })
+        → (fault : Option ℕ)
+        → IsSound (to_backup w backup (nodes.Master reader) (bodies.Read read) (read_called segments read fault)).world }
+{}
+
+/// A sound lane stays sound when a master sends its backups what they are not known to hold, where its log has no more main segments than
+/// there can be.
+pub fn appends_keep_lanes_sound()
+    ensures sent { (w : World) (master : ℕ)
+        → IsSound w → length (cut (log_in w master).entries) < FIRST_SIDE_SEGMENT
+        → IsSound (with_all_sent w (appends (master_at w master))) }
 {}

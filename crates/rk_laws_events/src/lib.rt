@@ -4,6 +4,8 @@
 //! meet the condition of its law. It has no code: its headline laws are the contracts of functions that do nothing.
 #![tactic(auto)]
 
-pub use laws::{clients_keep_lanes_sound, questions_keep_lanes_sound};
+pub use laws::{
+    appends_keep_lanes_sound, backups_keep_lanes_sound, clients_keep_lanes_sound, questions_keep_lanes_sound,
+};
 
 mod laws;
