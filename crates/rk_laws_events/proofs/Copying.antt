@@ -90,12 +90,11 @@ module _ (v : View) (sound : SoundView v) (read : ReadSegment) (there : IsMaster
     where
       by_phase : (phase : Phase) → row.phase ≡ phase → ReadIn phase v.live (nodes.Backup READ_BACKUP) read
           → CopyIn row phase v.logs v.written v.stored v.live (record { tenure = read.tenure; master = read.master; segment = read.segment; bytes = bytes })
-      by_phase (Rebuilding lineage to) is says =
-          (
-            says.1,
-            subst (λ (b : List ℕ). IsReadPart (NeededOf row v.written lineage read.master) (known_of (v.logs read.master) READ_BACKUP) (stored_of v.stored read.master READ_BACKUP) read.segment b) (sym same)
-            (is_whole row lineage to stands is)
-          )
+      by_phase (Rebuilding lineage to) is says = (
+        says.1,
+        subst (λ (b : List ℕ). IsReadPart (NeededOf row v.written lineage read.master) (known_of (v.logs read.master) READ_BACKUP) (stored_of v.stored read.master READ_BACKUP) read.segment b) (sym same)
+            (is_whole row lineage to stands is),
+      )
       by_phase (Owned master from) is says = tt
       by_phase (Opening source sfrom target dfrom) is says = tt
       by_phase (Moving source sfrom target dfrom) is says = tt

@@ -7,3 +7,7 @@ pub mod Copying
 pub mod AllSent
 pub mod Pending
 pub mod Appends
+pub mod RowsApart
+pub mod Orders
+pub mod CoordinatorTurn
+pub mod Coordinating

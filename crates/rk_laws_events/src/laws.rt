@@ -1,5 +1,8 @@
 // The headline laws of events. Each function does nothing: its contract is the law.
-ghost use Rattle.std.specs.Prelude.{◌≡◌, ◌<◌, ℕ, true, length, IfSome, Some, Option};
+ghost use Rattle.std.specs.Prelude.{◌≡◌, ◌<◌, ℕ, true, length, IfSome, None, Some, Option};
+ghost use Rattle.rk_types.specs.declared.range.Range.{Range};
+ghost use Rattle.rk_world.specs.Formed.{IsWellFormed};
+ghost use Rattle.rk_world.specs.Refusals.{refusal};
 ghost use Rattle.rk_entry.specs.declared.lists.TheConstants.{FIRST_SIDE_SEGMENT};
 ghost use Rattle.rk_log.specs.Cut.{cut};
 ghost use Rattle.rk_log.specs.Log.{known_of};
@@ -16,7 +19,7 @@ ghost use Rattle.rk_world.specs.declared.event.Event.TheVariants as events;
 ghost use Rattle.rk_world.specs.Backup.{Called, append_called, read_called};
 ghost use Rattle.rk_world.specs.MasterTurn.{appends};
 ghost use Rattle.rk_world.specs.Client.{Session};
-ghost use Rattle.rk_world.specs.Premises.{IsAfterStart, IsMaster, MayAct};
+ghost use Rattle.rk_world.specs.Premises.{IsAfterStart, IsMaster, MayAct, MayHappen};
 ghost use Rattle.rk_world.specs.Runs as runs;
 ghost use Rattle.rk_world.specs.Step.{happened, to_backup, to_coordinator};
 ghost use Rattle.rk_world.specs.World.{World, is_backup, log_in, master_at, with_all_sent};
@@ -64,4 +67,25 @@ pub fn appends_keep_lanes_sound()
     ensures sent { (w : World) (master : ℕ)
         → IsSound w → length (cut (log_in w master).entries) < FIRST_SIDE_SEGMENT
         → IsSound (with_all_sent w (appends (master_at w master))) }
+{}
+
+/// A sound lane stays sound when the coordinator takes its turn: whatever its rows ask for, its orders say just what their receivers may
+/// follow.
+pub fn coordinator_turns_keep_lanes_sound()
+    ensures turn { (w : World) (called : Called)
+        → IsSound w → IsSound (happened w (events.Turn nodes.Coordinator) called).world }
+{}
+
+/// A sound and well formed lane stays sound when a tablet is added, when one begins to move, and when crashes are noticed, each where the
+/// event may happen and is not refused.
+pub fn administration_keeps_lanes_sound()
+    ensures added { (w : World) (tablet : ℕ) (range : Range) (master : ℕ) (called : Called)
+        → IsSound w → IsWellFormed w → MayHappen w (events.AddTablet tablet range master)
+        → refusal w (events.AddTablet tablet range master) ≡ None
+        → IsSound (happened w (events.AddTablet tablet range master) called).world }
+    ensures migrated { (w : World) (tablet to : ℕ) (called : Called)
+        → IsSound w → MayHappen w (events.Migrate tablet to) → refusal w (events.Migrate tablet to) ≡ None
+        → IsSound (happened w (events.Migrate tablet to) called).world }
+    ensures noticed { (w : World) (master : ℕ) (called : Called)
+        → IsSound w → IsWellFormed w → IsSound (happened w (events.Notice master) called).world }
 {}

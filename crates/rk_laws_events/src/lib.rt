@@ -5,7 +5,8 @@
 #![tactic(auto)]
 
 pub use laws::{
-    appends_keep_lanes_sound, backups_keep_lanes_sound, clients_keep_lanes_sound, questions_keep_lanes_sound,
+    administration_keeps_lanes_sound, appends_keep_lanes_sound, backups_keep_lanes_sound,
+    clients_keep_lanes_sound, coordinator_turns_keep_lanes_sound, questions_keep_lanes_sound,
 };
 
 mod laws;
