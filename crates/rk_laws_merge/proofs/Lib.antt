@@ -1,0 +1,11 @@
+pub mod Pieces
+pub mod LogsMore
+pub mod Heirs
+pub mod OfRange
+pub mod Merging
+pub mod MergedCalls
+pub mod MergedRest
+pub mod MergedReceives
+pub mod MergedRebuilds
+pub mod MergedMessages
+pub mod Merged
