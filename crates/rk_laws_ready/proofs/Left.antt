@@ -22,7 +22,7 @@ first_fails true b none = absurd (cc)
 first_fails false b none = refl
 
 -- one of a list passes no test that none of the list passes
-fails_at : {X : Type 0} (test : X → Bool) (xs : List X) (x : X) → list_any test xs ≡ false → Contains xs x → test x ≡ false
+pub fails_at : {X : Type 0} (test : X → Bool) (xs : List X) (x : X) → list_any test xs ≡ false → Contains xs x → test x ≡ false
 fails_at test [] x none (k, within, is) = absurd (omega (arith, within))
 fails_at {X} test (y ∷ ys) x none stands =
     ⊎_elim (λ (same : y ≡ x). ap test (sym same) ∙ first_fails (test y) (list_any test ys) none)

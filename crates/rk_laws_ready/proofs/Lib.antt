@@ -6,5 +6,9 @@ pub mod YieldedMessages
 pub mod YieldedRecords
 pub mod Yielded
 pub mod OthersGivenUp
+pub mod OwnItems
+pub mod TakenUp
+pub mod Heirs
 pub mod TakenTablets
 pub mod Prepared
+pub mod Begun

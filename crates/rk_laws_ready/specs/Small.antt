@@ -1,14 +1,19 @@
 -- Small changes by which a master takes a role of a tablet anew, at a greater term: each other tablet that it has in that range is given up.
-use Rattle.std.specs.Prelude.{ℕ, ◌==◌, ◌&&◌, not, List, length, if◌then◌else◌}
+use Rattle.std.specs.Prelude.{ℕ, ◌==◌, ◌&&◌, not, List, [], Option, Some, None, length, if◌then◌else◌}
 use Rattle.rk_types.specs.Range.{meets}
 use Rattle.rk_types.specs.declared.held.Held.{Held}
+use Rattle.rk_types.specs.declared.lineage.Member.{Member}
 use Rattle.rk_types.specs.declared.range.Range.{Range}
 use Rattle.rk_table.specs.Items.{without}
 use Rattle.rk_transfer.specs.declared.handover.Handover.{Handover}
 use Rattle.rk_transfer.specs.declared.role.Role.TheVariants as roles
 use Rattle.rk_message.specs.declared.handover.Prepare.{Prepare}
+use Rattle.rk_message.specs.declared.rebuilding.Rebuild.{Rebuild}
+use Rattle.rk_world.specs.Gather.{gather_begun}
 use Rattle.rk_world.specs.Handovers.{given_up, tablet_prepared}
-use Rattle.rk_world.specs.Tablet.{Tablet, with_handover, without_merged}
+use Rattle.rk_world.specs.Lineage.{own_member}
+use Rattle.rk_world.specs.Rebuilds.{rebuild_begun}
+use Rattle.rk_world.specs.Tablet.{Tablet, pulling_from, with_handover, without_merged}
 use Rattle.rk_world.specs.World.{World, master_at, with_master}
 use Rattle.rk_sound.specs.Small.{put}
 use Rattle.rk_sound.specs.View.{View}
@@ -60,3 +65,44 @@ prepared v master prepare =
 
 abbrev pub tablet_prepared_in : World → ℕ → Prepare → World
 tablet_prepared_in w master prepare = with_master w master (tablet_prepared (master_at w master) prepare)
+
+-- the place from which the own entries of a master count that begins to rebuild a tablet: its place in the lineage, and else the end of
+-- its log
+abbrev pub begins_from : View → ℕ → Option Member → ℕ
+begins_from v master (Some own) = own.from
+begins_from v master None = length (v.logs master).entries
+
+-- the records that it keeps: outside the lineage it drops those of the range
+abbrev pub items_left : List Held → Range → Option Member → List Held
+items_left records range (Some own) = records
+items_left records range None = without range records
+
+-- a handover of a tablet that is rebuilt at a term, where the master's own entries count from a place on
+abbrev pub as_rebuilding : ℕ → Range → ℕ → Handover → Handover
+as_rebuilding term range from handover =
+    record handover { role = roles.Rebuilding from None; term = term; range = range }
+
+-- a tablet that a master begins to rebuild: what was pulled and is not sealed is dropped, and nothing is gathered so far
+abbrev pub as_begun : ℕ → Rebuild → ℕ → Tablet → Tablet
+as_begun master rebuild from tablet = record tablet {
+  handover = as_rebuilding rebuild.tenure.term rebuild.range from tablet.handover;
+  pulling = pulling_from tablet.pulling.source;
+  gather = gather_begun rebuild.range rebuild.lineage master;
+  merged_ends = [];
+}
+
+-- the tablets of a master that begins to rebuild one of them
+abbrev pub begun_tablets : View → ℕ → Rebuild → ℕ → Tablet
+begun_tablets v master rebuild =
+    let number = rebuild.tenure.tablet in
+    put (others_given_up (tablet_seen v master) number rebuild.range) number
+    (as_begun master rebuild (begins_from v master (own_member rebuild.lineage master)) (tablet_seen v master number))
+
+-- a master begins to rebuild a tablet: each other one there is given up, and outside the lineage it drops its items of the range
+abbrev pub begun : View → ℕ → Rebuild → View
+begun v master rebuild =
+    tablets_taken v master (items_left (v.records master) rebuild.range (own_member rebuild.lineage master))
+    (begun_tablets v master rebuild)
+
+abbrev pub rebuild_begun_in : World → ℕ → Rebuild → World
+rebuild_begun_in w master rebuild = with_master w master (rebuild_begun (master_at w master) rebuild)
