@@ -9,3 +9,6 @@ pub mod MergedReceives
 pub mod MergedRebuilds
 pub mod MergedMessages
 pub mod Merged
+pub mod MaterialTold
+pub mod Collected
+pub mod RebuildMerged

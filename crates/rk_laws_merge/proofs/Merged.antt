@@ -1,5 +1,5 @@
--- A view stays sound when a rebuild merges what it gathered, where the ends that it merges are told by the truth or the rest of its row.
-use Rattle.std.proofs.Common.{◌≡◌, ℕ, ◌≤◌, ◌&&◌, true, List, [], length, refl, sym, ap, ◌∙◌, subst, ⊎_elim, arith, eqb, leb, length-append}
+-- A view stays sound when a rebuild merges what it gathered.
+use Rattle.std.proofs.Common.{◌≡◌, ℕ, ◌≤◌, ◌&&◌, true, List, length, refl, sym, ap, ◌∙◌, subst, ⊎_elim, arith, eqb, leb, length-append}
 use Rattle.std.specs.Prelude.{All, is_some, slice_index_or}
 use Rattle.std.specs.List.{Contains, flat_map}
 use Rattle.std.proofs.lemmas.Bool.{both_ways}
@@ -14,7 +14,6 @@ use Rattle.rk_entry.specs.declared.entry.Entry.{Entry}
 use Rattle.rk_entry.specs.declared.entry.Entry.TheVariants as entries
 use Rattle.rk_log.specs.Known.{Known}
 use Rattle.rk_log.specs.Log.{Log, is_side_stored}
-use Rattle.rk_done.specs.Completions.{completions_from, ends_of}
 use Rattle.rk_tablet_map.specs.Phase.{lineage_of}
 use Rattle.rk_tablet_map.specs.Rows.{row_of}
 use Rattle.rk_tablet_map.specs.declared.row.Row.{Row}
@@ -36,14 +35,14 @@ use Rattle.rk_laws_parts.proofs.Serving.{meets_either}
 use Rattle.rk_laws_parts.proofs.Tables.{all_items_same}
 use Rattle.rk_laws_parts.proofs.Terms.{terms_looks}
 use Rattle.rk_laws_parts.proofs.TurnedRows.{stands_found}
-use Rattle.rk_laws_merge.specs.Moves.{IsToldIn}
+use Rattle.rk_laws_merge.proofs.Collected.{collected}
 use Rattle.rk_laws_merge.proofs.LogsMore.{logs_more}
 use Rattle.rk_laws_merge.proofs.MergedCalls.{calls_merged, counters_merged}
 use Rattle.rk_laws_merge.proofs.MergedMessages.{messages_merged}
 use Rattle.rk_laws_merge.proofs.MergedReceives.{receives_merged}
 use Rattle.rk_laws_merge.proofs.MergedRebuilds.{rebuilds_merged}
 use Rattle.rk_laws_merge.proofs.MergedRest.{rest_merged}
-use Rattle.rk_laws_merge.proofs.Merging.{Merging, applied_same, beside, inside, looks, mark, merged, now, of_log, of_written, past_is, piece, rests_same, row_cases, sides_same, truth_same, truths_same}
+use Rattle.rk_laws_merge.proofs.Merging.{Merging, applied_same, beside, inside, looks, mark, now, of_log, of_written, past_is, piece, rests_same, row_cases, sides_same, truth_same, truths_same}
 use Rattle.rk_laws_merge.proofs.OfRange.{segments_none}
 
 module _ (v : View) (a : Merging v) where
@@ -156,29 +155,28 @@ module _ (v : View) (a : Merging v) where
         subst (λ (list : List Entry). IsTableOf x.range list (v.records q)) (sym (truth_same v a x.range member)) table);
   }
 
-  module _ (told_in : All (IsToldIn v a.row) (ends_of (completions_from [] (merged v a).ends))) where
-    -- with truths and rests as they were
-    parts : SoundParts (now v a) (truths v) (rests v)
-    parts = record {
-      nodes = nodes;
-      rows = rows;
-      terms = terms_looks v.rows v.handovers (now v a).handovers v.wire a.sound.terms (looks v a).each;
-      cover = cover;
-      roles = roles_looks v.rows v.handovers (now v a).handovers v.written (now v a).written v.live a.sound.roles (looks v a).each (applied_same v a);
-      logs = logs;
-      truth = a.sound.truth;
-      order = a.sound.order;
-      calls = calls_merged v a told_in;
-      counters = counters_merged v a;
-      rest = rest_merged v a;
-      records = records;
-      receives = receives_merged v a;
-      rebuilds = rebuilds_merged v a;
-      messages = messages_merged v a;
-      asked = a.sound.asked;
-    }
+  -- with truths and rests as they were
+  parts : SoundParts (now v a) (truths v) (rests v)
+  parts = record {
+    nodes = nodes;
+    rows = rows;
+    terms = terms_looks v.rows v.handovers (now v a).handovers v.wire a.sound.terms (looks v a).each;
+    cover = cover;
+    roles = roles_looks v.rows v.handovers (now v a).handovers v.written (now v a).written v.live a.sound.roles (looks v a).each (applied_same v a);
+    logs = logs;
+    truth = a.sound.truth;
+    order = a.sound.order;
+    calls = calls_merged v a (collected v a);
+    counters = counters_merged v a;
+    rest = rest_merged v a;
+    records = records;
+    receives = receives_merged v a;
+    rebuilds = rebuilds_merged v a;
+    messages = messages_merged v a;
+    asked = a.sound.asked;
+  }
 
-    pub view_merged : SoundView (now v a)
-    view_merged =
-        subst (λ (truths : Row → List Entry). SoundParts (now v a) truths (rests (now v a))) (sym (truths_same v a))
-        (subst (λ (rests : Row → List Entry). SoundParts (now v a) (truths v) rests) (sym (rests_same v a)) parts)
+  pub view_merged : SoundView (now v a)
+  view_merged =
+      subst (λ (truths : Row → List Entry). SoundParts (now v a) truths (rests (now v a))) (sym (truths_same v a))
+      (subst (λ (rests : Row → List Entry). SoundParts (now v a) (truths v) rests) (sym (rests_same v a)) parts)

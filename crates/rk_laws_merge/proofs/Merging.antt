@@ -42,7 +42,7 @@ use Rattle.rk_laws_parts.proofs.Rebuilds.{IsRebuilderIn}
 use Rattle.rk_laws_parts.proofs.RoleTaken.{rows_apart}
 use Rattle.rk_laws_parts.proofs.Seen.{AllLook, GoesOn, LooksAs, looks_same}
 use Rattle.rk_laws_parts.proofs.Serving.{found_stands}
-use Rattle.rk_laws_merge.specs.Moves.{MayMergeAll}
+use Rattle.rk_laws_merge.specs.Moves.{MayMergeFormed}
 use Rattle.rk_laws_merge.specs.Small.{as_merged, merge_in, merged_view, own_entries, piece_entries, piece_mark, with_entries, with_piece}
 use Rattle.rk_laws_merge.proofs.Heirs.{at_term, gathering_rebuilds, gathers_from, merged_goes_on}
 use Rattle.rk_laws_merge.proofs.OfRange.{Counts, material_counts, names_none, piece_inside, touches_none}
@@ -54,7 +54,7 @@ pub record Merging (v : View) : Type 0 where
   pub master : ℕ
   pub sound : SoundView v
   pub has_row : Contains v.rows row
-  pub may : MayMergeAll v master row.tablet
+  pub may : MayMergeFormed v master row.tablet
 
 -- a piece has one entry more than there are copies
 pub piece_length : (handover : Handover) (merged : Merged) → length (piece_entries handover merged) ≡ suc (length merged.copies)
