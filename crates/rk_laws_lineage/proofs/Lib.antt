@@ -13,3 +13,5 @@ pub mod TakenOver
 pub mod TargetMaterial
 pub mod JoinedTarget
 pub mod JoinedTaken
+pub mod FewerMarks
+pub mod MarksTaken

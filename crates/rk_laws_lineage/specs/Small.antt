@@ -1,10 +1,12 @@
 -- Small changes that give a row another lineage, and what they make of a view.
-use Rattle.std.specs.Prelude.{ℕ}
+use Rattle.std.specs.Prelude.{ℕ, not, filter}
 use Rattle.rk_types.specs.NumberMap.{NumberMap}
 use Rattle.rk_tablet_map.specs.Rows.{replaced}
 use Rattle.rk_tablet_map.specs.declared.row.Row.{Row}
 use Rattle.rk_world.specs.Coordinator.{Handed}
 use Rattle.rk_world.specs.CoordinatorStep.{row_moved, row_owned}
+use Rattle.rk_world.specs.Marks.{is_mark_of}
+use Rattle.rk_world.specs.Written.{Written}
 use Rattle.rk_world.specs.World.{World, with_coordinator}
 use Rattle.rk_sound.specs.View.{View}
 
@@ -20,3 +22,12 @@ row_moved_in w row source sfrom target dfrom handed =
 -- a row is owned by a master that took it over, from a place of its log on
 abbrev pub row_owned_in : World → Row → ℕ → ℕ → World
 row_owned_in w row master from = with_coordinator w (row_owned w.coordinator row master from)
+
+-- what a master has written, without the marks of a tablet up to a term
+abbrev pub without_marks_of : ℕ → ℕ → Written → Written
+without_marks_of tablet term written =
+    record written { marks = filter (λ mark. not (is_mark_of tablet term mark)) written.marks }
+
+-- the marks of a tablet up to a term are taken away
+abbrev pub marks_taken : View → ℕ → ℕ → View
+marks_taken v tablet term = record v { written = λ master. without_marks_of tablet term (v.written master) }

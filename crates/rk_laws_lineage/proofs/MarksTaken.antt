@@ -1,0 +1,180 @@
+-- Where the marks of a row's tablet are taken away, all that is said of another row by what masters have written stays: what bore them is
+-- of the row's range alone.
+use Rattle.std.proofs.Common.{◌≡◌, ℕ, zero, suc, ◌+◌, ◌-◌, ◌≤◌, Bool, true, false, ◌&&◌, ◌||◌, eqb, List, [], ◌∷◌, ◌++◌, Some, refl, sym, ap, subst, ◌∙◌, ⊎_elim, arith}
+use Rattle.std.specs.Prelude.{drop, filter, fold, max, nat_le, nat_lt, not, slice_get, take}
+use Rattle.std.specs.List.{All, Contains, flat_map, list_any}
+use Rattle.std.proofs.lemmas.Bool.{and_parts, cases_Bool, eqb-true, false≢true, leb-true, ltb-true}
+use Rattle.std.proofs.lemmas.List.Elements.{All-contains}
+use Rattle.std.proofs.lemmas.List.Folds.{Any-from_list_any}
+use Rattle.rk_types.specs.Range.{meets}
+use Rattle.rk_types.specs.declared.lineage.Member.{Member}
+use Rattle.rk_types.specs.declared.range.Range.{Range}
+use Rattle.rk_entry.specs.declared.entry.Entry.{Entry}
+use Rattle.rk_entry.specs.declared.entry.Entry.TheVariants as entries
+use Rattle.rk_table.specs.Items.{is_in}
+use Rattle.rk_overlay.proofs.Members.{stands_cases}
+use Rattle.rk_tablet_map.specs.Phase.{lineage_of}
+use Rattle.rk_tablet_map.specs.Rows.{Precedes}
+use Rattle.rk_tablet_map.specs.declared.row.Row.{Row}
+use Rattle.rk_world.specs.declared.work.Mark.{Mark}
+use Rattle.rk_world.specs.Ends.{items_of}
+use Rattle.rk_world.specs.Marks.{is_mark_of, is_marked, unmarked, unmarked_from}
+use Rattle.rk_world.specs.Material.{counting, material_of, named, named_by, side_entries, with_number}
+use Rattle.rk_world.specs.Written.{Written, applied_entries, lineage_rest, lineage_truth, member_material, member_rest, member_truth}
+use Rattle.rk_sound.specs.View.{View, truths, rests}
+use Rattle.rk_sound.specs.Receives.{named_items}
+use Rattle.rk_sound.specs.Rebuilds.{HasOwnRange, IsOfRange, member_marked}
+use Rattle.rk_sound.specs.Whole.{SoundView}
+use Rattle.rk_laws_parts.proofs.Apart.{one_precedes}
+use Rattle.rk_laws_parts.proofs.MarkedApart.{apart_either, entry_apart, in_piece, place_of}
+use Rattle.rk_laws_parts.proofs.Needed.{any_kept}
+use Rattle.rk_laws_parts.proofs.Records.{filter_stands}
+use Rattle.rk_laws_lineage.specs.Small.{marks_taken, without_marks_of}
+use Rattle.rk_laws_lineage.proofs.FewerMarks.{AreFewer, IsSilent, free_counts, free_names, marked_counts}
+
+-- a test passes on a list where one that stands there passes it
+any_stands : {X : Type 0} (p : X → Bool) (xs : List X) (x : X) → Contains xs x → p x ≡ true → list_any p xs ≡ true
+any_stands p [] x stands passes = absurd (omega (arith, stands.1))
+any_stands p (y ∷ xs) x stands passes =
+    ⊎_elim (λ (is : y ≡ x). first (p y) (ap p is ∙ passes)) (λ (behind : Contains xs x). later (p y) (any_stands p xs x behind passes))
+    (stands_cases y xs x stands)
+  where
+    first : (b : Bool) → b ≡ true → (b || list_any p xs) ≡ true
+    first true is = refl
+    first false is = absurd (false≢true is)
+
+    later : (b : Bool) → list_any p xs ≡ true → (b || list_any p xs) ≡ true
+    later true any = refl
+    later false any = any
+
+-- what stands at a place of a first part stands there
+taken_from : {X : Type 0} (n : ℕ) (xs : List X) (k : ℕ) (x : X) → slice_get (take n xs) k ≡ Some x → slice_get xs k ≡ Some x
+taken_from zero xs k x at = absurd (cc at)
+taken_from (suc n) [] k x at = at
+taken_from (suc n) (y ∷ xs) zero x at = at
+taken_from (suc n) (y ∷ xs) (suc k) x at = taken_from n xs k x at
+
+-- an entry of a rebuild of another range is silent
+silent_apart : (a b : Range) → meets a b ≡ false → meets b a ≡ false → b.first ≤ b.last → (entry : Entry) → IsOfRange a entry → IsSilent b entry
+silent_apart a b apart back some (entries.Held held) of =
+    record { uncounted = entry_apart a b apart back some (entries.Held held) of; unnamed = refl }
+silent_apart a b apart back some (entries.Refused refused) of = absurd of
+silent_apart a b apart back some (entries.Carried carried) of =
+    record { uncounted = entry_apart a b apart back some (entries.Carried carried) of; unnamed = refl }
+silent_apart a b apart back some (entries.Joined joined) of = absurd of
+
+module _ (v : View) (row : Row) (sound : SoundView v) (has_row : Contains v.rows row) where
+  abbrev now : View
+  now = marks_taken v row.tablet row.term
+
+  abbrev old_marks : ℕ → List Mark
+  old_marks q = (v.written q).marks
+
+  abbrev new_marks : ℕ → List Mark
+  new_marks q = (now.written q).marks
+
+  abbrev covers : ℕ → Mark → Bool
+  covers place mark = nat_le mark.first place && nat_lt place mark.past
+
+  -- an entry that bore a mark and bears none now is of the row's range
+  pub taken_of : (q place : ℕ) (entry : Entry) → slice_get (v.written q).entries place ≡ Some entry → is_marked (old_marks q) place ≡ true → is_marked (new_marks q) place ≡ false → IsOfRange row.range entry
+  taken_of q place entry at was is =
+      let found = Any-from_list_any (covers place) (old_marks q) was in
+      let mark : Mark = found.1 in
+      let stands : Contains (old_marks q) mark = (found.0, found.2, found.3) in
+      let parts = and_parts (nat_le mark.first place) (nat_lt place mark.past) found.4 in
+      ⊎_elim
+      (λ (its : is_mark_of row.tablet row.term mark ≡ true).
+      let tablet : mark.tablet ≡ row.tablet = eqb-true mark.tablet row.tablet (and_parts (eqb mark.tablet row.tablet) (nat_le mark.term row.term) its).0 in
+      let own : HasOwnRange row.range (v.written q).entries mark =
+      All-contains (λ m. m.tablet ≡ row.tablet → HasOwnRange row.range (v.written q).entries m) (old_marks q) mark
+      (All-contains (λ r. All (λ m. m.tablet ≡ r.tablet → HasOwnRange r.range (v.written q).entries m) (old_marks q)) v.rows row
+      (sound.rebuilds.pieces q) has_row) stands tablet in
+      All-contains (IsOfRange row.range) (take (mark.past - mark.first) (drop mark.first (v.written q).entries)) entry own
+      (in_piece (v.written q).entries mark.first mark.past place entry (leb-true mark.first place parts.0) (ltb-true place mark.past parts.1) at))
+      (λ (other : is_mark_of row.tablet row.term mark ≡ false).
+      let kept : Contains (new_marks q) mark =
+      filter_stands (λ m. not (is_mark_of row.tablet row.term m)) (old_marks q) mark stands (ap not other) in
+      absurd (false≢true (sym is ∙ any_stands (covers place) (new_marks q) mark kept found.4)))
+      (cases_Bool (is_mark_of row.tablet row.term mark))
+
+  -- ---- another row
+
+  module _ (other : Row) (has_other : Contains v.rows other) (unlike : other.tablet ≡ row.tablet → ⊥) (some : other.range.first ≤ other.range.last) where
+    apart : meets row.range other.range ≡ false
+    apart =
+        ⊎_elim (λ (same : other ≡ row). absurd (unlike (ap (λ (r : Row). r.tablet) same)))
+        (⊎_elim (λ (before : Precedes other row). apart_either other.range row.range before.apart)
+        (λ (behind : Precedes row other). behind.apart))
+        (one_precedes v.rows other row sound.rows.apart has_other has_row)
+
+    -- from a place on, of all that a master has or of a part of it
+    fewer : (q from : ℕ) (list : List Entry) → ((k : ℕ) (e : Entry) → slice_get list k ≡ Some e → slice_get (v.written q).entries k ≡ Some e) → AreFewer other.range (old_marks q) (new_marks q) from (drop from list)
+    fewer q from list part = record {
+      still = λ k. any_kept (covers (from + k)) (λ m. not (is_mark_of row.tablet row.term m)) (old_marks q);
+      silent = λ k entry at was is.
+          silent_apart row.range other.range apart (apart_either row.range other.range apart) some entry
+          (taken_of q (from + k) entry (part (from + k) entry (place_of list from k (from + k) entry refl at)) was is);
+    }
+
+    of_all : (q from : ℕ) → AreFewer other.range (old_marks q) (new_marks q) from (drop from (v.written q).entries)
+    of_all q from = fewer q from (v.written q).entries (λ k e at. at)
+
+    of_applied : (q from : ℕ) → AreFewer other.range (old_marks q) (new_marks q) from (drop from (applied_entries (v.written q)))
+    of_applied q from = fewer q from (applied_entries (v.written q)) (taken_from (v.written q).applied (v.written q).entries)
+
+    -- what counts of a log is the same
+    material_by : (q from : ℕ) (list : List Entry) → AreFewer other.range (old_marks q) (new_marks q) from (drop from list)
+        → material_of other.range (side_entries (v.written q).sides) (unmarked_from (new_marks q) from list)
+        ≡ material_of other.range (side_entries (v.written q).sides) (unmarked_from (old_marks q) from list)
+    material_by q from list are =
+        ap
+        (λ (l : List Entry). l ++ counting other.range (flat_map (side_entries (v.written q).sides) (named other.range (unmarked_from (new_marks q) from list))))
+        (free_counts other.range (old_marks q) (new_marks q) from (drop from list) are)
+        ∙ ap
+        (λ (l : List ℕ). counting other.range (unmarked_from (old_marks q) from list)
+        ++ counting other.range (flat_map (side_entries (v.written q).sides) (fold with_number [] l)))
+        (free_names other.range (old_marks q) (new_marks q) from (drop from list) are)
+
+    pub truth_kept : (m : Member) → member_truth now.written other.range m ≡ member_truth v.written other.range m
+    truth_kept m = material_by m.master m.from (applied_entries (v.written m.master)) (of_applied m.master m.from)
+
+    pub material_kept : (m : Member) → member_material now.written other.range m ≡ member_material v.written other.range m
+    material_kept m = material_by m.master m.from (v.written m.master).entries (of_all m.master m.from)
+
+    pub rest_kept : (m : Member) → member_rest now.written other.range m ≡ member_rest v.written other.range m
+    rest_kept m =
+        let from : ℕ = max m.from (v.written m.master).applied in
+        free_counts other.range (old_marks m.master) (new_marks m.master) from (drop from (v.written m.master).entries) (of_all m.master from)
+
+    pub marked_kept : (m : Member) → member_marked now.written other.range m ≡ member_marked v.written other.range m
+    marked_kept m =
+        marked_counts other.range (old_marks m.master) (new_marks m.master) m.from (drop m.from (v.written m.master).entries)
+        (of_all m.master m.from)
+
+    pub named_kept : (q from : ℕ) → named_items other.range from (now.written q) ≡ named_items other.range from (v.written q)
+    named_kept q from =
+        ap (λ (l : List ℕ). filter (is_in other.range) (items_of (flat_map (side_entries (v.written q).sides) (fold with_number [] l))))
+        (free_names other.range (old_marks q) (new_marks q) from (drop from (v.written q).entries) (of_all q from))
+
+    -- so truth and rest are the same lists
+    truths_by : (l : List Member) → flat_map (member_truth now.written other.range) l ≡ flat_map (member_truth v.written other.range) l
+    truths_by [] = refl
+    truths_by (m ∷ l) =
+        ap (λ (t : List Entry). t ++ flat_map (member_truth now.written other.range) l) (truth_kept m)
+        ∙ ap (λ (t : List Entry). member_truth v.written other.range m ++ t) (truths_by l)
+
+    lineage_kept : (l : List Member) → lineage_truth v.base now.written other.range l ≡ lineage_truth v.base v.written other.range l
+    lineage_kept [] = refl
+    lineage_kept (m ∷ l) = truths_by (m ∷ l)
+
+    rests_by : (l : List Member) → lineage_rest now.written other.range l ≡ lineage_rest v.written other.range l
+    rests_by [] = refl
+    rests_by (m ∷ []) = rest_kept m
+    rests_by (m ∷ next ∷ l) = rests_by (next ∷ l)
+
+    pub truths_kept : truths now other ≡ truths v other
+    truths_kept = lineage_kept (lineage_of other.phase)
+
+    pub rests_kept : rests now other ≡ rests v other
+    rests_kept = rests_by (lineage_of other.phase)
