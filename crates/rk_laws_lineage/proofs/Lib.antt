@@ -15,3 +15,4 @@ pub mod JoinedTarget
 pub mod JoinedTaken
 pub mod FewerMarks
 pub mod MarksTaken
+pub mod RebuiltMaterial

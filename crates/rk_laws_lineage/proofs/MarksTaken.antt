@@ -3,7 +3,7 @@
 use Rattle.std.proofs.Common.{◌≡◌, ℕ, zero, suc, ◌+◌, ◌-◌, ◌≤◌, Bool, true, false, ◌&&◌, ◌||◌, eqb, List, [], ◌∷◌, ◌++◌, Some, refl, sym, ap, subst, ◌∙◌, ⊎_elim, arith}
 use Rattle.std.specs.Prelude.{drop, filter, fold, max, nat_le, nat_lt, not, slice_get, take}
 use Rattle.std.specs.List.{All, Contains, flat_map, list_any}
-use Rattle.std.proofs.lemmas.Bool.{and_parts, cases_Bool, eqb-true, false≢true, leb-true, ltb-true}
+use Rattle.std.proofs.lemmas.Bool.{and_from, and_parts, cases_Bool, eqb-true, false≢true, le-leb, lt-ltb}
 use Rattle.std.proofs.lemmas.List.Elements.{All-contains}
 use Rattle.std.proofs.lemmas.List.Folds.{Any-from_list_any}
 use Rattle.rk_types.specs.Range.{meets}
@@ -25,11 +25,12 @@ use Rattle.rk_sound.specs.View.{View, truths, rests}
 use Rattle.rk_sound.specs.Receives.{named_items}
 use Rattle.rk_sound.specs.Rebuilds.{HasOwnRange, IsOfRange, member_marked}
 use Rattle.rk_sound.specs.Whole.{SoundView}
-use Rattle.rk_laws_parts.proofs.Apart.{one_precedes}
+use Rattle.rk_laws_parts.proofs.Apart.{one_precedes, same_number}
 use Rattle.rk_laws_parts.proofs.MarkedApart.{apart_either, entry_apart, in_piece, place_of}
 use Rattle.rk_laws_parts.proofs.Needed.{any_kept}
 use Rattle.rk_laws_parts.proofs.Records.{filter_stands}
 use Rattle.rk_laws_lineage.specs.Small.{marks_taken, without_marks_of}
+use Rattle.rk_laws_lineage.proofs.Pieces.{IsCovered, covered_by, covered_of}
 use Rattle.rk_laws_lineage.proofs.FewerMarks.{AreFewer, IsSilent, free_counts, free_names, marked_counts}
 
 -- a test passes on a list where one that stands there passes it
@@ -48,7 +49,7 @@ any_stands p (y ∷ xs) x stands passes =
     later false any = any
 
 -- what stands at a place of a first part stands there
-taken_from : {X : Type 0} (n : ℕ) (xs : List X) (k : ℕ) (x : X) → slice_get (take n xs) k ≡ Some x → slice_get xs k ≡ Some x
+pub taken_from : {X : Type 0} (n : ℕ) (xs : List X) (k : ℕ) (x : X) → slice_get (take n xs) k ≡ Some x → slice_get xs k ≡ Some x
 taken_from zero xs k x at = absurd (cc at)
 taken_from (suc n) [] k x at = at
 taken_from (suc n) (y ∷ xs) zero x at = at
@@ -76,27 +77,40 @@ module _ (v : View) (row : Row) (sound : SoundView v) (has_row : Contains v.rows
   abbrev covers : ℕ → Mark → Bool
   covers place mark = nat_le mark.first place && nat_lt place mark.past
 
-  -- an entry that bore a mark and bears none now is of the row's range
-  pub taken_of : (q place : ℕ) (entry : Entry) → slice_get (v.written q).entries place ≡ Some entry → is_marked (old_marks q) place ≡ true → is_marked (new_marks q) place ≡ false → IsOfRange row.range entry
+  -- where an entry bore a mark and bears none now, that was one of the tablet
+  pub record IsTaken (q place : ℕ) : Type 0 where
+    pub covered : IsCovered (old_marks q) place
+    pub tablet : covered.mark.tablet ≡ row.tablet
+
+  pub taken_by : (q place : ℕ) → is_marked (old_marks q) place ≡ true → is_marked (new_marks q) place ≡ false → IsTaken q place
+  taken_by q place was is =
+      let covered = covered_by (old_marks q) place was in
+      let mark : Mark = covered.mark in
+      record {
+        covered = covered;
+        tablet =
+            ⊎_elim
+            (λ (its : is_mark_of row.tablet row.term mark ≡ true).
+            eqb-true mark.tablet row.tablet (and_parts (eqb mark.tablet row.tablet) (nat_le mark.term row.term) its).0)
+            (λ (other : is_mark_of row.tablet row.term mark ≡ false).
+            let kept : Contains (new_marks q) mark =
+            filter_stands (λ m. not (is_mark_of row.tablet row.term m)) (old_marks q) mark covered.stands (ap not other) in
+            absurd
+            (false≢true
+            (sym is
+            ∙ any_stands (covers place) (new_marks q) mark kept
+            (and_from (nat_le mark.first place) (nat_lt place mark.past) (le-leb mark.first place covered.first)
+            (lt-ltb place mark.past covered.past)))))
+            (cases_Bool (is_mark_of row.tablet row.term mark));
+      }
+
+  -- the entry is of the row's range
+  taken_of : (q place : ℕ) (entry : Entry) → slice_get (v.written q).entries place ≡ Some entry → is_marked (old_marks q) place ≡ true → is_marked (new_marks q) place ≡ false → IsOfRange row.range entry
   taken_of q place entry at was is =
-      let found = Any-from_list_any (covers place) (old_marks q) was in
-      let mark : Mark = found.1 in
-      let stands : Contains (old_marks q) mark = (found.0, found.2, found.3) in
-      let parts = and_parts (nat_le mark.first place) (nat_lt place mark.past) found.4 in
-      ⊎_elim
-      (λ (its : is_mark_of row.tablet row.term mark ≡ true).
-      let tablet : mark.tablet ≡ row.tablet = eqb-true mark.tablet row.tablet (and_parts (eqb mark.tablet row.tablet) (nat_le mark.term row.term) its).0 in
-      let own : HasOwnRange row.range (v.written q).entries mark =
-      All-contains (λ m. m.tablet ≡ row.tablet → HasOwnRange row.range (v.written q).entries m) (old_marks q) mark
-      (All-contains (λ r. All (λ m. m.tablet ≡ r.tablet → HasOwnRange r.range (v.written q).entries m) (old_marks q)) v.rows row
-      (sound.rebuilds.pieces q) has_row) stands tablet in
-      All-contains (IsOfRange row.range) (take (mark.past - mark.first) (drop mark.first (v.written q).entries)) entry own
-      (in_piece (v.written q).entries mark.first mark.past place entry (leb-true mark.first place parts.0) (ltb-true place mark.past parts.1) at))
-      (λ (other : is_mark_of row.tablet row.term mark ≡ false).
-      let kept : Contains (new_marks q) mark =
-      filter_stands (λ m. not (is_mark_of row.tablet row.term m)) (old_marks q) mark stands (ap not other) in
-      absurd (false≢true (sym is ∙ any_stands (covers place) (new_marks q) mark kept found.4)))
-      (cases_Bool (is_mark_of row.tablet row.term mark))
+      let taken = taken_by q place was is in
+      let of = covered_of v sound q place entry at taken.covered in
+      let same : of.row ≡ row = same_number v.rows of.row row sound.rows.apart of.stands has_row (of.number ∙ taken.tablet) in
+      subst (λ (r : Row). IsOfRange r.range entry) same of.of
 
   -- ---- another row
 

@@ -1,5 +1,5 @@
 -- What bears a mark in a log is of a row that is rebuilt: no Joined does, and it counts for no other row.
-use Rattle.std.proofs.Common.{◌≡◌, ℕ, zero, suc, ◌+◌, ◌-◌, Bool, true, false, ◌&&◌, cond, List, [], ◌∷◌, Option, Some, None, refl, sym, ap, subst, ◌∙◌, ⊎_elim, arith}
+use Rattle.std.proofs.Common.{◌≡◌, ℕ, zero, suc, ◌+◌, ◌-◌, ◌≤◌, ◌<◌, Bool, true, false, ◌&&◌, cond, List, [], ◌∷◌, Option, Some, None, refl, sym, ap, subst, ◌∙◌, ⊎_elim, arith}
 use Rattle.std.specs.Prelude.{drop, is_some, nat_le, nat_lt, slice_get, take}
 use Rattle.std.specs.List.{All, Contains}
 use Rattle.std.proofs.lemmas.Bool.{and_parts, false_from_ne_true, false≢true, leb-true, ltb-true}
@@ -22,14 +22,33 @@ use Rattle.rk_sound.specs.Whole.{SoundView}
 use Rattle.rk_laws_parts.proofs.MarkedApart.{in_piece}
 use Rattle.rk_laws_parts.proofs.Serving.{found_stands}
 
--- an entry is of the range of a row
-pub record IsOfRow (rows : List Row) (entry : Entry) : Type 0 where
+-- an entry is of the range of the row of a tablet
+pub record IsOfRow (rows : List Row) (tablet : ℕ) (entry : Entry) : Type 0 where
   pub row : Row
   pub stands : Contains rows row
+  pub number : row.tablet ≡ tablet
   pub of : IsOfRange row.range entry
 
+-- a mark covers a place
+pub record IsCovered (marks : List Mark) (place : ℕ) : Type 0 where
+  pub mark : Mark
+  pub stands : Contains marks mark
+  pub first : mark.first ≤ place
+  pub past : place < mark.past
+
+pub covered_by : (marks : List Mark) (place : ℕ) → is_marked marks place ≡ true → IsCovered marks place
+covered_by marks place marked =
+    let found = Any-from_list_any (λ (mark : Mark). nat_le mark.first place && nat_lt place mark.past) marks marked in
+    let parts = and_parts (nat_le found.1.first place) (nat_lt place found.1.past) found.4 in
+    record {
+      mark = found.1;
+      stands = (found.0, found.2, found.3);
+      first = leb-true found.1.first place parts.0;
+      past = ltb-true place found.1.past parts.1;
+    }
+
 module _ (v : View) (sound : SoundView v) (q : ℕ) where
-  of_known : (mark : Mark) (entry : Entry) → Contains (v.written q).marks mark → Contains (take (mark.past - mark.first) (drop mark.first (v.written q).entries)) entry → (found : Option Row) → row_of v.rows mark.tablet ≡ found → is_some found ≡ true → IsOfRow v.rows entry
+  of_known : (mark : Mark) (entry : Entry) → Contains (v.written q).marks mark → Contains (take (mark.past - mark.first) (drop mark.first (v.written q).entries)) entry → (found : Option Row) → row_of v.rows mark.tablet ≡ found → is_some found ≡ true → IsOfRow v.rows mark.tablet entry
   of_known mark entry marked inside None is known = absurd (false≢true known)
   of_known mark entry marked inside (Some other) is known =
       let stands : Contains v.rows other = found_stands v.rows mark.tablet other is in
@@ -41,27 +60,24 @@ module _ (v : View) (sound : SoundView v) (q : ℕ) where
       record {
         row = other;
         stands = stands;
+        number = number_of v.rows mark.tablet other is;
         of = All-contains (IsOfRange other.range) (take (mark.past - mark.first) (drop mark.first (v.written q).entries)) entry own inside;
       }
 
-  -- a marked entry is of the range of a row
-  marked_of : (place : ℕ) (entry : Entry) → slice_get (v.written q).entries place ≡ Some entry → is_marked (v.written q).marks place ≡ true → IsOfRow v.rows entry
-  marked_of place entry at marked =
-      let found = Any-from_list_any (λ (mark : Mark). nat_le mark.first place && nat_lt place mark.past) (v.written q).marks marked in
-      let mark : Mark = found.1 in
-      let stands : Contains (v.written q).marks mark = (found.0, found.2, found.3) in
-      let parts = and_parts (nat_le mark.first place) (nat_lt place mark.past) found.4 in
-      of_known mark entry stands
-      (in_piece (v.written q).entries mark.first mark.past place entry (leb-true mark.first place parts.0)
-      (ltb-true place mark.past parts.1) at)
-      (row_of v.rows mark.tablet) refl
-      (All-contains (λ m. is_some (row_of v.rows m.tablet) ≡ true) (v.written q).marks mark (sound.cover.marks q) stands)
+  -- a marked entry is of the range of the row of the mark's tablet
+  pub covered_of : (place : ℕ) (entry : Entry) → slice_get (v.written q).entries place ≡ Some entry → (covered : IsCovered (v.written q).marks place) → IsOfRow v.rows covered.mark.tablet entry
+  covered_of place entry at covered =
+      of_known covered.mark entry covered.stands
+      (in_piece (v.written q).entries covered.mark.first covered.mark.past place entry covered.first covered.past at)
+      (row_of v.rows covered.mark.tablet) refl
+      (All-contains (λ m. is_some (row_of v.rows m.tablet) ≡ true) (v.written q).marks covered.mark (sound.cover.marks q) covered.stands)
 
   -- so a Joined bears none
   pub joined_unmarked : (place : ℕ) (joined : Joined) → slice_get (v.written q).entries place ≡ Some (entries.Joined joined) → is_marked (v.written q).marks place ≡ false
   joined_unmarked place joined at =
       false_from_ne_true (is_marked (v.written q).marks place)
-      (λ marked. let is = marked_of place (entries.Joined joined) at marked in is.of)
+      (λ marked.
+      let is = covered_of place (entries.Joined joined) at (covered_by (v.written q).marks place marked) in is.of)
 
 -- ---- where nothing that is marked counts, the same counts without it
 
@@ -147,3 +163,28 @@ unmarked_stands marks place (suc k) (first ∷ list) entry at free =
     go : (b : Bool) → Contains (unmarked marks (suc place) list) entry → Contains (cond b (unmarked marks (suc place) list) (first ∷ unmarked marks (suc place) list)) entry
     go true later = later
     go false later = behind_stands first (unmarked marks (suc place) list) entry later
+
+-- so what is left stands at a place that bears none
+pub record StandsFree (marks : List Mark) (place : ℕ) (list : List Entry) (entry : Entry) : Type 0 where
+  pub k : ℕ
+  pub at : slice_get list k ≡ Some entry
+  pub free : is_marked marks (place + k) ≡ false
+
+pub unmarked_place : (marks : List Mark) (place : ℕ) (list : List Entry) (entry : Entry) → Contains (unmarked marks place list) entry → StandsFree marks place list entry
+unmarked_place marks place [] entry stands = absurd (omega (arith, stands.1))
+unmarked_place marks place (first ∷ list) entry stands = go (is_marked marks place) refl (unmarked_place marks (suc place) list entry) stands
+  where
+    further : StandsFree marks (suc place) list entry → StandsFree marks place (first ∷ list) entry
+    further later =
+        let there : suc place + later.k ≡ place + suc later.k = omega arith in
+        record { k = suc later.k; at = later.at; free = ap (is_marked marks) (sym there) ∙ later.free }
+
+    go : (b : Bool) → is_marked marks place ≡ b → (Contains (unmarked marks (suc place) list) entry → StandsFree marks (suc place) list entry) → Contains (cond b (unmarked marks (suc place) list) (first ∷ unmarked marks (suc place) list)) entry → StandsFree marks place (first ∷ list) entry
+    go true is later stands = further (later stands)
+    go false is later stands =
+        ⊎_elim
+        (λ (same : first ≡ entry).
+        let here : place + 0 ≡ place = omega arith in
+        record { k = 0; at = ap Some same; free = ap (is_marked marks) here ∙ is })
+        (λ (behind : Contains (unmarked marks (suc place) list) entry). further (later behind))
+        (stands_cases first (unmarked marks (suc place) list) entry stands)
