@@ -59,6 +59,26 @@ taken_at (suc n) [] k x within at = at
 taken_at (suc n) (y ∷ list) zero x within at = at
 taken_at (suc n) (y ∷ list) (suc k) x within at = taken_at n list k x (omega (arith, within)) at
 
+-- what stands at a place of a first part stands there
+pub taken_from : {X : Type 0} (n : ℕ) (xs : List X) (k : ℕ) (x : X) → slice_get (take n xs) k ≡ Some x → slice_get xs k ≡ Some x
+taken_from zero xs k x at = absurd (cc at)
+taken_from (suc n) [] k x at = at
+taken_from (suc n) (y ∷ xs) zero x at = at
+taken_from (suc n) (y ∷ xs) (suc k) x at = taken_from n xs k x at
+
+pub taken_within : {X : Type 0} (n : ℕ) (xs : List X) (k : ℕ) (x : X) → slice_get (take n xs) k ≡ Some x → k < n
+taken_within zero xs k x at = absurd (cc at)
+taken_within (suc n) [] k x at = absurd (cc at)
+taken_within (suc n) (y ∷ xs) zero x at = omega arith
+taken_within (suc n) (y ∷ xs) (suc k) x at = let less = taken_within n xs k x at in omega (arith, less)
+
+-- what stands in a list stands at a place
+pub place_in : {X : Type 0} (xs : List X) (x : X) → Contains xs x → (k : ℕ) × (slice_get xs k ≡ Some x)
+place_in [] x stands = absurd (none_stands x stands)
+place_in (y ∷ xs) x stands =
+    ⊎_elim (λ (is : y ≡ x). (0, ap Some is)) (λ (behind : Contains xs x). let found = place_in xs x behind in (suc found.0, found.1))
+    (stands_cases y xs x stands)
+
 -- ---- what each element gives
 
 pub from_flat : {X Y : Type 0} (f : X → List Y) (xs : List X) (y : Y) → Contains (flat_map f xs) y → (x : X) × Contains xs x × Contains (f x) y

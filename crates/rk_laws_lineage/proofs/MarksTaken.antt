@@ -30,6 +30,7 @@ use Rattle.rk_laws_parts.proofs.MarkedApart.{apart_either, entry_apart, in_piece
 use Rattle.rk_laws_parts.proofs.Needed.{any_kept}
 use Rattle.rk_laws_parts.proofs.Records.{filter_stands}
 use Rattle.rk_laws_lineage.specs.Small.{marks_taken, without_marks_of}
+use Rattle.rk_laws_lineage.proofs.Among.{taken_from}
 use Rattle.rk_laws_lineage.proofs.Pieces.{IsCovered, covered_by, covered_of}
 use Rattle.rk_laws_lineage.proofs.FewerMarks.{AreFewer, IsSilent, free_counts, free_names, marked_counts}
 
@@ -47,13 +48,6 @@ any_stands p (y ∷ xs) x stands passes =
     later : (b : Bool) → list_any p xs ≡ true → (b || list_any p xs) ≡ true
     later true any = refl
     later false any = any
-
--- what stands at a place of a first part stands there
-pub taken_from : {X : Type 0} (n : ℕ) (xs : List X) (k : ℕ) (x : X) → slice_get (take n xs) k ≡ Some x → slice_get xs k ≡ Some x
-taken_from zero xs k x at = absurd (cc at)
-taken_from (suc n) [] k x at = at
-taken_from (suc n) (y ∷ xs) zero x at = at
-taken_from (suc n) (y ∷ xs) (suc k) x at = taken_from n xs k x at
 
 -- an entry of a rebuild of another range is silent
 silent_apart : (a b : Range) → meets a b ≡ false → meets b a ≡ false → b.first ≤ b.last → (entry : Entry) → IsOfRange a entry → IsSilent b entry

@@ -3,7 +3,7 @@
 use Rattle.std.proofs.Common.{◌≡◌, ℕ, suc, ◌+◌, ◌-◌, ◌≤◌, ◌<◌, true, false, ◌&&◌, eqb, List, [], ◌∷◌, ◌++◌, Some, None, refl, sym, ap, subst, ◌∙◌, ⊎_elim, arith, inl, inr}
 use Rattle.std.specs.Prelude.{All, IfSome, drop, is_some, nat_le, nat_lt, not, slice_get, take, ◌⊎◌}
 use Rattle.std.specs.List.{Contains, flat_map, list_any}
-use Rattle.std.proofs.lemmas.Bool.{and_from, and_parts, cases_Bool, eqb-true, false_from_ne_true, false≢true, leb-true, ltb-true}
+use Rattle.std.proofs.lemmas.Bool.{and_from, cases_Bool, eq-eqb, false_from_ne_true, false≢true, le-leb}
 use Rattle.std.proofs.lemmas.List.Elements.{All-contains, Contains-append_cases, Contains-append_left, Contains-append_right}
 use Rattle.std.proofs.lemmas.List.Folds.{Any-from_list_any}
 use Rattle.rk_types.specs.declared.call.Ended.{Ended}
@@ -17,7 +17,10 @@ use Rattle.rk_transfer.specs.declared.role.Role.TheVariants as roles
 use Rattle.rk_tablet_map.specs.Phase.{lineage_of, member as member_at}
 use Rattle.rk_tablet_map.specs.declared.phase.Phase.{Phase}
 use Rattle.rk_tablet_map.specs.declared.phase.Phase.TheVariants.{Rebuilding}
+use Rattle.rk_tablet_map.specs.Rows.{Precedes}
 use Rattle.rk_tablet_map.specs.declared.row.Row.{Row}
+use Rattle.rk_overlay.proofs.Members.{none_stands}
+use Rattle.rk_types.specs.Range.{meets}
 use Rattle.rk_world.specs.declared.work.Mark.{Mark}
 use Rattle.rk_world.specs.Marks.{is_mark_of, is_marked, unmarked, unmarked_from}
 use Rattle.rk_world.specs.Master.{touches}
@@ -26,16 +29,23 @@ use Rattle.rk_world.specs.Rebuilds.{own_place}
 use Rattle.rk_world.specs.Written.{Written, applied_entries, member_material, member_rest, member_truth}
 use Rattle.rk_sound.specs.View.{View, truths}
 use Rattle.rk_sound.specs.Rest.{IsDone}
-use Rattle.rk_sound.specs.Rebuilds.{HasOwnRange, IsMergedOf, IsOfRange, IsPieceOf, IsRebuilder, NeededOf, READ_BACKUP, RowIsRebuilt, closing_carried, merged_place}
+use Rattle.rk_sound.specs.Rebuilds.{HasOwnRange, IsMergedOf, IsOfRange, IsPieceOf, MarkFits, RowIsRebuilt, closing_carried, merged_place}
 use Rattle.rk_sound.specs.Messages.{HasRebuilt}
 use Rattle.rk_sound.specs.Whole.{SoundView}
 use Rattle.rk_sound.specs.Moves.{MayTakeRebuilt}
 use Rattle.rk_sound.specs.Terms.{HandoverFits}
 use Rattle.rk_world.specs.Ranges.{has_all}
+use Rattle.rk_laws_parts.proofs.Apart.{in_one_row, one_precedes}
+use Rattle.rk_laws_parts.proofs.InRest.{behind_at}
+use Rattle.rk_laws_parts.proofs.MarkedApart.{in_piece, place_of}
 use Rattle.rk_laws_parts.proofs.Missed.{Misses, none_touches}
+use Rattle.rk_laws_parts.proofs.Needed.{any_kept}
+use Rattle.rk_laws_parts.proofs.Records.{filter_from, filter_stands}
 use Rattle.rk_laws_lineage.specs.Small.{marks_taken}
-use Rattle.rk_laws_lineage.proofs.Among.{later_all}
-use Rattle.rk_laws_lineage.proofs.TargetMaterial.{has_itself}
+use Rattle.rk_laws_lineage.proofs.Among.{flat_among, from_flat, kept_among, kept_passes, later_all, number_from, number_to, place_in, taken_at, taken_from, taken_within, to_flat}
+use Rattle.rk_laws_lineage.proofs.MarksTaken.{taken_by}
+use Rattle.rk_laws_lineage.proofs.Pieces.{IsCovered, covered_by, covered_of, unmarked_place, unmarked_stands}
+use Rattle.rk_laws_lineage.proofs.TargetMaterial.{has_itself, meets_itself}
 use Rattle.rk_laws_lineage.proofs.Untouched.{done_settled, each_misses}
 
 -- a role has rebuilt a tablet, with its closing entry at a place that is applied
@@ -148,3 +158,184 @@ module _ (v : View) (row : Row) (lineage : List Member) (to place : ℕ) (ends :
   of_names (entries.Refused refused) of = absurd of
   of_names (entries.Carried carried) of = refl
   of_names (entries.Joined joined) of = absurd of
+
+  -- ---- what bears no mark now: what bore none, and the piece
+
+  abbrev old_marks : List Mark
+  old_marks = w.marks
+
+  abbrev new_marks : List Mark
+  new_marks = (now.written to).marks
+
+  abbrev front : List Entry
+  front = drop place (applied_entries w)
+
+  abbrev free_before : List Entry
+  free_before = unmarked old_marks place front
+
+  abbrev free_now : List Entry
+  free_now = unmarked new_marks place front
+
+  -- what stands at a place of what is applied stands there in the log
+  in_log : (k : ℕ) (entry : Entry) → slice_get front k ≡ Some entry → slice_get w.entries (place + k) ≡ Some entry
+  in_log k entry stands =
+      taken_from w.applied w.entries (place + k) entry (place_of (applied_entries w) place k (place + k) entry refl stands)
+
+  still : (n : ℕ) → is_marked new_marks n ≡ true → is_marked old_marks n ≡ true
+  still n =
+      any_kept (λ m. nat_le m.first n && nat_lt n m.past) (λ m. not (is_mark_of row.tablet row.term m)) old_marks
+
+  -- where a mark of the tablet covered an entry, that is one of the piece
+  covered_piece : (n : ℕ) (entry : Entry) → slice_get w.entries n ≡ Some entry → (covered : IsCovered old_marks n) → covered.mark.tablet ≡ row.tablet → Contains pieces entry
+  covered_piece n entry stands covered tablet =
+      let is : covered.mark ≡ mark =
+      All-contains (λ other. other.tablet ≡ row.tablet → other ≡ mark) old_marks covered.mark piece.alone covered.stands tablet in
+      let first : mark.first ≤ n = subst (λ (m : Mark). m.first ≤ n) is covered.first in
+      let past : n < mark.past = subst (λ (m : Mark). n < m.past) is covered.past in
+      subst (λ (l : List Entry). Contains l entry) piece.stands
+      (subst (λ (p : ℕ). Contains (take (p - mark.first) (drop mark.first w.entries)) entry) piece.past_is
+      (in_piece w.entries mark.first mark.past n entry first past stands))
+
+  from_either : (entry : Entry) → Contains free_now entry → Contains free_before entry ⊎ Contains pieces entry
+  from_either entry stands =
+      let is = unmarked_place new_marks place front entry stands in
+      ⊎_elim
+      (λ (was : is_marked old_marks (place + is.k) ≡ true).
+      let taken = taken_by v row sound may.has_row to (place + is.k) was is.free in
+      inr (covered_piece (place + is.k) entry (in_log is.k entry is.at) taken.covered taken.tablet))
+      (λ (free : is_marked old_marks (place + is.k) ≡ false). inl (unmarked_stands old_marks place is.k front entry is.at free))
+      (cases_Bool (is_marked old_marks (place + is.k)))
+
+  own_stands : (entry : Entry) → Contains free_before entry → Contains free_now entry
+  own_stands entry stands =
+      let is = unmarked_place old_marks place front entry stands in
+      unmarked_stands new_marks place is.k front entry is.at
+      (false_from_ne_true (is_marked new_marks (place + is.k)) (λ marked. false≢true (sym is.free ∙ still (place + is.k) marked)))
+
+  -- ---- no other mark covers the piece
+
+  -- an entry of the row's range is of no other row's
+  of_one_row : (other : Row) (entry : Entry) → Contains v.rows other → (other.tablet ≡ row.tablet → ⊥) → IsOfRange other.range entry → IsOfRange row.range entry → ⊥
+  of_one_row other (entries.Held held) stands unlike its of =
+      false≢true (sym (in_one_row v.rows row other held.table held.key sound.rows.apart may.has_row stands unlike of) ∙ its)
+  of_one_row other (entries.Refused refused) stands unlike its of = of
+  of_one_row other (entries.Carried carried) stands unlike its of =
+      let same : other.range ≡ row.range = sym its ∙ of in
+      let met : meets row.range other.range ≡ true = ap (λ (r : Range). meets row.range r) same ∙ meets_itself row.range some in
+      let back : meets other.range row.range ≡ true = ap (λ (r : Range). meets r row.range) same ∙ meets_itself row.range some in
+      ⊎_elim (λ (is : row ≡ other). unlike (ap (λ (r : Row). r.tablet) (sym is)))
+      (⊎_elim (λ (before : Precedes row other). false≢true (sym before.apart ∙ met))
+      (λ (behind : Precedes other row). false≢true (sym behind.apart ∙ back)))
+      (one_precedes v.rows row other sound.rows.apart may.has_row stands)
+  of_one_row other (entries.Joined joined) stands unlike its of = of
+
+  -- a mark that is left is of another tablet
+  left_apart : (m : Mark) → Contains new_marks m → m.tablet ≡ row.tablet → ⊥
+  left_apart m stands its =
+      let kept = kept_passes (λ m. not (is_mark_of row.tablet row.term m)) old_marks m stands in
+      let fits : MarkFits row to builder (v.live to) w m =
+      All-contains (λ m. m.tablet ≡ row.tablet → MarkFits row to builder (v.live to) w m) old_marks m
+      (in_row (λ r. All (λ m. m.tablet ≡ r.tablet → MarkFits r to (v.handovers to r.tablet) (v.live to) w m) w.marks) (sound.rebuilds.marks to))
+      (filter_from (λ m. not (is_mark_of row.tablet row.term m)) old_marks m stands) its in
+      let both : is_mark_of row.tablet row.term m ≡ true =
+      and_from (eqb m.tablet row.tablet) (nat_le m.term row.term) (eq-eqb m.tablet row.tablet its) (le-leb m.term row.term fits.within) in
+      false≢true (ap not (sym both) ∙ kept)
+
+  piece_free : (n : ℕ) (entry : Entry) → slice_get w.entries n ≡ Some entry → Contains pieces entry → is_marked new_marks n ≡ false
+  piece_free n entry stands inside =
+      false_from_ne_true (is_marked new_marks n)
+      (λ marked.
+      let covered = covered_by new_marks n marked in
+      let before : IsCovered old_marks n = record {
+        mark = covered.mark;
+        stands = filter_from (λ m. not (is_mark_of row.tablet row.term m)) old_marks covered.mark covered.stands;
+        first = covered.first;
+        past = covered.past;
+      } in
+      let of = covered_of v sound to n entry stands before in
+      of_one_row of.row entry of.stands (λ its. left_apart covered.mark covered.stands (sym of.number ∙ its)) of.of (piece_of_row entry inside))
+
+  piece_stands : (entry : Entry) → Contains pieces entry → Contains free_now entry
+  piece_stands entry inside =
+      let there : Contains (take (suc at.entry - mark.first) (drop mark.first w.entries)) entry =
+      subst (λ (l : List Entry). Contains l entry) (sym piece.stands) inside in
+      let found = place_in (take (suc at.entry - mark.first) (drop mark.first w.entries)) entry there in
+      let j : ℕ = found.0 in
+      let within : j < suc at.entry - mark.first = taken_within (suc at.entry - mark.first) (drop mark.first w.entries) j entry found.1 in
+      let n : ℕ = mark.first + j in
+      let stands : slice_get w.entries n ≡ Some entry =
+      place_of w.entries mark.first j n entry refl
+      (taken_from (suc at.entry - mark.first) (drop mark.first w.entries) j entry found.1) in
+      let less : at.entry < w.applied = at.within in
+      let behind : place ≤ mark.first = piece.behind in
+      let here = behind_at (applied_entries w) place n entry (omega (arith, behind))
+      (taken_at w.applied w.entries n entry (omega (arith, less, within)) stands) in
+      unmarked_stands new_marks place here.0 front entry here.1
+      (ap (is_marked new_marks) here.2 ∙ piece_free n entry stands inside)
+
+  -- ---- what counts now: its own entries, and the piece
+
+  abbrev own : List Entry
+  own = member_truth v.written row.range own_member
+
+  abbrev truth_now : List Entry
+  truth_now = member_truth now.written row.range own_member
+
+  abbrev sides_of : List Entry → List Entry
+  sides_of free = flat_map (side_entries w.sides) (named row.range free)
+
+  names_from : (n : ℕ) → Contains (named row.range free_now) n → Contains (named row.range free_before) n
+  names_from n stands =
+      ⊎_elim (λ (none : Contains [] n). absurd (none_stands n none))
+      (λ (there : Contains (flat_map (named_by row.range) free_now) n).
+      let found = from_flat (named_by row.range) free_now n there in
+      number_to [] (flat_map (named_by row.range) free_before) n
+      (⊎_elim (λ (mine : Contains free_before found.0). to_flat (named_by row.range) free_before found.0 n mine found.2)
+      (λ (inside : Contains pieces found.0).
+      absurd
+      (none_stands n (subst (λ (l : List ℕ). Contains l n) (of_names found.0 (piece_of_row found.0 inside)) found.2)))
+      (from_either found.0 found.1)))
+      (number_from [] (flat_map (named_by row.range) free_now) n stands)
+
+  names_to : (n : ℕ) → Contains (named row.range free_before) n → Contains (named row.range free_now) n
+  names_to n stands =
+      ⊎_elim (λ (none : Contains [] n). absurd (none_stands n none))
+      (λ (there : Contains (flat_map (named_by row.range) free_before) n).
+      number_to [] (flat_map (named_by row.range) free_now) n
+      (flat_among (named_by row.range) free_before free_now own_stands n there))
+      (number_from [] (flat_map (named_by row.range) free_before) n stands)
+
+  pub truth_from : (entry : Entry) → Contains truth_now entry → Contains own entry ⊎ Contains pieces entry
+  truth_from entry stands =
+      ⊎_elim
+      (λ (main : Contains (counting row.range free_now) entry).
+      ⊎_elim
+      (λ (mine : Contains free_before entry).
+      inl
+      (Contains-append_left (counting row.range free_before) (counting row.range (sides_of free_before)) entry
+      (filter_stands (counts row.range) free_before entry mine (kept_passes (counts row.range) free_now entry main))))
+      (λ (inside : Contains pieces entry). inr inside)
+      (from_either entry (filter_from (counts row.range) free_now entry main)))
+      (λ (side : Contains (counting row.range (sides_of free_now)) entry).
+      inl
+      (Contains-append_right (counting row.range free_before) (counting row.range (sides_of free_before)) entry
+      (kept_among (counts row.range) (sides_of free_now) (sides_of free_before)
+      (flat_among (side_entries w.sides) (named row.range free_now) (named row.range free_before) names_from) entry side)))
+      (Contains-append_cases (counting row.range free_now) (counting row.range (sides_of free_now)) entry stands)
+
+  pub truth_has_own : (entry : Entry) → Contains own entry → Contains truth_now entry
+  truth_has_own entry stands =
+      ⊎_elim
+      (λ (main : Contains (counting row.range free_before) entry).
+      Contains-append_left (counting row.range free_now) (counting row.range (sides_of free_now)) entry
+      (kept_among (counts row.range) free_before free_now own_stands entry main))
+      (λ (side : Contains (counting row.range (sides_of free_before)) entry).
+      Contains-append_right (counting row.range free_now) (counting row.range (sides_of free_now)) entry
+      (kept_among (counts row.range) (sides_of free_before) (sides_of free_now)
+      (flat_among (side_entries w.sides) (named row.range free_before) (named row.range free_now) names_to) entry side))
+      (Contains-append_cases (counting row.range free_before) (counting row.range (sides_of free_before)) entry stands)
+
+  pub truth_has_piece : (entry : Entry) → Contains pieces entry → Contains truth_now entry
+  truth_has_piece entry inside =
+      Contains-append_left (counting row.range free_now) (counting row.range (sides_of free_now)) entry
+      (filter_stands (counts row.range) free_now entry (piece_stands entry inside) (of_counts entry (piece_of_row entry inside)))
