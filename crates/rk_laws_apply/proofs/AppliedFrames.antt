@@ -43,7 +43,7 @@ all_with P (entries.Carried carried) records old new = old
 all_with P (entries.Joined joined) records old new = old
 
 -- the item of an entry that lies in rows lies there
-item_within : (rows : List Row) (entry : Entry) → IsEntryWithin rows entry → All (IsItemWithin rows) (items_in entry)
+pub item_within : (rows : List Row) (entry : Entry) → IsEntryWithin rows entry → All (IsItemWithin rows) (items_in entry)
 item_within rows (entries.Held held) within = All-cons (IsItemWithin rows) held [] within (All-nil (IsItemWithin rows))
 item_within rows (entries.Refused refused) within = All-nil (IsItemWithin rows)
 item_within rows (entries.Carried carried) within = All-nil (IsItemWithin rows)

@@ -56,12 +56,12 @@ rebuilt_more (roles.Rebuilding from (Some closing)) few many place more has =
     let below : closing < few = has.0 in (omega (arith, below, more), has.1)
 rebuilt_more role few many place more has = has
 
-joined_says : (phase : Phase) (handover : Handover) (few many term master : ℕ) → few ≤ many → JoinedIn phase handover few term master → JoinedIn phase handover many term master
+pub joined_says : (phase : Phase) (handover : Handover) (few many term master : ℕ) → few ≤ many → JoinedIn phase handover few term master → JoinedIn phase handover many term master
 joined_says (Moving source sfrom target dfrom) handover few many term master more says =
     (says.0, says.1, joined_more handover.role few many more says.2)
 joined_says phase handover few many term master more says = says
 
-rebuilt_says : (phase : Phase) (handover : Handover) (ends : List Ended) (few many term master : ℕ) (rebuilt : Rebuilt) → few ≤ many → RebuiltIn phase handover ends few term master rebuilt → RebuiltIn phase handover ends many term master rebuilt
+pub rebuilt_says : (phase : Phase) (handover : Handover) (ends : List Ended) (few many term master : ℕ) (rebuilt : Rebuilt) → few ≤ many → RebuiltIn phase handover ends few term master rebuilt → RebuiltIn phase handover ends many term master rebuilt
 rebuilt_says (Rebuilding lineage to) handover ends few many term master rebuilt more says =
     (says.0, says.1, rebuilt_more handover.role few many rebuilt.place more says.2, says.3)
 rebuilt_says phase handover ends few many term master rebuilt more says = says

@@ -67,7 +67,7 @@ table_rebuilt range entry truth later own now records order has more old = recor
 }
 
 -- the piece of a rebuild is the same however much is applied
-piece_same : (number from : ℕ) (handover : Handover) (merged : Merged) (w : Written) (closing applied : ℕ) → IsPieceOf number from handover merged w closing → IsPieceOf number from handover merged (record w { applied = applied }) closing
+pub piece_same : (number from : ℕ) (handover : Handover) (merged : Merged) (w : Written) (closing applied : ℕ) → IsPieceOf number from handover merged w closing → IsPieceOf number from handover merged (record w { applied = applied }) closing
 piece_same number from handover merged w closing applied piece = record {
   mark = piece.mark;
   marked = piece.marked;
@@ -174,7 +174,7 @@ module _ (v : View) (a : Applying v) where
       let own : List Entry = counting range (unmarked_from w.marks from w.entries) in
       among_all told_by (member_material v.written range (member_at a.master from)) (entry v a) a.end
       (Contains-append_left own (counting range (flat_map (side_entries w.sides) (named range (unmarked_from w.marks from w.entries)))) (entry v a)
-      (counted_next range w.entries w.applied (entry v a) a.waits.stands (names v a range) w.marks from inside a.waits.unmarked behind))
+      (counted_next range w.entries w.applied (entry v a) a.waits.stands w.marks from inside a.waits.unmarked behind))
       (tells_it v a)
 
   -- a master that rebuilds a row, with what is needed, what it has written, its last ends and its records

@@ -35,12 +35,12 @@ use Rattle.rk_laws_apply.proofs.Stagers.{staging_present, staging_wants}
 use Rattle.rk_laws_apply.proofs.TargetApplied.{target_applied}
 
 -- what waits for its grant is not absent
-waiting_so : (role : Role) (P Q : ℕ → Type 0) → (is_wanting role ≡ true → is_absent role ≡ false → (from : ℕ) → P from → Q from) → IfSome (wanted_place role) P → IfSome (wanted_place role) Q
+pub waiting_so : (role : Role) (P Q : ℕ → Type 0) → (is_wanting role ≡ true → is_absent role ≡ false → (from : ℕ) → P from → Q from) → IfSome (wanted_place role) P → IfSome (wanted_place role) Q
 waiting_so (roles.Wanting from) P Q so holds = so refl refl from holds
 waiting_so role P Q so holds = tt
 
 -- a range has none of the records with an entry of another one
-bare_with : (range : Range) (entry : Entry) (records : List Held) (from : ℕ) (w : Written) → counts range entry ≡ false → IsBare range from w records → IsBare range from w (with_item_of entry records)
+pub bare_with : (range : Range) (entry : Entry) (records : List Held) (from : ℕ) (w : Written) → counts range entry ≡ false → IsBare range from w records → IsBare range from w (with_item_of entry records)
 bare_with range (entries.Held held) records from w outside bare = bare_beside range held records outside from w bare
 bare_with range (entries.Refused refused) records from w outside bare = bare
 bare_with range (entries.Carried carried) records from w outside bare = bare
@@ -74,10 +74,10 @@ module _ (v : View) (a : Applying v) where
       of_applied v a
       (λ n. IsTargetOf other first last truth (record w { applied = n }) (with_item_of (entry v a) (v.records last.master))) last.master
       (λ _.
-      target_applied other.range w (entry v a) (stands_at v a last.master at) (names v a other.range) last.from first.master truth
+      target_applied other.range w (entry v a) (stands_at v a last.master at) last.from first.master truth
       (member_material v.written other.range first) (v.handovers last.master other.tablet) (v.pullings last.master other.tablet)
       (get v.handed other.tablet) (v.records last.master) (a.sound.records.ordered last.master)
-      (λ counted.
+      (λ counted x its.
       subst (λ (n : ℕ). last.from ≤ (v.written n).applied) (sym at) (own_behind other has last (ap last_of is) counted))
       old)
       (λ apart. absurd (apart at)))

@@ -292,7 +292,7 @@ module _ (v : View) (a : Applying v) where
       let w : Written = v.written member.master in
       of_applied (λ n. counting range (unmarked_from w.marks (max member.from n) w.entries) ≡ member_rest v.written range member)
       member.master
-      (λ at. rest_beside range w.entries w.applied entry (stands_at member.master at) (names range) w.marks member.from (beside at))
+      (λ at. rest_beside range w.entries w.applied entry (stands_at member.master at) w.marks member.from (beside at))
       (λ apart. refl)
 
   pub rest_begins : (range : Range) (member : Member) → member.master ≡ a.master → member.from ≤ place → counts range entry ≡ true → member_rest v.written range member ≡ entry ∷ member_rest after.written range member
@@ -302,7 +302,7 @@ module _ (v : View) (a : Applying v) where
       of_applied (λ n. member_rest v.written range member ≡ entry ∷ counting range (unmarked_from w.marks (max member.from n) w.entries))
       member.master
       (λ here.
-      rest_first range w.entries w.applied entry (stands_at member.master here) (names range) w.marks member.from has
+      rest_first range w.entries w.applied entry (stands_at member.master here) w.marks member.from has
       (free_at member.master here) behind)
       (λ apart. absurd (apart at))
 

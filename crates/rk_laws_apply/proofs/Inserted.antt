@@ -113,14 +113,13 @@ module _ (entry : Entry) (old new : List Entry) (put : IsInserted entry old new)
 -- ---- floors
 
 -- what an entry raises a floor to
-height : Entry → ℕ
+abbrev pub height : Entry → ℕ
 height (entries.Held held) = held.version + 1
 height (entries.Refused refused) = 0
 height (entries.Carried carried) = carried.floor
 height (entries.Joined joined) = 0
 
-raised : (floor : ℕ) (entry : Entry) → floor_by floor entry ≡ max floor (height entry)
-unfolding height
+pub raised : (floor : ℕ) (entry : Entry) → floor_by floor entry ≡ max floor (height entry)
 raised floor (entries.Held held) = refl
 raised floor (entries.Refused refused) = omega arith
 raised floor (entries.Carried carried) = refl

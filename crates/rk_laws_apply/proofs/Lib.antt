@@ -16,3 +16,6 @@ pub mod AppliedMessages
 pub mod MergedEnds
 pub mod AppliedRebuilds
 pub mod CallApplied
+pub mod Keeps
+pub mod Passing
+pub mod PassingState

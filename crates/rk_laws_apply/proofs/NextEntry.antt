@@ -66,6 +66,11 @@ module _ (list : List Entry) (place : ℕ) (entry : Entry) (stands : slice_get l
   pub length_first : length (take place list) ≡ place
   length_first = length-take-le place list (omega (arith, within))
 
+  -- and from a place behind it nothing is there, before and after
+  pub nothing_ahead : (from : ℕ) → place < from → drop from (take (place + 1) list) ≡ drop from (take place list)
+  nothing_ahead from ahead =
+      ap (drop from) taken_next ∙ drop_none from (take place list) entry (omega (arith, ahead, length_first))
+
 -- ---- one more entry at the end of those that count
 
 module _ (range : Range) (side : ℕ → List Entry) (list : List Entry) (entry : Entry) (names : named_by range entry ≡ []) where
@@ -90,28 +95,8 @@ module _ (range : Range) (side : ℕ → List Entry) (list : List Entry) (entry 
       ∙ append_nil (counting range list))
       ∙ ap (λ (numbers : List ℕ). counting range list ++ counting range (flat_map side numbers)) same
 
-module _ (range : Range) (list : List Entry) (place : ℕ) (entry : Entry) (stands : slice_get list place ≡ Some entry) (names : named_by range entry ≡ []) where
-  -- ---- what is applied
-
-  -- counts with the entry, if that does
-  pub truth_more : (marks : List Mark) (sides : List (List Held)) (from : ℕ) → counts range entry ≡ true → is_marked marks place ≡ false → from ≤ place → IsInserted entry (log_material range marks sides from (take place list)) (log_material range marks sides from (take (place + 1) list))
-  truth_more marks sides from inside free behind =
-      let size : length (take place list) ≡ place = length_first list place entry stands in
-      let here : unmarked_from marks from (take place list ++ entry ∷ []) ≡ unmarked_from marks from (take place list) ++ entry ∷ [] =
-      unmarked_from_last marks from (take place list) entry (omega (arith, behind, size))
-      ∙ ap (λ (n : ℕ). unmarked_from marks from (take place list) ++ unless_marked (is_marked marks n) entry) size
-      ∙ ap (λ (b : Bool). unmarked_from marks from (take place list) ++ unless_marked b entry) free in
-      subst (λ (l : List Entry). IsInserted entry (log_material range marks sides from (take place list)) (log_material range marks sides from l))
-      (sym (taken_next list place entry stands))
-      (subst (λ (l : List Entry). IsInserted entry (log_material range marks sides from (take place list)) (material_of range (side_entries sides) l))
-      (sym here) (material_more range (side_entries sides) (unmarked_from marks from (take place list)) entry names inside))
-
-  pub truth_beside : (marks : List Mark) (sides : List (List Held)) (from : ℕ) → counts range entry ≡ false → log_material range marks sides from (take (place + 1) list) ≡ log_material range marks sides from (take place list)
-  truth_beside marks sides from outside =
-      ap (log_material range marks sides from) (taken_next list place entry stands)
-      ∙ material_outside range entry outside marks sides from (take place list) names
-
-  -- so do a target's own entries
+module _ (range : Range) (list : List Entry) (place : ℕ) (entry : Entry) (stands : slice_get list place ≡ Some entry) where
+  -- a target's own entries that are applied, with the entry or without it
   pub own_more : (from : ℕ) → counts range entry ≡ true → from ≤ place → counting range (drop from (take (place + 1) list)) ≡ counting range (drop from (take place list)) ++ entry ∷ []
   own_more from inside behind =
       let size : length (take place list) ≡ place = length_first list place entry stands in
@@ -132,26 +117,6 @@ module _ (range : Range) (list : List Entry) (place : ℕ) (entry : Entry) (stan
       ∙ append_nil (counting range (drop from (take place list))))
       (cases_lt (length (take place list)) from)
 
-  -- and all that is applied from a place on, marked or not
-  pub applied_more : (side : ℕ → List Entry) (from : ℕ) → counts range entry ≡ true → from ≤ place → IsInserted entry (material_of range side (drop from (take place list))) (material_of range side (drop from (take (place + 1) list)))
-  applied_more side from inside behind =
-      let size : length (take place list) ≡ place = length_first list place entry stands in
-      subst (λ (l : List Entry). IsInserted entry (material_of range side (drop from (take place list))) (material_of range side l))
-      (sym
-      (ap (drop from) (taken_next list place entry stands)
-      ∙ drop-append-le from (take place list) (entry ∷ []) (omega (arith, behind, size))))
-      (material_more range side (drop from (take place list)) entry names inside)
-
-  pub applied_beside : (side : ℕ → List Entry) (from : ℕ) → counts range entry ≡ false → material_of range side (drop from (take (place + 1) list)) ≡ material_of range side (drop from (take place list))
-  applied_beside side from outside =
-      ap (λ (l : List Entry). material_of range side (drop from l)) (taken_next list place entry stands)
-      ∙ ⊎_elim
-      (λ (beyond : length (take place list) < from). ap (material_of range side) (drop_none from (take place list) entry beyond))
-      (λ (before : from ≤ length (take place list)).
-      ap (material_of range side) (drop-append-le from (take place list) (entry ∷ []) before)
-      ∙ material_beside range side (drop from (take place list)) entry names outside)
-      (cases_lt (length (take place list)) from)
-
   -- of all that is written it counts, too
   pub counted_next : (marks : List Mark) (from : ℕ) → counts range entry ≡ true → is_marked marks place ≡ false → from ≤ place → Contains (counting range (unmarked_from marks from list)) entry
   counted_next marks from inside free behind =
@@ -170,6 +135,20 @@ module _ (range : Range) (list : List Entry) (place : ℕ) (entry : Entry) (stan
       (counting_extends range marks from first list (record { more = drop (place + 1) list; parts = sym (take-append-drop (place + 1) list) }))
       (subst (λ (l : List Entry). Contains l entry) (sym counted) (Contains-push (counting range before) entry))
 
+  -- what bears no mark is the same, where the entry bears one
+  pub unmarked_same : (marks : List Mark) (from : ℕ) → is_marked marks place ≡ true → unmarked_from marks from (take (place + 1) list) ≡ unmarked_from marks from (take place list)
+  unmarked_same marks from marked =
+      let size : length (take place list) ≡ place = length_first list place entry stands in
+      ⊎_elim
+      (λ (ahead : place < from). ap (unmarked marks from) (nothing_ahead list place entry stands from ahead))
+      (λ (behind : from ≤ place).
+      ap (unmarked_from marks from) (taken_next list place entry stands)
+      ∙ unmarked_from_last marks from (take place list) entry (omega (arith, behind, size))
+      ∙ ap (λ (n : ℕ). unmarked_from marks from (take place list) ++ unless_marked (is_marked marks n) entry) size
+      ∙ ap (λ (b : Bool). unmarked_from marks from (take place list) ++ unless_marked b entry) marked
+      ∙ append_nil (unmarked_from marks from (take place list)))
+      (cases_lt place from)
+
   -- ---- what is not applied
 
   unmarked_next : (marks : List Mark) → unmarked marks place (drop place list) ≡ cond (is_marked marks place) (unmarked marks (suc place) (drop (place + 1) list)) (entry ∷ unmarked marks (suc place) (drop (place + 1) list))
@@ -187,6 +166,22 @@ module _ (range : Range) (list : List Entry) (place : ℕ) (entry : Entry) (stan
       ∙ ap (λ (b : Bool). cond b (unmarked marks (suc place) (drop (place + 1) list)) (entry ∷ unmarked marks (suc place) (drop (place + 1) list))) free)
       ∙ filter_kept (counts range) entry (unmarked marks (suc place) (drop (place + 1) list)) inside
       ∙ (λ i. entry ∷ counting range (unmarked marks (there i) (drop (next i) list)))
+
+  pub rest_marked : (marks : List Mark) (from : ℕ) → is_marked marks place ≡ true → unmarked_from marks (max from (place + 1)) list ≡ unmarked_from marks (max from place) list
+  rest_marked marks from marked =
+      ⊎_elim
+      (λ (ahead : place < from).
+      let same : max from (place + 1) ≡ max from place = omega (arith, ahead) in ap (λ (n : ℕ). unmarked_from marks n list) same)
+      (λ (behind : from ≤ place).
+      let here : place ≡ max from place = omega (arith, behind) in
+      let there : max from (place + 1) ≡ suc place = omega (arith, behind) in
+      let next : max from (place + 1) ≡ place + 1 = omega (arith, behind) in
+      (λ i. unmarked marks (there i) (drop (next i) list))
+      ∙ sym
+      (unmarked_next marks
+      ∙ ap (λ (b : Bool). cond b (unmarked marks (suc place) (drop (place + 1) list)) (entry ∷ unmarked marks (suc place) (drop (place + 1) list))) marked)
+      ∙ ap (λ (n : ℕ). unmarked marks n (drop n list)) here)
+      (cases_lt place from)
 
   pub rest_beside : (marks : List Mark) (from : ℕ) → counts range entry ≡ false → counting range (unmarked_from marks (max from (place + 1)) list) ≡ counting range (unmarked_from marks (max from place) list)
   rest_beside marks from outside =
@@ -208,3 +203,44 @@ module _ (range : Range) (list : List Entry) (place : ℕ) (entry : Entry) (stan
       either : (b : Bool) (later : List Entry) → counting range (cond b later (entry ∷ later)) ≡ counting range later
       either true later = refl
       either false later = filter_left_out (counts range) entry later outside
+
+module _ (range : Range) (list : List Entry) (place : ℕ) (entry : Entry) (stands : slice_get list place ≡ Some entry) (names : named_by range entry ≡ []) where
+  -- ---- what is applied
+
+  -- counts with the entry, if that does
+  pub truth_more : (marks : List Mark) (sides : List (List Held)) (from : ℕ) → counts range entry ≡ true → is_marked marks place ≡ false → from ≤ place → IsInserted entry (log_material range marks sides from (take place list)) (log_material range marks sides from (take (place + 1) list))
+  truth_more marks sides from inside free behind =
+      let size : length (take place list) ≡ place = length_first list place entry stands in
+      let here : unmarked_from marks from (take place list ++ entry ∷ []) ≡ unmarked_from marks from (take place list) ++ entry ∷ [] =
+      unmarked_from_last marks from (take place list) entry (omega (arith, behind, size))
+      ∙ ap (λ (n : ℕ). unmarked_from marks from (take place list) ++ unless_marked (is_marked marks n) entry) size
+      ∙ ap (λ (b : Bool). unmarked_from marks from (take place list) ++ unless_marked b entry) free in
+      subst (λ (l : List Entry). IsInserted entry (log_material range marks sides from (take place list)) (log_material range marks sides from l))
+      (sym (taken_next list place entry stands))
+      (subst (λ (l : List Entry). IsInserted entry (log_material range marks sides from (take place list)) (material_of range (side_entries sides) l))
+      (sym here) (material_more range (side_entries sides) (unmarked_from marks from (take place list)) entry names inside))
+
+  pub truth_beside : (marks : List Mark) (sides : List (List Held)) (from : ℕ) → counts range entry ≡ false → log_material range marks sides from (take (place + 1) list) ≡ log_material range marks sides from (take place list)
+  truth_beside marks sides from outside =
+      ap (log_material range marks sides from) (taken_next list place entry stands)
+      ∙ material_outside range entry outside marks sides from (take place list) names
+
+  -- and all that is applied from a place on, marked or not
+  pub applied_more : (side : ℕ → List Entry) (from : ℕ) → counts range entry ≡ true → from ≤ place → IsInserted entry (material_of range side (drop from (take place list))) (material_of range side (drop from (take (place + 1) list)))
+  applied_more side from inside behind =
+      let size : length (take place list) ≡ place = length_first list place entry stands in
+      subst (λ (l : List Entry). IsInserted entry (material_of range side (drop from (take place list))) (material_of range side l))
+      (sym
+      (ap (drop from) (taken_next list place entry stands)
+      ∙ drop-append-le from (take place list) (entry ∷ []) (omega (arith, behind, size))))
+      (material_more range side (drop from (take place list)) entry names inside)
+
+  pub applied_beside : (side : ℕ → List Entry) (from : ℕ) → counts range entry ≡ false → material_of range side (drop from (take (place + 1) list)) ≡ material_of range side (drop from (take place list))
+  applied_beside side from outside =
+      ap (λ (l : List Entry). material_of range side (drop from l)) (taken_next list place entry stands)
+      ∙ ⊎_elim
+      (λ (beyond : length (take place list) < from). ap (material_of range side) (drop_none from (take place list) entry beyond))
+      (λ (before : from ≤ length (take place list)).
+      ap (material_of range side) (drop-append-le from (take place list) (entry ∷ []) before)
+      ∙ material_beside range side (drop from (take place list)) entry names outside)
+      (cases_lt (length (take place list)) from)

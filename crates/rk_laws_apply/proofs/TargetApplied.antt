@@ -1,8 +1,8 @@
 -- What a target has that pulls, once the next entry of its log is applied: one of its own, if it is of the range.
-use Rattle.std.proofs.Common.{◌≡◌, ℕ, ◌+◌, ◌≤◌, true, false, List, [], Option, Some, sym, ◌∙◌, subst, ⊎_elim, inl, inr, ◌⊎◌, take}
+use Rattle.std.proofs.Common.{◌≡◌, ℕ, ◌+◌, ◌≤◌, ◌<◌, arith, true, false, ap, List, [], Option, Some, sym, ◌∙◌, subst, ⊎_elim, inl, inr, ◌⊎◌, take}
 use Rattle.std.specs.Prelude.{slice_get}
 use Rattle.std.specs.List.{Contains}
-use Rattle.std.proofs.lemmas.Bool.{cases_Bool, false≢true}
+use Rattle.std.proofs.lemmas.Bool.{cases_lt, cases_Bool, false≢true}
 use Rattle.rk_types.specs.declared.held.Held.{Held}
 use Rattle.rk_types.specs.declared.range.Range.{Range}
 use Rattle.rk_entry.specs.declared.entry.Entry.{Entry}
@@ -11,14 +11,15 @@ use Rattle.rk_transfer.specs.declared.handover.Handover.{Handover}
 use Rattle.rk_world.specs.Coordinator.{Handed}
 use Rattle.rk_world.specs.Ends.{items_in, items_of}
 use Rattle.rk_world.specs.Master.{touches}
-use Rattle.rk_world.specs.Material.{counts, named_by}
+use Rattle.rk_world.specs.Material.{counting, counts, material_of, named_by, side_entries}
 use Rattle.rk_world.specs.Tablet.{Pulling}
 use Rattle.rk_world.specs.Written.{Written, applied_entries}
+use Rattle.rk_sound.specs.Rebuilds.{applied_from}
 use Rattle.rk_sound.specs.Receives.{HasArrived, IsOutdone, IsReceived, IsTarget, copied_items, entries_from, scan_items}
 use Rattle.rk_laws_apply.specs.Small.{with_item_of}
 use Rattle.rk_laws_apply.proofs.Inserted.{IsInserted, inserted_last, told_cases, told_new, told_still}
 use Rattle.rk_laws_apply.proofs.ItemPut.{found_with, item_cases, item_counts, item_found}
-use Rattle.rk_laws_apply.proofs.NextEntry.{none_fewer, own_beside, own_more}
+use Rattle.rk_laws_apply.proofs.NextEntry.{applied_beside, applied_more, none_fewer, nothing_ahead, own_beside, own_more}
 
 -- own items, with those of an entry where it counts
 pub record HasOwn (range : Range) (entry : Entry) (own now : List Held) : Type 0 where
@@ -74,17 +75,47 @@ received_with Arrived range entry items own now sides records order has old = re
       come;
 }
 
-module _ (range : Range) (w : Written) (entry : Entry) (stands : slice_get w.entries w.applied ≡ Some entry) (names : named_by range entry ≡ []) (from : ℕ) where
-  own_with : (counts range entry ≡ true → from ≤ w.applied) → HasOwn range entry (items_of (entries_from range from (applied_entries w))) (items_of (entries_from range from (take (w.applied + 1) w.entries)))
-  own_with behind =
-      has_own range entry (entries_from range from (applied_entries w)) (entries_from range from (take (w.applied + 1) w.entries))
-      (λ inside.
-      subst (IsInserted entry (entries_from range from (applied_entries w)))
-      (sym (own_more range w.entries w.applied entry stands names from inside (behind inside)))
-      (inserted_last entry (entries_from range from (applied_entries w))))
-      (λ outside. own_beside range w.entries w.applied entry stands names from outside)
+-- the item of an entry stands behind a place, if the entry counts
+abbrev pub StandsBehind : Range → Entry → ℕ → ℕ → Type 0
+StandsBehind range entry from place = counts range entry ≡ true → (x : Held) → Contains (items_in entry) x → from ≤ place
 
-  pub target_applied : (source : ℕ) (truth material : List Entry) (handover : Handover) (pulling : Pulling) (handed : Option Handed) (records : List Held) → IsInScanOrder records → (counts range entry ≡ true → from ≤ w.applied)
+-- so the entries from there on have it, of those that are applied
+own_either : (range : Range) (entry : Entry) (from place : ℕ) (own now : List Entry) → StandsBehind range entry from place → (from ≤ place → HasOwn range entry (items_of own) (items_of now)) → (place < from → now ≡ own) → HasOwn range entry (items_of own) (items_of now)
+own_either range entry from place own now behind there ahead =
+    ⊎_elim
+    (λ (later : place < from).
+    let same : now ≡ own = ahead later in record {
+      still = λ x at. subst (λ (l : List Entry). Contains (items_of l) x) (sym same) at;
+      new = λ inside x at. let before : from ≤ place = behind inside x at in absurd (omega (arith, before, later));
+      cases = λ x at. inr (subst (λ (l : List Entry). Contains (items_of l) x) same at);
+    })
+    (λ (before : from ≤ place). there before)
+    (cases_lt place from)
+
+-- also with the items of side segments
+pub applied_with : (range : Range) (w : Written) (entry : Entry) → slice_get w.entries w.applied ≡ Some entry → named_by range entry ≡ [] → (from : ℕ) → StandsBehind range entry from w.applied
+    → HasOwn range entry (items_of (applied_from range from w)) (items_of (applied_from range from (record w { applied = w.applied + 1 })))
+applied_with range w entry stands names from behind =
+    own_either range entry from w.applied (applied_from range from w) (applied_from range from (record w { applied = w.applied + 1 })) behind
+    (λ before.
+    has_own range entry (applied_from range from w) (applied_from range from (record w { applied = w.applied + 1 }))
+    (λ inside. applied_more range w.entries w.applied entry stands names (side_entries w.sides) from inside before)
+    (λ outside. applied_beside range w.entries w.applied entry stands names (side_entries w.sides) from outside))
+    (λ later. ap (material_of range (side_entries w.sides)) (nothing_ahead w.entries w.applied entry stands from later))
+
+module _ (range : Range) (w : Written) (entry : Entry) (stands : slice_get w.entries w.applied ≡ Some entry) (from : ℕ) where
+  own_with : StandsBehind range entry from w.applied → HasOwn range entry (items_of (entries_from range from (applied_entries w))) (items_of (entries_from range from (take (w.applied + 1) w.entries)))
+  own_with behind =
+      let own : List Entry = entries_from range from (applied_entries w) in
+      let now : List Entry = entries_from range from (take (w.applied + 1) w.entries) in
+      own_either range entry from w.applied own now behind
+      (λ before.
+      has_own range entry own now
+      (λ inside. subst (IsInserted entry own) (sym (own_more range w.entries w.applied entry stands from inside before)) (inserted_last entry own))
+      (λ outside. own_beside range w.entries w.applied entry stands from outside))
+      (λ later. ap (counting range) (nothing_ahead w.entries w.applied entry stands from later))
+
+  pub target_applied : (source : ℕ) (truth material : List Entry) (handover : Handover) (pulling : Pulling) (handed : Option Handed) (records : List Held) → IsInScanOrder records → StandsBehind range entry from w.applied
       → IsTarget range source truth material from w handover pulling handed records
       → IsTarget range source truth material from (record w { applied = w.applied + 1 }) handover pulling handed (with_item_of entry records)
   target_applied source truth material handover pulling handed records order behind old = record {
