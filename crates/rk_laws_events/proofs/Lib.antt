@@ -11,3 +11,6 @@ pub mod RowsApart
 pub mod Orders
 pub mod CoordinatorTurn
 pub mod Coordinating
+pub mod PostsOf
+pub mod Duties
+pub mod Reading
