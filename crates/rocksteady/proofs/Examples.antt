@@ -3,7 +3,7 @@ use Rattle.std.proofs.Common.{◌≡◌, ℕ, List, [], ◌++◌, refl}
 use Rattle.std.specs.Prelude.{codes}
 use Rattle.std.specs.Fmt.{digits}
 use Rattle.rk_types.specs.Hashing.{hash_of}
-use Rattle.rk_lane.specs.Plain.{placed_of}
+use Rattle.rk_plain_lane.specs.Plain.{placed_of}
 use Rattle.rocksteady.specs.World.{step}
 use Rattle.rocksteady.specs.Played.{played, text_of}
 

@@ -17,9 +17,9 @@ use Rattle.rk_model.proofs.Answered.{ordered_answered, ordered_asked, ordered_at
 use Rattle.rk_model.proofs.Appended.{latest_appended, rising_push}
 use Rattle.rk_model.proofs.Lanes.{allowed_merged, legal_appended}
 use Rattle.rk_model.proofs.Places.{each_appended}
-use Rattle.rk_lane.specs.Plain.{Plain, applied, last_stamp, new_plain, outcome_of, placed_of}
-use Rattle.rk_lane.proofs.PlainLemmas.{map_after-push}
-use Rattle.rk_lane.proofs.VersionLemmas.{Allowed-outcome_of, map_with-below}
+use Rattle.rk_plain_lane.specs.Plain.{Plain, applied, last_stamp, new_plain, outcome_of, placed_of}
+use Rattle.rk_plain_lane.proofs.PlainLemmas.{map_after-push}
+use Rattle.rk_plain_lane.proofs.VersionLemmas.{Allowed-outcome_of, map_with-below}
 use Rattle.rocksteady.specs.declared.client.TheConstants.{CLIENT}
 use Rattle.rocksteady.specs.declared.command.Command.{Command}
 use Rattle.rocksteady.specs.declared.command.Command.TheVariants.{Call, Settle}

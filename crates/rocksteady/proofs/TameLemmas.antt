@@ -3,9 +3,9 @@ use Rattle.std.proofs.Common.{◌≡◌, ℕ, ◌+◌, ◌≤◌, List, [], ◌�
 use Rattle.std.specs.Prelude.{Option, Some, None, Result, Ok, Err, max, slice_set}
 use Rattle.std.specs.List.{slice_index_or}
 use Rattle.rk_types.specs.declared.call.Call.{Call as ClientCall}
-use Rattle.rk_lane.specs.Plain.{Plain, applied, last_stamp, new_plain, placed_of}
-use Rattle.rk_lane.proofs.PlainLemmas.{last_stamp_from-push}
-use Rattle.rk_lane.proofs.VersionLemmas.{counter_after-le}
+use Rattle.rk_plain_lane.specs.Plain.{Plain, applied, last_stamp, new_plain, placed_of}
+use Rattle.rk_plain_lane.proofs.PlainLemmas.{last_stamp_from-push}
+use Rattle.rk_plain_lane.proofs.VersionLemmas.{counter_after-le}
 use Rattle.rocksteady.specs.declared.command.Command.{Command}
 use Rattle.rocksteady.specs.declared.command.Command.TheVariants.{Call, Settle}
 use Rattle.rocksteady.specs.World.{World, answered, asked, call_lane, lane_at, new_world, next_call, settled, step}

@@ -5,7 +5,7 @@ use Rattle.std.specs.List.{slice_index_or}
 use Rattle.std.proofs.lemmas.List.{get_or_default}
 use Rattle.rk_types.specs.declared.call.Call.{Call}
 use Rattle.rk_types.specs.declared.history.Receipt.{Receipt}
-use Rattle.rk_lane.specs.Plain.{Plain, applied, new_plain, receipt_of}
+use Rattle.rk_plain_lane.specs.Plain.{Plain, applied, new_plain, receipt_of}
 use Rattle.rocksteady.specs.World.{ClientState, World, answered, call_lane, lane_at, with_receipt}
 
 -- the item at a place of the lanes is that lane of the world

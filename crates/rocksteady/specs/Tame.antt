@@ -1,6 +1,6 @@
 -- How far the numbers of a world can have grown.
 use Rattle.std.specs.Prelude.{ℕ, ◌+◌, ◌≤◌}
-use Rattle.rk_lane.specs.Plain.{last_stamp}
+use Rattle.rk_plain_lane.specs.Plain.{last_stamp}
 use Rattle.rocksteady.specs.World.{World, lane_at}
 
 -- after so many commands no counter, no stamp of a lane and no stamp seen is greater than one more than them

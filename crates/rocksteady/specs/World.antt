@@ -5,7 +5,7 @@ use Rattle.rk_types.specs.declared.call.Op.{Op}
 use Rattle.rk_types.specs.declared.call.Call.{Call as ClientCall}
 use Rattle.rk_types.specs.declared.history.Receipt.{Receipt}
 use Rattle.rk_types.specs.Hashing.{hash_of, lane_of}
-use Rattle.rk_lane.specs.Plain.{Plain, new_plain, applied, receipt_of}
+use Rattle.rk_plain_lane.specs.Plain.{Plain, new_plain, applied, receipt_of}
 use Rattle.rocksteady.specs.declared.command.Command.{Command}
 use Rattle.rocksteady.specs.declared.command.Command.TheVariants.{Call, Settle}
 use Rattle.rocksteady.specs.declared.cluster.TheConstants.{BUSY}

@@ -7,7 +7,7 @@ ghost use Rattle.rocksteady.specs.declared.cluster.StepError.TheVariants.{NoMemo
 use crate::client::Client;
 use crate::command::Command;
 use crate::lines;
-use rk_lane::PlainLane;
+use rk_plain_lane::PlainLane;
 use rk_types::{Call, Key, LANES, NoMemory, Op, hash, lane_of};
 use std::alloc::Global;
 use std::marker::Model;

@@ -4,7 +4,7 @@ use Rattle.std.specs.List.{range_with_len}
 use Rattle.std.proofs.lemmas.Iterator.{YieldsList-from_map, YieldsList-from_range, items_from_collect}
 use Rattle.std.proofs.lemmas.Result.{IfOk-at_ok}
 use Rattle.rk_types.specs.declared.hashing.TheConstants.{LANES}
-use Rattle.rk_lane.specs.Plain.{new_plain}
+use Rattle.rk_plain_lane.specs.Plain.{new_plain}
 use Rattle.rocksteady.proofs.cluster.new_lanes.Goals as goal
 
 pub returns : goal.returns

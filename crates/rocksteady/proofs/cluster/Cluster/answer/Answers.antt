@@ -1,7 +1,7 @@
 -- The lane of the call's key is one of the eight.
 use Rattle.std.proofs.Common.{◌≡◌, ◌∙◌, ap, arith}
 use Rattle.rk_types.specs.Hashing.{hash_of, lane_of}
-use Rattle.rk_lane.specs.Plain.{Plain, last_stamp}
+use Rattle.rk_plain_lane.specs.Plain.{Plain, last_stamp}
 use Rattle.rocksteady.specs.World.{call_lane, lane_at}
 use Rattle.rocksteady.proofs.WorldLemmas.{answered-parts, lane_at-item}
 use Rattle.rocksteady.proofs.cluster.Cluster.answer.Goals as goal

@@ -3,11 +3,11 @@ use Rattle.std.proofs.Common.{◌≡◌, ℕ, List, ap, ◌∙◌}
 use Rattle.std.specs.Prelude.{max, Option}
 use Rattle.std.specs.BTreeMap.{get}
 use Rattle.std.specs.Option.{option_copied}
-use Rattle.rk_lane.specs.declared.kept.Kept.{Kept}
-use Rattle.rk_lane.specs.Kept.{entry_of, key_cmp, map_kept}
-use Rattle.rk_lane.specs.Plain.{outcome_of}
-use Rattle.rk_lane.proofs.PlainLemmas.{placed_of-parts}
-use Rattle.rk_lane.proofs.plain.PlainLane.placed.Goals as goal
+use Rattle.rk_plain_lane.specs.declared.kept.Kept.{Kept}
+use Rattle.rk_plain_lane.specs.Kept.{entry_of, key_cmp, map_kept}
+use Rattle.rk_plain_lane.specs.Plain.{outcome_of}
+use Rattle.rk_plain_lane.proofs.PlainLemmas.{placed_of-parts}
+use Rattle.rk_plain_lane.proofs.plain.PlainLane.placed.Goals as goal
 
 pub returns : goal.returns
 returns c =

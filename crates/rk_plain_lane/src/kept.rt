@@ -2,8 +2,8 @@ ghost use Rattle.std.specs.Prelude.{◌≡◌, ◌<◌, ◌^◌, IfOk, OnOk, OnE
 ghost use Rattle.std.specs.BTreeMap.{IsUnchanged};
 ghost use Rattle.std.specs.Option.{option_copied, option_map};
 ghost use Rattle.rk_model.specs.Machine.{change_of, live_version as live_version_of, read_of};
-ghost use Rattle.rk_lane.specs.Plain.{counter_after, outcome_of, removal_of};
-ghost use Rattle.rk_lane.specs.Kept.{ChangesEntry, entry_kept, entry_of};
+ghost use Rattle.rk_plain_lane.specs.Plain.{counter_after, outcome_of, removal_of};
+ghost use Rattle.rk_plain_lane.specs.Kept.{ChangesEntry, entry_kept, entry_of};
 
 use rk_types::{Key, NoMemory, Op, Outcome, Value};
 use std::collections::BTreeMap;

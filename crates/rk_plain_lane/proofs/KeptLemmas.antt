@@ -6,8 +6,8 @@ use Rattle.std.specs.BTreeMap.{BTreeMap, Updates, get}
 use Rattle.std.specs.Cmp.{tied_then, unsigned_ties, nat_eq_equiv}
 use Rattle.std.specs.Cmp.Lexicographic.{slice_cmp, on_texts_equal}
 use Rattle.std.proofs.lemmas.Map.Text.{is_eq-slice_cmp}
-use Rattle.rk_lane.specs.declared.kept.Kept.{Kept}
-use Rattle.rk_lane.specs.Kept.{key_cmp, map_kept, entry_kept, entry_of, ChangesEntry}
+use Rattle.rk_plain_lane.specs.declared.kept.Kept.{Kept}
+use Rattle.rk_plain_lane.specs.Kept.{key_cmp, map_kept, entry_kept, entry_of, ChangesEntry}
 
 -- the order of keys ties exactly at one table and equal bytes
 pub is_eq-key_cmp : (t u : ℕ) (k l : List ℕ) → is_eq (key_cmp (t, k) (u, l)) ≡ (u == t && bytes_eq l k)

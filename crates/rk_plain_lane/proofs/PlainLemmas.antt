@@ -5,11 +5,11 @@ use Rattle.std.specs.BTreeMap.{BTreeMap}
 use Rattle.rk_types.specs.declared.history.Placed.{Placed}
 use Rattle.rk_model.specs.Machine.{Entry, change_of}
 use Rattle.rk_model.specs.History.{Map, empty_map, map_after, map_with, with_change}
-use Rattle.rk_lane.specs.declared.kept.Kept.{Kept}
+use Rattle.rk_plain_lane.specs.declared.kept.Kept.{Kept}
 use Rattle.rk_types.specs.declared.call.Call.{Call}
 use Rattle.rk_types.specs.declared.call.Outcome.{Outcome}
-use Rattle.rk_lane.specs.Plain.{Plain, last_stamp, last_stamp_from, outcome_of, placed_of}
-use Rattle.rk_lane.specs.Kept.{StandsFor, ChangesEntry, map_kept}
+use Rattle.rk_plain_lane.specs.Plain.{Plain, last_stamp, last_stamp_from, outcome_of, placed_of}
+use Rattle.rk_plain_lane.specs.Kept.{StandsFor, ChangesEntry, map_kept}
 
 -- the stamp of the last record is that of the record put at the end
 pub last_stamp_from-push : (stamp : ℕ) (journal : List Placed) (placed : Placed) → last_stamp_from stamp (journal ++ placed ∷ []) ≡ placed.stamp

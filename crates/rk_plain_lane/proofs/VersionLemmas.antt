@@ -8,7 +8,7 @@ use Rattle.rk_types.specs.declared.call.Outcome.TheVariants.{Found, Absent, Writ
 use Rattle.rk_types.specs.declared.history.Placed.{Placed}
 use Rattle.rk_model.specs.Machine.{Entry, never, live, gone, Allowed, IsWrittenAbove, change_of, last_version, live_version}
 use Rattle.rk_model.specs.History.{Map, map_with, with_change}
-use Rattle.rk_lane.specs.Plain.{counter_after, outcome_of}
+use Rattle.rk_plain_lane.specs.Plain.{counter_after, outcome_of}
 
 -- a conditional write, by whether the version is the one that was expected
 written_or_refused : (b : Bool) (last there version : ℕ) → last < version → MatchBool b (IsWrittenAbove last (cond b (Written version) (Mismatch there))) (cond b (Written version) (Mismatch there) ≡ Mismatch there)

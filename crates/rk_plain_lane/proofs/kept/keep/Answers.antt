@@ -1,6 +1,6 @@
 -- An insertion that went in is the change.
-use Rattle.rk_lane.proofs.KeptLemmas.{ChangesEntry-insert}
-use Rattle.rk_lane.proofs.kept.keep.Goals as goal
+use Rattle.rk_plain_lane.proofs.KeptLemmas.{ChangesEntry-insert}
+use Rattle.rk_plain_lane.proofs.kept.keep.Goals as goal
 
 pub returns-in_ok-insert-clause-ok : goal.returns-in_ok-insert-clause-ok
 returns-in_ok-insert-clause-ok c =

@@ -1,6 +1,6 @@
 -- What is kept after the change stands for the journal with the record at its end.
-use Rattle.rk_lane.proofs.PlainLemmas.{StandsFor-push}
-use Rattle.rk_lane.proofs.plain.PlainLane.record.Goals as goal
+use Rattle.rk_plain_lane.proofs.PlainLemmas.{StandsFor-push}
+use Rattle.rk_plain_lane.proofs.plain.PlainLane.record.Goals as goal
 
 pub invariant_of-self-2 : goal.invariant_of-self-2
 invariant_of-self-2 c =

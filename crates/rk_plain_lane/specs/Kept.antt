@@ -4,12 +4,12 @@ use Rattle.std.specs.BTreeMap.{BTreeMap, get}
 use Rattle.std.specs.Ordering.{nat_cmp, ordering_then}
 use Rattle.std.specs.Cmp.Lexicographic.{slice_cmp}
 use Rattle.std.specs.declared.cmp.Ordering.{Ordering}
-use Rattle.rk_lane.specs.declared.kept.Kept.{Kept}
-use Rattle.rk_lane.specs.declared.kept.Kept.TheVariants.{Live, Gone}
+use Rattle.rk_plain_lane.specs.declared.kept.Kept.{Kept}
+use Rattle.rk_plain_lane.specs.declared.kept.Kept.TheVariants.{Live, Gone}
 use Rattle.rk_types.specs.declared.history.Placed.{Placed}
 use Rattle.rk_model.specs.Machine.{Entry, never, live, gone}
 use Rattle.rk_model.specs.History.{Map, empty_map, map_after, with_change}
-use Rattle.rk_lane.specs.Plain.{last_stamp}
+use Rattle.rk_plain_lane.specs.Plain.{last_stamp}
 
 -- the entry that something kept stands for
 abbrev pub entry_kept : Kept → Entry

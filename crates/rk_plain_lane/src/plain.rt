@@ -1,5 +1,5 @@
 ghost use Rattle.std.specs.Prelude.{◌≡◌, ◌<◌, ◌^◌, length, IfOk, OnOk, OnErr};
-ghost use Rattle.rk_lane.specs.Plain.{applied, last_stamp, new_plain, placed_of, receipt_for, receipt_of, with_record};
+ghost use Rattle.rk_plain_lane.specs.Plain.{applied, last_stamp, new_plain, placed_of, receipt_for, receipt_of, with_record};
 
 use crate::kept::{self, Kept};
 use rk_types::{Call, Key, NoMemory, Placed, Receipt};
@@ -19,8 +19,8 @@ pub struct PlainLane {
 }
 
 impl Model for PlainLane {
-    ghost use Rattle.rk_lane.specs.Plain.{Plain};
-    ghost use Rattle.rk_lane.specs.Kept.{StandsFor};
+    ghost use Rattle.rk_plain_lane.specs.Plain.{Plain};
+    ghost use Rattle.rk_plain_lane.specs.Kept.{StandsFor};
 
     ghost Value = { Plain };
 
