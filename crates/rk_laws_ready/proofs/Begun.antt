@@ -1,9 +1,9 @@
 -- A lane stays sound when a master begins to rebuild a tablet: it gives up each other tablet there, and outside the lineage it drops its
 -- items of the range; nothing is gathered so far.
 use Rattle.std.proofs.Common.{◌≡◌, ℕ, ◌<◌, ◌≤◌, Bool, true, false, List, [], ◌∷◌, Option, Some, None, cond, length, map, refl, sym, ap, ◌∙◌, subst, ⊎_elim, ◌⊎◌, inr, arith}
-use Rattle.std.specs.Prelude.{◌==◌, ◌&&◌, ◌||◌, filter, is_some, nat_lt, not, slice_index_or}
+use Rattle.std.specs.Prelude.{◌==◌, ◌||◌, filter, is_some, nat_lt, not, slice_index_or}
 use Rattle.std.specs.List.{Contains}
-use Rattle.std.proofs.lemmas.Bool.{cases_eq, cond_both, cond-true, false≢true, lt-ltb}
+use Rattle.std.proofs.lemmas.Bool.{cases_eq, cond-true, false≢true, lt-ltb}
 use Rattle.std.proofs.lemmas.List.{drop_all}
 use Rattle.std.proofs.lemmas.List.Elements.{All-cons, All-contains, All-nil, Contains-get_or}
 use Rattle.rk_types.specs.Range.{meets}
@@ -24,7 +24,7 @@ use Rattle.rk_tablet_map.specs.declared.phase.Phase.TheVariants.{Rebuilding}
 use Rattle.rk_tablet_map.specs.declared.row.Row.{Row}
 use Rattle.rk_message.specs.declared.rebuilding.Rebuild.{Rebuild}
 use Rattle.rk_world.specs.Gather.{unread}
-use Rattle.rk_world.specs.Handovers.{given_up, with_others_given_up}
+use Rattle.rk_world.specs.Handovers.{with_others_given_up}
 use Rattle.rk_world.specs.Lineage.{is_member, own_member}
 use Rattle.rk_world.specs.Marks.{unmarked}
 use Rattle.rk_world.specs.Master.{Master, tablet_at, with_tablet}
@@ -45,17 +45,15 @@ use Rattle.rk_sound.specs.Whole.{IsSound, SoundView}
 use Rattle.rk_laws_parts.proofs.Apart.{same_number}
 use Rattle.rk_laws_parts.proofs.Cover.{covered_by}
 use Rattle.rk_laws_parts.proofs.InRange.{stays, stood}
-use Rattle.rk_laws_parts.proofs.Masters.{tablet_apart, tablet_here}
-use Rattle.rk_laws_parts.proofs.Put.{put_here, put_is, put_other}
 use Rattle.rk_laws_parts.proofs.Rebuilds.{IsRebuilderIn}
 use Rattle.rk_laws_parts.proofs.RoleTaken.{rows_apart}
 use Rattle.rk_laws_parts.proofs.TurnedRows.{stands_found}
 use Rattle.rk_laws_ready.proofs.Heirs.{MayBeginBy, begins_by, post_is}
 use Rattle.rk_laws_ready.proofs.OthersGivenUp.{MayTakeOrder, apart, beside_order, step}
-use Rattle.rk_laws_ready.proofs.TakenTablets.{others_at, own_at, view_tablets}
+use Rattle.rk_laws_ready.proofs.TakenTablets.{own_at, view_taken}
 use Rattle.rk_laws_ready.proofs.Yielded.{view_yielded}
 use Rattle.rk_laws_ready.proofs.Yielding.{AreLeft, Yields, YieldsBeside}
-use Rattle.rk_laws_ready.specs.Small.{as_begun, as_rebuilding, begins_from, begun, begun_tablets, items_left, others_given_up, rebuild_begun_in, tablet_seen}
+use Rattle.rk_laws_ready.specs.Small.{as_begun, as_rebuilding, begins_from, begun, begun_tablets, items_left, rebuild_begun_in, tablet_seen}
 
 -- ---- what is gathered at first
 
@@ -97,6 +95,7 @@ order_of row lineage =
     record { tenure = record { tablet = row.tablet; term = row.term }; range = row.range; lineage = lineage }
 
 module _ (v : View) (row : Row) (master : ℕ) (lineage : List Member) (sound : SoundView v) (may : MayBegin v row master (order_of row lineage)) where
+  -- what the condition says, by short names
   abbrev has : Contains v.rows row
   has = may.has_row
 
@@ -299,12 +298,13 @@ module _ (w : World) (master : ℕ) (rebuild : Rebuild) where
   abbrev was : Tablet
   was = tablet_in w master asked
 
-  -- what is left to it, by its member of the lineage
+  -- what is left to the master, by its member of the lineage
   abbrev base : Option Member → Master
   base member = record (master_at w master) { records = items_left (master_at w master).records rebuild.range member }
 
-  abbrev cleared : Option Member → Master
-  cleared member = with_others_given_up (base member) asked rebuild.range
+  -- the master once its other tablets of the range are gone too
+  abbrev left_alone : Option Member → Master
+  left_alone member = with_others_given_up (base member) asked rebuild.range
 
   -- the tablet that it begins to rebuild, where this is its number
   abbrev begins_as : ℕ → Tablet
@@ -312,25 +312,25 @@ module _ (w : World) (master : ℕ) (rebuild : Rebuild) where
 
   -- the master that begins, where this is its number
   abbrev begins_by_number : ℕ → Master
-  begins_by_number number = with_tablet (cleared (own_member rebuild.lineage number)) asked (begins_as number)
+  begins_by_number number = with_tablet (left_alone (own_member rebuild.lineage number)) asked (begins_as number)
 
   -- the master that takes the order, where it has this of the tablet
   abbrev taking : Option Member → Tablet → Master
   taking member tablet =
-      with_begun (cleared member) rebuild
+      with_begun (left_alone member) rebuild
       (handover_rebuilt tablet.handover rebuild.tenure.term rebuild.range (begins_from (view w) master member))
 
-  moves_by : (member : Option Member) → was.handover.term < rebuild.tenure.term → taking member (tablet_at (cleared member) asked) ≡ with_tablet (cleared member) asked (as_begun (master_at w master).number rebuild (begins_from (view w) master member) was)
+  moves_by : (member : Option Member) → was.handover.term < rebuild.tenure.term → taking member (tablet_at (left_alone member) asked) ≡ with_tablet (left_alone member) asked (as_begun (master_at w master).number rebuild (begins_from (view w) master member) was)
   moves_by member greater =
       let from : ℕ = begins_from (view w) master member in
       let new : Handover = as_rebuilding rebuild.tenure.term rebuild.range from was.handover in
-      let stays_own : tablet_at (cleared member) asked ≡ was = own_at (base member) asked rebuild.range in
+      let stays_own : tablet_at (left_alone member) asked ≡ was = own_at (base member) asked rebuild.range in
       ap (taking member) stays_own
-      ∙ ap (with_begun (cleared member) rebuild)
+      ∙ ap (with_begun (left_alone member) rebuild)
       (cond-true (nat_lt was.handover.term rebuild.tenure.term) (Some new) None (lt-ltb was.handover.term rebuild.tenure.term greater))
       ∙ ap
       (λ (t : Tablet).
-      with_tablet (cleared member) asked
+      with_tablet (left_alone member) asked
       (record (as_begun (master_at w master).number rebuild from t) { handover = new })) stays_own
 
   moves : was.handover.term < rebuild.tenure.term → rebuild_begun (master_at w master) rebuild ≡ begins_by_number (master_at w master).number
@@ -342,36 +342,11 @@ module _ (w : World) (master : ℕ) (rebuild : Rebuild) where
       (handover_rebuilt (tablet_at now asked).handover rebuild.tenure.term rebuild.range (from_is w master member i)))
       ∙ moves_by member greater
 
-  -- what it has of each tablet
-  abbrev mine : Option Member
-  mine = own_member rebuild.lineage master
-
-  has_tablet : (r : ℕ) → tablet_at (begins_by_number master) r ≡ begun_tablets (view w) master rebuild r
-  has_tablet r =
-      put_is (others_given_up (tablet_in w master) asked rebuild.range) asked (begins_as master) r (tablet_at (begins_by_number master) r)
-      (λ is. ap (tablet_at (begins_by_number master)) is ∙ tablet_here (cleared mine) asked (begins_as master))
-      (λ other.
-      tablet_apart (cleared mine) asked (begins_as master) r other ∙ others_at (base mine) asked rebuild.range r)
-
-  same_ends : (r : ℕ) → (begun_tablets (view w) master rebuild r).completions ≡ (tablet_in w master r).completions
-  same_ends r =
-      let others : ℕ → Tablet = others_given_up (tablet_in w master) asked rebuild.range in
-      let tablet : Tablet = tablet_in w master r in
-      ⊎_elim
-      (λ (is : r ≡ asked).
-      ap (λ (t : Tablet). t.completions) (put_here others asked (begins_as master) r is)
-      ∙ ap (λ (n : ℕ). (tablet_in w master n).completions) (sym is))
-      (λ (other : r ≡ asked → ⊥).
-      ap (λ (t : Tablet). t.completions) (put_other others asked (begins_as master) r other)
-      ∙ cond_both (not (r == asked) && meets tablet.handover.range rebuild.range) (given_up tablet) tablet
-      (λ (t : Tablet). t.completions ≡ tablet.completions) (λ e. refl) (λ e. refl))
-      (cases_eq r asked)
-
   pub view_begun_in : (master_at w master).number ≡ master → was.handover.term < rebuild.tenure.term → view (rebuild_begun_in w master rebuild) ≡ begun (view w) master rebuild
   view_begun_in numbered greater =
       ap (λ (m : Master). view (with_master w master m)) (moves greater ∙ ap begins_by_number numbered)
-      ∙ view_tablets w master (items_left (master_at w master).records rebuild.range mine) (begins_by_number master).tablets
-      (begun_tablets (view w) master rebuild) has_tablet same_ends
+      ∙ view_taken w master (items_left (master_at w master).records rebuild.range (own_member rebuild.lineage master)) asked rebuild.range
+      (begins_as master) refl
 
 pub sound_begun : (w : World) (row : Row) (master : ℕ) (rebuild : Rebuild) → IsSound w → MayBegin (view w) row master rebuild → IsSound (rebuild_begun_in w master rebuild)
 sound_begun w row master rebuild sound may =

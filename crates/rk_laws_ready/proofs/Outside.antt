@@ -1,7 +1,7 @@
 -- Masters that are not of a row's lineage: what they may have of the tablet below the row's term, and what it may become.
-use Rattle.std.proofs.Common.{◌≡◌, ℕ, ◌<◌, ◌≤◌, Bool, true, false, List, ◌∷◌, cond, eqb, refl, ap, ◌∙◌, subst, ⊎_elim, arith}
+use Rattle.std.proofs.Common.{◌≡◌, ℕ, ◌<◌, ◌≤◌, Bool, true, false, List, ◌∷◌, cond, eqb, refl, subst, ⊎_elim, arith}
 use Rattle.std.specs.Prelude.{◌&&◌, ◌||◌, nat_lt}
-use Rattle.std.proofs.lemmas.Bool.{both_ways, cases_eq, cond-true, eq-eqb, false≢true, or_left}
+use Rattle.std.proofs.lemmas.Bool.{both_ways, cases_eq, cond-true, eq-eqb, false≢true, or_left, or_right}
 use Rattle.std.proofs.lemmas.Bool.Decides.{nat_tests}
 use Rattle.rk_types.specs.declared.lineage.Member.{Member}
 use Rattle.rk_transfer.specs.Handover.{is_serving}
@@ -18,17 +18,12 @@ use Rattle.rk_laws_parts.proofs.Steady.{IsHeir, heir_post}
 
 -- ---- members of a lineage
 
-or_true : (b : Bool) → (b || true) ≡ true
-or_true true = refl
-or_true false = refl
-
 pub first_member : (source : Member) (more : List Member) → is_member (source ∷ more) source.master ≡ true
 first_member source more = or_left (eqb source.master source.master) (is_member more source.master) (eq-eqb source.master source.master refl)
 
 pub second_member : (source target : Member) (more : List Member) → is_member (source ∷ target ∷ more) target.master ≡ true
 second_member source target more =
-    ap (λ (b : Bool). eqb source.master target.master || (b || is_member more target.master)) (eq-eqb target.master target.master refl)
-    ∙ or_true (eqb source.master target.master)
+    or_right (eqb source.master target.master) (is_member (target ∷ more) target.master) (first_member target more)
 
 -- ---- quiet roles
 

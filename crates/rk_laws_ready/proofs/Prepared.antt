@@ -1,9 +1,9 @@
 -- A lane stays sound when a master makes ready for a tablet: it drops its items of the range, gives up each other tablet there, and waits.
 use Rattle.std.proofs.Common.{◌≡◌, ℕ, ◌<◌, ◌≤◌, true, false, List, Option, Some, None, refl, sym, ap, ◌∙◌, subst, ⊎_elim, ◌⊎◌, inl, inr, length, arith}
-use Rattle.std.specs.Prelude.{◌==◌, ◌&&◌, drop, is_some, nat_lt, not}
+use Rattle.std.specs.Prelude.{drop, is_some, nat_lt}
 use Rattle.std.proofs.lemmas.List.{drop_all}
 use Rattle.std.specs.List.{All, Contains, list_any}
-use Rattle.std.proofs.lemmas.Bool.{cases_Bool, cases_eq, cond_both, cond-true, lt-ltb}
+use Rattle.std.proofs.lemmas.Bool.{cases_Bool, cases_eq, cond-true, lt-ltb}
 use Rattle.std.proofs.lemmas.List.Elements.{All-contains}
 use Rattle.rk_types.specs.Range.{meets}
 use Rattle.rk_types.specs.declared.held.Held.{Held}
@@ -18,7 +18,7 @@ use Rattle.rk_tablet_map.specs.Rows.{row_of}
 use Rattle.rk_tablet_map.specs.declared.phase.Phase.{Phase}
 use Rattle.rk_tablet_map.specs.declared.row.Row.{Row}
 use Rattle.rk_message.specs.declared.handover.Prepare.{Prepare}
-use Rattle.rk_world.specs.Handovers.{given_up, tablet_prepared, with_move, with_others_given_up}
+use Rattle.rk_world.specs.Handovers.{tablet_prepared, with_move, with_others_given_up}
 use Rattle.rk_world.specs.Lineage.{is_member}
 use Rattle.rk_world.specs.Master.{Master, tablet_at, touches, with_tablet, without_items}
 use Rattle.rk_world.specs.Tablet.{Tablet, with_handover, without_merged}
@@ -33,17 +33,15 @@ use Rattle.rk_sound.specs.Terms.{HandoverFits, IsBelowOthers}
 use Rattle.rk_sound.specs.Whole.{IsSound, SoundView}
 use Rattle.rk_laws_parts.proofs.Apart.{same_number}
 use Rattle.rk_laws_parts.proofs.InRange.{stays, stood}
-use Rattle.rk_laws_parts.proofs.Masters.{tablet_apart, tablet_here}
-use Rattle.rk_laws_parts.proofs.Put.{put_here, put_is, put_other}
 use Rattle.rk_laws_parts.proofs.Released.{outside_post}
 use Rattle.rk_laws_parts.proofs.TurnedRows.{stands_found}
 use Rattle.rk_laws_ready.proofs.Left.{none_left}
 use Rattle.rk_laws_ready.proofs.OthersGivenUp.{MayTakeOrder, apart, beside_order, fits, step}
 use Rattle.rk_laws_ready.proofs.Outside.{outside_wants, quiet_behind}
-use Rattle.rk_laws_ready.proofs.TakenTablets.{others_at, own_at, view_tablets}
+use Rattle.rk_laws_ready.proofs.TakenTablets.{own_at, view_taken}
 use Rattle.rk_laws_ready.proofs.Yielded.{view_yielded}
 use Rattle.rk_laws_ready.proofs.Yielding.{AreLeft, Yields, YieldsBeside}
-use Rattle.rk_laws_ready.specs.Small.{as_wanting, others_given_up, prepared, prepared_tablets, tablet_prepared_in, tablet_seen}
+use Rattle.rk_laws_ready.specs.Small.{as_wanting, prepared, prepared_tablets, tablet_prepared_in, tablet_seen}
 
 module _ (v : View) (row : Row) (master : ℕ) (prepare : Prepare) (sound : SoundView v) (may : MayPrepare v row master prepare) where
   abbrev number : ℕ
@@ -209,10 +207,6 @@ module _ (w : World) (master : ℕ) (prepare : Prepare) where
   abbrev asked : ℕ
   asked = prepare.tenure.tablet
 
-  -- the master once the items of the range and the other tablets there are gone
-  abbrev cleared : Master
-  cleared = with_others_given_up (without_items (master_at w master) prepare.range) asked prepare.range
-
   abbrev was : Tablet
   was = tablet_in w master asked
 
@@ -222,48 +216,28 @@ module _ (w : World) (master : ℕ) (prepare : Prepare) where
   abbrev ready : Tablet
   ready = without_merged (with_handover was waits)
 
-  stays_own : tablet_at cleared asked ≡ was
+  -- the master once its items of the range and its other tablets there are gone
+  abbrev left_alone : Master
+  left_alone = with_others_given_up (without_items (master_at w master) prepare.range) asked prepare.range
+
+  stays_own : tablet_at left_alone asked ≡ was
   stays_own = own_at (without_items (master_at w master) prepare.range) asked prepare.range
 
   -- the move applies
-  moves : was.handover.term < prepare.tenure.term → tablet_prepared (master_at w master) prepare ≡ with_tablet cleared asked ready
+  moves : was.handover.term < prepare.tenure.term → tablet_prepared (master_at w master) prepare ≡ with_tablet left_alone asked ready
   moves greater =
-      ap (λ (t : Tablet). with_move cleared asked (moved_to t.handover)) stays_own
-      ∙ ap (with_move cleared asked)
+      ap (λ (t : Tablet). with_move left_alone asked (moved_to t.handover)) stays_own
+      ∙ ap (with_move left_alone asked)
       (cond-true (nat_lt was.handover.term prepare.tenure.term) (Some waits) None (lt-ltb was.handover.term prepare.tenure.term greater))
-      ∙ ap (λ (t : Tablet). with_tablet cleared asked (without_merged (with_handover t waits))) stays_own
+      ∙ ap (λ (t : Tablet). with_tablet left_alone asked (without_merged (with_handover t waits))) stays_own
     where
       moved_to : Handover → Option Handover
       moved_to handover = handover_prepared handover prepare.tenure.term prepare.range (length (log_in w master).entries)
 
-  -- what it has of each tablet
-  has_tablet : (r : ℕ) → tablet_at (with_tablet cleared asked ready) r ≡ prepared_tablets (view w) master prepare r
-  has_tablet r =
-      put_is (others_given_up (tablet_in w master) asked prepare.range) asked ready r (tablet_at (with_tablet cleared asked ready) r)
-      (λ is. ap (tablet_at (with_tablet cleared asked ready)) is ∙ tablet_here cleared asked ready)
-      (λ other.
-      tablet_apart cleared asked ready r other
-      ∙ others_at (without_items (master_at w master) prepare.range) asked prepare.range r)
-
-  same_ends : (r : ℕ) → (prepared_tablets (view w) master prepare r).completions ≡ (tablet_in w master r).completions
-  same_ends r =
-      let others : ℕ → Tablet = others_given_up (tablet_in w master) asked prepare.range in
-      let tablet : Tablet = tablet_in w master r in
-      ⊎_elim
-      (λ (is : r ≡ asked).
-      ap (λ (t : Tablet). t.completions) (put_here others asked ready r is)
-      ∙ ap (λ (n : ℕ). (tablet_in w master n).completions) (sym is))
-      (λ (other : r ≡ asked → ⊥).
-      ap (λ (t : Tablet). t.completions) (put_other others asked ready r other)
-      ∙ cond_both (not (r == asked) && meets tablet.handover.range prepare.range) (given_up tablet) tablet
-      (λ (t : Tablet). t.completions ≡ tablet.completions) (λ e. refl) (λ e. refl))
-      (cases_eq r asked)
-
   pub view_prepared_in : was.handover.term < prepare.tenure.term → view (tablet_prepared_in w master prepare) ≡ prepared (view w) master prepare
   view_prepared_in greater =
       ap (λ (m : Master). view (with_master w master m)) (moves greater)
-      ∙ view_tablets w master (without prepare.range (master_at w master).records) (with_tablet cleared asked ready).tablets
-      (prepared_tablets (view w) master prepare) has_tablet same_ends
+      ∙ view_taken w master (without prepare.range (master_at w master).records) asked prepare.range ready refl
 
 pub sound_prepared : (w : World) (row : Row) (master : ℕ) (prepare : Prepare) → IsSound w → MayPrepare (view w) row master prepare → IsSound (tablet_prepared_in w master prepare)
 sound_prepared w row master prepare sound may =

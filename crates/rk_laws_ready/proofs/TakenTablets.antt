@@ -1,9 +1,9 @@
 -- What is seen of a world where one master has other records and tablets, and what it has of each tablet once others are given up.
-use Rattle.std.proofs.Common.{◌≡◌, ℕ, true, false, List, [], ◌∷◌, Option, Some, None, cond, refl, sym, ap, ◌∙◌}
+use Rattle.std.proofs.Common.{◌≡◌, ℕ, true, false, List, [], ◌∷◌, Option, Some, None, cond, refl, sym, ap, ◌∙◌, ⊎_elim}
 use Rattle.std.specs.Prelude.{◌==◌, ◌&&◌, not, unwrap_or}
 use Rattle.std.specs.Option.{option_map}
 use Rattle.std.specs.Ordering.{eq_by_cmp, nat_cmp}
-use Rattle.std.proofs.lemmas.Bool.{and_left, cond_both, cond-false, eq-eqb}
+use Rattle.std.proofs.lemmas.Bool.{and_left, cases_eq, cond_both, cond-false, eq-eqb}
 use Rattle.rk_types.specs.NumberMap.{NumberMap, changed_each, get}
 use Rattle.rk_types.specs.Range.{meets}
 use Rattle.rk_types.specs.declared.held.Held.{Held}
@@ -11,14 +11,14 @@ use Rattle.rk_types.specs.declared.range.Range.{Range}
 use Rattle.rk_types.proofs.NumberMaps.{same_number}
 use Rattle.rk_world.specs.Handovers.{given_up, with_others_given_up}
 use Rattle.rk_world.specs.Ledger.{marks_of}
-use Rattle.rk_world.specs.Master.{Master, tablet_at}
+use Rattle.rk_world.specs.Master.{Master, tablet_at, with_tablet}
 use Rattle.rk_world.specs.Tablet.{Tablet, no_tablet}
 use Rattle.rk_world.specs.World.{World, master_at, tablet_in, with_master}
 use Rattle.rk_world.specs.Written.{written_by}
 use Rattle.rk_sound.specs.View.{view}
 use Rattle.rk_sound.specs.Small.{put}
-use Rattle.rk_laws_parts.proofs.Masters.{master_other, master_same, same_of_all, same_of_each}
-use Rattle.rk_laws_parts.proofs.Put.{put_is}
+use Rattle.rk_laws_parts.proofs.Masters.{master_other, master_same, same_of_all, same_of_each, tablet_apart, tablet_here}
+use Rattle.rk_laws_parts.proofs.Put.{put_here, put_is, put_other}
 use Rattle.rk_laws_ready.specs.Small.{others_given_up, tablets_taken}
 
 -- ---- other tablets are given up
@@ -43,7 +43,7 @@ module _ (master : Master) (number : ℕ) (range : Range) where
       cond_both (not (r == number) && meets no_tablet.handover.range range) (given_up no_tablet) no_tablet
       (λ (t : Tablet). no_tablet ≡ t) (λ e. refl) (λ e. refl)
 
-  pub others_at : (r : ℕ) → tablet_at (with_others_given_up master number range) r ≡ others_given_up (tablet_at master) number range r
+  others_at : (r : ℕ) → tablet_at (with_others_given_up master number range) r ≡ others_given_up (tablet_at master) number range r
   others_at r =
       ap (λ (o : Option Tablet). unwrap_or o no_tablet) (found_changed giving master.tablets r) ∙ found_or r (get master.tablets r)
 
@@ -69,7 +69,7 @@ module _ (w : World) (master : ℕ) (records : List Held) (table : NumberMap Tab
         (λ is j r. (ap (λ (m : Master). f (tablet_at m r)) (master_same w master changed q is) ∙ ap f (are r)) j)
         (λ other j r. ap (λ (m : Master). f (tablet_at m r)) (master_other w master changed q other) j) i
 
-    pub view_tablets : view (with_master w master changed) ≡ tablets_taken (view w) master records tablets
+    view_tablets : view (with_master w master changed) ≡ tablets_taken (view w) master records tablets
     view_tablets i = record (view w) {
       numbers = same_of_all (λ q m. m.number) w master changed refl i;
       logs = same_of_all (λ q m. m.log) w master changed refl i;
@@ -86,3 +86,40 @@ module _ (w : World) (master : ℕ) (records : List Held) (table : NumberMap Tab
       gathers = keeps (λ t. t.gather) i;
       merged = keeps (λ t. t.merged_ends) i;
     }
+
+-- ---- one tablet is another, and others are given up for it
+
+module _ (w : World) (master : ℕ) (records : List Held) (number : ℕ) (range : Range) (own : Tablet) (ends : own.completions ≡ (tablet_in w master number).completions) where
+  -- the master with these records, once the other tablets of the range are given up
+  abbrev cleared : Master
+  cleared = with_others_given_up (record (master_at w master) { records = records }) number range
+
+  abbrev others : ℕ → Tablet
+  others = others_given_up (tablet_in w master) number range
+
+  abbrev taken : ℕ → Tablet
+  taken = put others number own
+
+  -- what it has of each tablet
+  has_tablet : (r : ℕ) → tablet_at (with_tablet cleared number own) r ≡ taken r
+  has_tablet r =
+      put_is others number own r (tablet_at (with_tablet cleared number own) r)
+      (λ is. ap (tablet_at (with_tablet cleared number own)) is ∙ tablet_here cleared number own)
+      (λ other. tablet_apart cleared number own r other ∙ others_at (record (master_at w master) { records = records }) number range r)
+
+  -- each with the ends that it had
+  same_ends : (r : ℕ) → (taken r).completions ≡ (tablet_in w master r).completions
+  same_ends r =
+      let tablet : Tablet = tablet_in w master r in
+      ⊎_elim
+      (λ (is : r ≡ number).
+      ap (λ (t : Tablet). t.completions) (put_here others number own r is) ∙ ends
+      ∙ ap (λ (n : ℕ). (tablet_in w master n).completions) (sym is))
+      (λ (other : r ≡ number → ⊥).
+      ap (λ (t : Tablet). t.completions) (put_other others number own r other)
+      ∙ cond_both (not (r == number) && meets tablet.handover.range range) (given_up tablet) tablet
+      (λ (t : Tablet). t.completions ≡ tablet.completions) (λ e. refl) (λ e. refl))
+      (cases_eq r number)
+
+  pub view_taken : view (with_master w master (with_tablet cleared number own)) ≡ tablets_taken (view w) master records taken
+  view_taken = view_tablets w master records (with_tablet cleared number own).tablets taken has_tablet same_ends
