@@ -1,9 +1,7 @@
 ghost use Rattle.std.specs.Prelude.{◌≤◌, IfOk};
 ghost use Rattle.rk_message.specs.Calls.{IsLawfulOp};
-ghost use Rattle.rk_world.specs.Master.{Master};
 ghost use Rattle.rk_world.specs.Premises.{IsLawfulCall};
 ghost use Rattle.rk_world.specs.Requests.{call_of};
-ghost use Rattle.rk_master.specs.Taking.{CanTakeOrder};
 
 use crate::choice::{Seen, mutation};
 use crate::master_lane::MasterLane;
@@ -158,39 +156,6 @@ fn clients_are_told_once_the_backup_holds_their_entries(rt: HostRuntime) -> Resu
     assert_eq!(rt; read.sends.len(), 1);
     let value = Value::new(rt.alloc(), b"x")?;
     assert_eq!(rt; read.sends[0], reply(2, 2, Outcome::Found(1, value)));
-    Ok(())
-}
-
-// The coordinator orders master 1 something.
-fn ordered(master: &mut MasterLane, body: Body) -> Result<usize, Fail>
-    requires { (master : Master) → CanTakeOrder master body }
-{
-    let message = Message {
-        from: Node::Coordinator,
-        to: Node::Master(1),
-        body,
-    };
-    Ok(master.step(&message)?.sends.len())
-}
-
-// A split tablet's upper half is given away, and its lower one is served on.
-#[test]
-fn a_half_is_given_away(rt: HostRuntime) -> Result<(), Fail> {
-    let mut master = MasterLane::new(rt.alloc(), 1, 1)?;
-    master.add(7, RANGE)?;
-    master.split(7, 1 << 63, 8, 2)?;
-    assert_eq!(rt; master.role(8), Role::Serving);
-    let tenure = Tenure { tablet: 8, term: 3 };
-    assert_eq!(rt; ordered(&mut master, Body::Close(tenure))?, 1);
-    assert_eq!(rt; master.role(8), Role::Frozen);
-    assert_eq!(rt; ordered(&mut master, Body::Joined(tenure))?, 0);
-    assert_eq!(rt; ordered(&mut master, Body::Release(tenure))?, 0);
-    assert_eq!(rt; master.role(8), Role::Absent);
-    assert_eq!(rt; master.role(7), Role::Serving);
-    assert_eq!(rt; master.counter(7), 1);
-    assert_eq!(rt; master.greatest_counter(), 1);
-    assert_eq!(rt; master.records(), 0);
-    assert_eq!(rt; master.log_bytes(), 0);
     Ok(())
 }
 
