@@ -1,0 +1,4 @@
+pub mod Ranges
+pub mod HalfCounts
+pub mod HalfTells
+pub mod HalfRests

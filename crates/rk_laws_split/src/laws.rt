@@ -1,0 +1,29 @@
+// The headline law of halves. The function does nothing: its contract is the law.
+ghost use Rattle.std.specs.Prelude.{◌≡◌, ℕ, All, List, Option};
+ghost use Rattle.rk_entry.specs.declared.entry.Entry.{Entry};
+ghost use Rattle.rk_laws_split.specs.Halves.{IsHalf, IsOfWhole};
+ghost use Rattle.rk_sound.specs.Rest.{IsRest};
+ghost use Rattle.rk_sound.specs.Truth.{IsTruth};
+ghost use Rattle.rk_types.specs.declared.history.Placed.{Placed};
+ghost use Rattle.rk_types.specs.declared.lineage.Member.{Member};
+ghost use Rattle.rk_types.specs.declared.range.Range.{Range};
+ghost use Rattle.rk_world.specs.Base.{Base};
+ghost use Rattle.rk_world.specs.declared.ledger.LastCall.{LastCall};
+ghost use Rattle.rk_world.specs.Material.{counting};
+ghost use Rattle.rk_world.specs.Written.{Written, member_rest, member_truth};
+
+/// What counts of a log for a half of a range is what counts for the half of what counts for the whole, where each Carried and each
+/// Joined that meets the whole has all of it. Where that is the truth and the rest of the whole, it is those of the half.
+pub fn halves_of_rows_go_on()
+    ensures truth { (whole half : Range) (written : ℕ → Written) (member : Member)
+        → IsHalf whole half → All (IsOfWhole whole) (written member.master).entries
+        → member_truth written half member ≡ counting half (member_truth written whole member) }
+    ensures rest { (whole half : Range) (written : ℕ → Written) (member : Member)
+        → IsHalf whole half → All (IsOfWhole whole) (written member.master).entries
+        → member_rest written half member ≡ counting half (member_rest written whole member) }
+    ensures tells { (whole half : Range) (base : Base) (truth : List Entry) (journal : List Placed)
+        → IsHalf whole half → IsTruth base whole truth journal → IsTruth base half (counting half truth) journal }
+    ensures goes_on { (whole half : Range) (base : Base) (truth rest : List Entry) (journal : List Placed)
+        (asked : ℕ → Option LastCall) → IsHalf whole half → IsRest base whole truth rest journal asked
+        → IsRest base half (counting half truth) (counting half rest) journal asked }
+{}
