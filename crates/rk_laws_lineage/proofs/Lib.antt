@@ -16,3 +16,4 @@ pub mod JoinedTaken
 pub mod FewerMarks
 pub mod MarksTaken
 pub mod RebuiltMaterial
+pub mod MarksBeside

@@ -50,7 +50,7 @@ any_stands p (y ∷ xs) x stands passes =
     later false any = any
 
 -- an entry of a rebuild of another range is silent
-silent_apart : (a b : Range) → meets a b ≡ false → meets b a ≡ false → b.first ≤ b.last → (entry : Entry) → IsOfRange a entry → IsSilent b entry
+pub silent_apart : (a b : Range) → meets a b ≡ false → meets b a ≡ false → b.first ≤ b.last → (entry : Entry) → IsOfRange a entry → IsSilent b entry
 silent_apart a b apart back some (entries.Held held) of =
     record { uncounted = entry_apart a b apart back some (entries.Held held) of; unnamed = refl }
 silent_apart a b apart back some (entries.Refused refused) of = absurd of
@@ -99,7 +99,7 @@ module _ (v : View) (row : Row) (sound : SoundView v) (has_row : Contains v.rows
       }
 
   -- the entry is of the row's range
-  taken_of : (q place : ℕ) (entry : Entry) → slice_get (v.written q).entries place ≡ Some entry → is_marked (old_marks q) place ≡ true → is_marked (new_marks q) place ≡ false → IsOfRange row.range entry
+  pub taken_of : (q place : ℕ) (entry : Entry) → slice_get (v.written q).entries place ≡ Some entry → is_marked (old_marks q) place ≡ true → is_marked (new_marks q) place ≡ false → IsOfRange row.range entry
   taken_of q place entry at was is =
       let taken = taken_by q place was is in
       let of = covered_of v sound q place entry at taken.covered in
@@ -109,7 +109,7 @@ module _ (v : View) (row : Row) (sound : SoundView v) (has_row : Contains v.rows
   -- ---- another row
 
   module _ (other : Row) (has_other : Contains v.rows other) (unlike : other.tablet ≡ row.tablet → ⊥) (some : other.range.first ≤ other.range.last) where
-    apart : meets row.range other.range ≡ false
+    pub apart : meets row.range other.range ≡ false
     apart =
         ⊎_elim (λ (same : other ≡ row). absurd (unlike (ap (λ (r : Row). r.tablet) same)))
         (⊎_elim (λ (before : Precedes other row). apart_either other.range row.range before.apart)
@@ -117,7 +117,7 @@ module _ (v : View) (row : Row) (sound : SoundView v) (has_row : Contains v.rows
         (one_precedes v.rows other row sound.rows.apart has_other has_row)
 
     -- from a place on, of all that a master has or of a part of it
-    fewer : (q from : ℕ) (list : List Entry) → ((k : ℕ) (e : Entry) → slice_get list k ≡ Some e → slice_get (v.written q).entries k ≡ Some e) → AreFewer other.range (old_marks q) (new_marks q) from (drop from list)
+    pub fewer : (q from : ℕ) (list : List Entry) → ((k : ℕ) (e : Entry) → slice_get list k ≡ Some e → slice_get (v.written q).entries k ≡ Some e) → AreFewer other.range (old_marks q) (new_marks q) from (drop from list)
     fewer q from list part = record {
       still = λ k. any_kept (covers (from + k)) (λ m. not (is_mark_of row.tablet row.term m)) (old_marks q);
       silent = λ k entry at was is.

@@ -271,7 +271,7 @@ module _ (v : View) (row : Row) (lineage : List Member) (to place : ℕ) (ends :
       let here = behind_at (applied_entries w) place n entry (omega (arith, behind))
       (taken_at w.applied w.entries n entry (omega (arith, less, within)) stands) in
       unmarked_stands new_marks place here.0 front entry here.1
-      (ap (is_marked new_marks) here.2 ∙ piece_free n entry stands inside)
+      (subst (λ (m : ℕ). is_marked new_marks m ≡ false) (sym here.2) (piece_free n entry stands inside))
 
   -- ---- what counts now: its own entries, and the piece
 

@@ -1,0 +1,312 @@
+-- What the invariant says of another row, of its lineage and of what is rebuilt and marked of it, stays where the marks of a tablet are
+-- taken away.
+use Rattle.std.proofs.Common.{◌≡◌, ℕ, zero, suc, ◌+◌, ◌≤◌, Bool, true, false, cond, ◌&&◌, ◌||◌, eqb, List, [], ◌∷◌, ◌++◌, Option, Some, None, refl, sym, ap, subst, ◌∙◌, ⊎_elim, arith, inl, inr}
+use Rattle.std.specs.Prelude.{All, IfSome, drop, filter, nat_le, nat_lt, not, slice_get, take, ◌⊎◌}
+use Rattle.std.specs.List.{Contains, flat_map, list_any}
+use Rattle.std.specs.Option.{option_map}
+use Rattle.std.proofs.lemmas.Bool.{and_parts, cases_Bool, cond_both, eqb-true, false_from_ne_true, false≢true}
+use Rattle.std.proofs.lemmas.List.Elements.{All-contains, All-filter, All-weaker}
+use Rattle.std.proofs.lemmas.Option.{IfSome_then}
+use Rattle.rk_types.specs.NumberMap.{NumberMap, get}
+use Rattle.rk_types.specs.declared.call.Ended.{Ended}
+use Rattle.rk_types.specs.declared.held.Held.{Held}
+use Rattle.rk_types.specs.declared.lineage.Member.{Member}
+use Rattle.rk_types.specs.declared.range.Range.{Range}
+use Rattle.rk_entry.specs.declared.entry.Entry.{Entry}
+use Rattle.rk_log.specs.Known.{Known}
+use Rattle.rk_log.specs.Log.{known_of}
+use Rattle.rk_log.specs.declared.ends.EntryEnd.{EntryEnd}
+use Rattle.rk_done.specs.Completions.{Completions}
+use Rattle.rk_transfer.specs.declared.handover.Handover.{Handover}
+use Rattle.rk_tablet_map.specs.Phase.{lineage_of, member as member_at}
+use Rattle.rk_tablet_map.specs.declared.phase.Phase.{Phase}
+use Rattle.rk_tablet_map.specs.declared.phase.Phase.TheVariants.{Moving, Rebuilding}
+use Rattle.rk_tablet_map.specs.declared.row.Row.{Row}
+use Rattle.rk_world.specs.declared.work.Mark.{Mark}
+use Rattle.rk_world.specs.declared.work.Merged.{Merged}
+use Rattle.rk_world.specs.Gather.{Gather, Gathered}
+use Rattle.rk_world.specs.Coordinator.{Handed}
+use Rattle.rk_world.specs.Ends.{items_of}
+use Rattle.rk_world.specs.Lineage.{first_of}
+use Rattle.rk_world.specs.Marks.{is_mark_of, is_marked, unmarked, unmarked_from}
+use Rattle.rk_world.specs.Material.{counting, counts}
+use Rattle.rk_world.specs.Rebuilds.{own_place}
+use Rattle.rk_world.specs.Written.{Written, member_material, member_rest, member_truth}
+use Rattle.rk_sound.specs.View.{View, truths}
+use Rattle.rk_sound.specs.Handing.{beginning_in, target_truth}
+use Rattle.rk_sound.specs.Logs.{stored_of}
+use Rattle.rk_sound.specs.Rest.{FirstIsDone, IsDone}
+use Rattle.rk_sound.specs.Tables.{HasItems, IsTableOf}
+use Rattle.rk_sound.specs.Receives.{IsTarget, MembersFit, NamedFit}
+use Rattle.rk_sound.specs.Rebuilds.{AreGathered, HasOwnRange, IsGathered, IsMergedOf, IsNeeded, IsPieceOf, IsRebuilder, MarkFits, MarkedFit, NeededOf, NeedsEnd, READ_BACKUP, RowIsRebuilt, StandsLast, TellNoMore, TellsMore, given_up_marks, marked_entries, member_given_up, member_marked, member_stored, merged_place, stored_count}
+use Rattle.rk_sound.specs.Whole.{SoundView}
+use Rattle.rk_laws_parts.proofs.MarkedApart.{apart_either}
+use Rattle.rk_laws_parts.proofs.Needed.{any_kept, one_weaker}
+use Rattle.rk_laws_parts.proofs.Records.{filter_from, filter_stands}
+use Rattle.rk_laws_lineage.specs.Small.{marks_taken}
+use Rattle.rk_laws_lineage.proofs.Among.{taken_from}
+use Rattle.rk_laws_lineage.proofs.FewerMarks.{free_counts, marked_counts}
+use Rattle.rk_laws_lineage.proofs.MarksTaken.{apart, fewer, marked_kept, material_kept, named_kept, rest_kept, silent_apart, taken_of, truth_kept}
+
+-- what is kept by two tests is kept by one that asks for both
+both_kept : {X : Type 0} (p keep : X → Bool) (xs : List X) → ((x : X) → p x ≡ true → keep x ≡ true) → filter p (filter keep xs) ≡ filter p xs
+both_kept p keep [] less = refl
+both_kept {X} p keep (x ∷ xs) less = go (p x) (keep x) refl refl (both_kept p keep xs less)
+  where
+    go : (a b : Bool) → p x ≡ a → keep x ≡ b → filter p (filter keep xs) ≡ filter p xs → filter p (cond b (x ∷ filter keep xs) (filter keep xs)) ≡ cond a (x ∷ filter p xs) (filter p xs)
+    go true true is kept later = ap (λ (b : Bool). cond b (x ∷ filter p (filter keep xs)) (filter p (filter keep xs))) is ∙ ap (λ (l : List X). x ∷ l) later
+    go true false is kept later = absurd (false≢true (sym kept ∙ less x is))
+    go false true is kept later = ap (λ (b : Bool). cond b (x ∷ filter p (filter keep xs)) (filter p (filter keep xs))) is ∙ later
+    go false false is kept later = later
+
+module _ (v : View) (row : Row) (sound : SoundView v) (has_row : Contains v.rows row) (other : Row) (has_other : Contains v.rows other) (unlike : other.tablet ≡ row.tablet → ⊥) (some : other.range.first ≤ other.range.last) where
+  abbrev now : View
+  now = marks_taken v row.tablet row.term
+
+  abbrev old_marks : ℕ → List Mark
+  old_marks q = (v.written q).marks
+
+  abbrev new_marks : ℕ → List Mark
+  new_marks q = (now.written q).marks
+
+  abbrev stays : Mark → Bool
+  stays mark = not (is_mark_of row.tablet row.term mark)
+
+  truth_as : (m : Member) → member_truth now.written other.range m ≡ member_truth v.written other.range m
+  truth_as = truth_kept v row sound has_row other has_other unlike some
+
+  material_as : (m : Member) → member_material now.written other.range m ≡ member_material v.written other.range m
+  material_as = material_kept v row sound has_row other has_other unlike some
+
+  -- ---- lineages
+
+  done_as : (m : Member) → IsDone v.written other.range m → IsDone now.written other.range m
+  done_as m done = record {
+    rest = rest_kept v row sound has_row other has_other unlike some m ∙ done.rest;
+    all = material_as m ∙ done.all ∙ sym (truth_as m);
+  }
+
+  pub done_beside : (l : List Member) → FirstIsDone v.written other.range l → FirstIsDone now.written other.range l
+  done_beside [] done = tt
+  done_beside (only ∷ []) done = tt
+  done_beside (first ∷ last ∷ more) done = done_as first done
+
+  pub named_beside : (l : List Member) → NamedFit v.written other.range l → NamedFit now.written other.range l
+  named_beside [] fit = tt
+  named_beside (only ∷ []) fit = tt
+  named_beside (first ∷ last ∷ []) fit = λ item stands.
+      subst (λ (l : List Entry). Contains (items_of l) item) (sym (truth_as first))
+      (fit item
+      (subst (λ (l : List Held). Contains l item) (named_kept v row sound has_row other has_other unlike some last.master last.from) stands))
+  named_beside (first ∷ last ∷ third ∷ more) fit = tt
+
+  pub target_beside : (phase : Phase) → target_truth now.written v.handed other phase ≡ target_truth v.written v.handed other phase
+  target_beside (Moving source sfrom target dfrom) =
+      ap (λ (t : List Entry). option_map (λ h. beginning_in other h ∷ t) (get v.handed other.tablet)) (truth_as (member_at target dfrom))
+  target_beside _ = refl
+
+  pub items_beside : (records : List Held) → HasItems other v.written records → HasItems other now.written records
+  items_beside records = go (first_of (lineage_of other.phase))
+    where
+      go : (o : Option Member) → IfSome o (λ m. IsTableOf other.range (member_truth v.written other.range m) records) → IfSome o (λ m. IsTableOf other.range (member_truth now.written other.range m) records)
+      go None has = tt
+      go (Some m) has = subst (λ (t : List Entry). IsTableOf other.range t records) (sym (truth_as m)) has
+
+  abbrev TargetIn : (ℕ → Written) → (source target : Member) → List Entry → List Entry → Type 0
+  TargetIn written source target truth material =
+      IsTarget other.range source.master truth material target.from (written target.master) (v.handovers target.master other.tablet)
+      (v.pullings target.master other.tablet) (get v.handed other.tablet) (v.records target.master)
+
+  target_as : (source target : Member) (truth material : List Entry) → TargetIn v.written source target truth material → TargetIn now.written source target truth material
+  target_as source target truth material is = record {
+    from_source = is.from_source;
+    workers = is.workers;
+    pulled = is.pulled;
+    received = is.received;
+    above = is.above;
+    told = is.told;
+    early = is.early;
+    closing = is.closing;
+  }
+
+  abbrev Members : (ℕ → Written) → List Member → Type 0
+  Members written l = MembersFit other written v.handovers v.pullings v.records v.handed l
+
+  pub members_beside : (l : List Member) → Members v.written l → Members now.written l
+  members_beside [] fit = tt
+  members_beside (only ∷ []) fit = tt
+  members_beside (source ∷ target ∷ []) fit = λ granted.
+      subst (λ (t : List Entry). TargetIn now.written source target t (member_material now.written other.range source)) (sym (truth_as source))
+      (subst (TargetIn now.written source target (member_truth v.written other.range source)) (sym (material_as source))
+      (target_as source target (member_truth v.written other.range source) (member_material v.written other.range source) (fit granted)))
+  members_beside (source ∷ target ∷ third ∷ more) fit = tt
+
+  -- ---- what has to be read
+
+  -- a mark of the row's tablet is none of the other's
+  stays_if : (mark : Mark) → mark.tablet ≡ other.tablet → stays mark ≡ true
+  stays_if mark its =
+      ap not
+      (false_from_ne_true (is_mark_of row.tablet row.term mark)
+      (λ of.
+      let tablet = eqb-true mark.tablet row.tablet (and_parts (eqb mark.tablet row.tablet) (nat_le mark.term row.term) of).0 in
+      unlike (sym its ∙ tablet)))
+
+  given_up_as : (m : Member) → member_given_up now.written other m ≡ member_given_up v.written other m
+  given_up_as m =
+      ap
+      (λ (marks : List Mark). counting other.range (marked_entries marks m.from (drop m.from (v.written m.master).entries)))
+      (both_kept (λ mark. (eqb mark.tablet other.tablet) && nat_lt mark.term other.term) stays (old_marks m.master)
+      (λ mark of. stays_if mark (eqb-true mark.tablet other.tablet (and_parts (eqb mark.tablet other.tablet) (nat_lt mark.term other.term) of).0)))
+
+  -- an entry that counts for the other row bore no mark where it bears none
+  free_before : (q place : ℕ) (entry : Entry) → slice_get (v.written q).entries place ≡ Some entry → counts other.range entry ≡ true → is_marked (new_marks q) place ≡ false → is_marked (old_marks q) place ≡ false
+  free_before q place entry at counted free =
+      false_from_ne_true (is_marked (old_marks q) place)
+      (λ was.
+      let between = apart v row sound has_row other has_other unlike some in
+      let silent =
+      silent_apart row.range other.range between (apart_either row.range other.range between) some entry
+      (taken_of v row sound has_row q place entry at was free) in
+      false≢true (sym silent.uncounted ∙ counted))
+
+  -- what counts of a first part is the same
+  first_counted : (q from count : ℕ) → counting other.range (unmarked_from (new_marks q) from (take count (v.written q).entries)) ≡ counting other.range (unmarked_from (old_marks q) from (take count (v.written q).entries))
+  first_counted q from count =
+      free_counts other.range (old_marks q) (new_marks q) from (drop from (take count (v.written q).entries))
+      (fewer v row sound has_row other has_other unlike some q from (take count (v.written q).entries) (taken_from count (v.written q).entries))
+
+  needed_as : (given_up own : List Entry) (q from place : ℕ) (entry : Entry) → IsNeeded other.range given_up own from (now.written q) place entry → IsNeeded other.range given_up own from (v.written q) place entry
+  needed_as given_up own q from place entry is = record {
+    behind = is.behind;
+    stands = is.stands;
+    unmarked = free_before q place entry is.stands is.in_range is.unmarked;
+    in_range = is.in_range;
+    tells = subst (λ (l : List Entry). TellsMore given_up (own ++ l) entry) (first_counted q from place) is.tells;
+  }
+
+  needs_end : (given_up own : List Entry) (q from : ℕ) (end : EntryEnd) → NeedsEnd other.range given_up own from (now.written q) end → NeedsEnd other.range given_up own from (v.written q) end
+  needs_end given_up own q from end is = record {
+    place = is.place;
+    entry = is.entry;
+    needed = needed_as given_up own q from is.place is.entry is.needed;
+    ends_there = is.ends_there;
+  }
+
+  pub needed_beside : (l : List Member) (q : ℕ) (end : EntryEnd) → NeededOf other now.written l q end → NeededOf other v.written l q end
+  needed_beside [] q end none = none
+  needed_beside (only ∷ []) q end none = none
+  needed_beside (first ∷ last ∷ []) q end is = (
+    is.0,
+    subst (λ (own : List Entry). NeedsEnd other.range (member_given_up v.written other first) own last.from (v.written last.master) end)
+        (material_as first)
+        (subst
+        (λ (given_up : List Entry). NeedsEnd other.range given_up (member_material now.written other.range first) last.from (v.written last.master) end)
+        (given_up_as first)
+        (needs_end (member_given_up now.written other first) (member_material now.written other.range first) last.master last.from end is.1)),
+  )
+  needed_beside (first ∷ last ∷ third ∷ more) q end none = none
+
+  -- ---- what is rebuilt, and marked
+
+  stored_as : (m : Member) → member_stored v.logs now.written v.stored other.range m ≡ member_stored v.logs v.written v.stored other.range m
+  stored_as m = first_counted m.master m.from (stored_count (v.logs m.master) (stored_of v.stored m.master READ_BACKUP))
+
+  marked_as : (m : Member) → member_marked now.written other.range m ≡ member_marked v.written other.range m
+  marked_as = marked_kept v row sound has_row other has_other unlike some
+
+  pub marked_fit_beside : (l : List Member) → MarkedFit v.logs v.written v.stored v.live other.range l → MarkedFit v.logs now.written v.stored v.live other.range l
+  marked_fit_beside [] fit = tt
+  marked_fit_beside (only ∷ []) fit = λ dead.
+      subst (TellNoMore (member_marked now.written other.range only)) (sym (material_as only))
+      (subst (λ (l : List Entry). TellNoMore l (member_material v.written other.range only)) (sym (marked_as only)) (fit dead))
+  marked_fit_beside (first ∷ last ∷ more) fit = (
+    λ dead.
+        subst (TellNoMore (member_marked now.written other.range first))
+        (λ i. sym (material_as first) i ++ sym (stored_as last) i)
+        (subst
+        (λ (l : List Entry). TellNoMore l (member_material v.written other.range first ++ member_stored v.logs v.written v.stored other.range last))
+        (sym (marked_as first)) (fit.0 dead)),
+    λ dead.
+        subst (TellNoMore (member_marked now.written other.range last))
+        (λ i. sym (material_as first) i ++ sym (material_as last) i)
+        (subst
+        (λ (l : List Entry). TellNoMore l (member_material v.written other.range first ++ member_material v.written other.range last))
+        (sym (marked_as last)) (fit.1 dead)),
+  )
+
+  -- a mark of the other's tablet stays
+  mark_stands : (q : ℕ) (mark : Mark) → Contains (old_marks q) mark → mark.tablet ≡ other.tablet → Contains (new_marks q) mark
+  mark_stands q mark stands its = filter_stands stays (old_marks q) mark stands (stays_if mark its)
+
+  piece_as : (to from entry : ℕ) (handover : Handover) (merged : Merged) → IsPieceOf other.tablet from handover merged (v.written to) entry → IsPieceOf other.tablet from handover merged (now.written to) entry
+  piece_as to from entry handover merged piece = record {
+    mark = piece.mark;
+    marked = mark_stands to piece.mark piece.marked piece.tablet_is;
+    past_is = piece.past_is;
+    tablet_is = piece.tablet_is;
+    term_is = piece.term_is;
+    behind = piece.behind;
+    alone = All-filter stays (λ mark. mark.tablet ≡ other.tablet → mark ≡ piece.mark) (old_marks to) piece.alone;
+    stands = piece.stands;
+    last = piece.last;
+  }
+
+  abbrev MergedIn : (ℕ → Written) → ℕ → ℕ → List Entry → ℕ → Type 0
+  MergedIn written to from own entry =
+      IsMergedOf other.tablet from own (v.handovers to other.tablet) (v.completions to other.tablet) (v.gathers to other.tablet)
+      (v.merged to other.tablet) (written to) entry
+
+  merged_as : (to from : ℕ) (own : List Entry) (entry : ℕ) → MergedIn v.written to from own entry → MergedIn now.written to from own entry
+  merged_as to from own entry is = record {
+    gathered_all = is.gathered_all;
+    merged = is.merged;
+    merged_is = is.merged_is;
+    ends_are = is.ends_are;
+    piece = piece_as to from entry (v.handovers to other.tablet) is.merged is.piece;
+    counter = is.counter;
+    completions = is.completions;
+  }
+
+  abbrev RebuilderIn : (ℕ → Written) → List Member → ℕ → List Entry → List Entry → Type 0
+  RebuilderIn written l to truth own =
+      IsRebuilder other l to truth own (NeededOf other written l) (λ q. known_of (v.logs q) READ_BACKUP)
+      (λ q. stored_of v.stored q READ_BACKUP) (written to) (v.handovers to other.tablet) (v.completions to other.tablet)
+      (v.gathers to other.tablet) (v.merged to other.tablet) (v.records to)
+
+  rebuilder_as : (l : List Member) (to : ℕ) (truth own : List Entry) → RebuilderIn v.written l to truth own → RebuilderIn now.written l to truth own
+  rebuilder_as l to truth own is =
+      let from : ℕ = own_place (v.handovers to other.tablet).role in
+      record {
+        range_is = is.range_is;
+        gather = is.gather;
+        read =
+            All-weaker _ _
+            (λ gathered.
+            one_weaker (NeededOf other v.written l gathered.member.master) (NeededOf other now.written l gathered.member.master)
+            (known_of (v.logs gathered.member.master) READ_BACKUP) (stored_of v.stored gathered.member.master READ_BACKUP) gathered
+            (needed_beside l gathered.member.master))
+            (v.gathers to other.tablet).members is.read;
+        placed = is.placed;
+        merged =
+            IfSome_then (merged_place (v.handovers to other.tablet).role) is.merged (λ entry. merged_as to from own entry);
+        items = is.items;
+        sides = λ item stands.
+            is.sides item
+            (subst (λ (l : List Held). Contains l item) (named_kept v row sound has_row other has_other unlike some to from) stands);
+        outside = is.outside;
+      }
+
+  abbrev RebuiltIn : (ℕ → Written) → List Entry → Phase → Type 0
+  RebuiltIn written truth phase =
+      RowIsRebuilt other phase truth v.logs written v.stored v.handovers v.completions v.gathers v.merged v.records v.live
+
+  pub rebuilt_beside : (truth : List Entry) (phase : Phase) → RebuiltIn v.written truth phase → RebuiltIn now.written truth phase
+  rebuilt_beside truth (Rebuilding l to) fit =
+      let own : Member = member_at to (own_place (v.handovers to other.tablet).role) in (
+        λ at.
+            subst (RebuilderIn now.written l to truth) (sym (material_as own))
+            (rebuilder_as l to truth (member_material v.written other.range own) (fit.0 at)),
+        marked_fit_beside l fit.1,
+      )
+  rebuilt_beside truth _ fit = tt
