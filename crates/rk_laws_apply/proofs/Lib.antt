@@ -19,3 +19,6 @@ pub mod CallApplied
 pub mod Keeps
 pub mod Passing
 pub mod PassingState
+pub mod MarkedApplied
+pub mod EntryPassed
+pub mod CarriedApplied

@@ -1,5 +1,5 @@
 -- Small changes of a view: the next entry of a master's log is applied.
-use Rattle.std.specs.Prelude.{◌≡◌, ℕ, ◌+◌, List, [], ◌∷◌, ◌++◌, Some}
+use Rattle.std.specs.Prelude.{◌≡◌, ℕ, ◌+◌, true, false, List, [], ◌∷◌, ◌++◌, Some, slice_get}
 use Rattle.rk_types.specs.NumberMap.{get, remove}
 use Rattle.rk_types.specs.declared.call.Call.{Call}
 use Rattle.rk_types.specs.declared.call.Ended.{Ended}
@@ -12,6 +12,7 @@ use Rattle.rk_world.specs.Commits.{apply_entry}
 use Rattle.rk_world.specs.Ends.{outcome_of}
 use Rattle.rk_world.specs.Journal.{next_record}
 use Rattle.rk_world.specs.Ledger.{seen_of, with_all_served}
+use Rattle.rk_world.specs.Marks.{is_marked}
 use Rattle.rk_world.specs.Worked.{Worked}
 use Rattle.rk_world.specs.Written.{Written}
 use Rattle.rk_world.specs.World.{World, master_at, with_ledger, with_master}
@@ -59,3 +60,20 @@ entry_applied_in w master entry = worked_in w master (apply_entry (master_at w m
 pub record MayApplyCall (v : View) (master : ℕ) (call : Call) : Type 0 where
   pub held : MayApply v master
   pub waits : get (v.calls master) (v.written master).applied ≡ Some call
+
+-- the next entry of a living master's log may be applied: this one
+pub record MayApplyEntry (v : View) (master : ℕ) (entry : Entry) : Type 0 where
+  pub held : MayApply v master
+  pub stands : slice_get (v.written master).entries (v.written master).applied ≡ Some entry
+
+-- and it bears a mark
+pub record MayApplyMarked (v : View) (master : ℕ) (entry : Entry) : Type 0 where
+  pub held : MayApply v master
+  pub stands : slice_get (v.written master).entries (v.written master).applied ≡ Some entry
+  pub marked : is_marked (v.written master).marks (v.written master).applied ≡ true
+
+-- or it bears none
+pub record MayApplyUnmarked (v : View) (master : ℕ) (entry : Entry) : Type 0 where
+  pub held : MayApply v master
+  pub stands : slice_get (v.written master).entries (v.written master).applied ≡ Some entry
+  pub unmarked : is_marked (v.written master).marks (v.written master).applied ≡ false
