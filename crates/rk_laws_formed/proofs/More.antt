@@ -189,6 +189,7 @@ module _ (a b : Limits) (more : IsMore a b) where
   more_gathered gathered formed = record {
     member_is = more_master_number gathered.member.master formed.member_is;
     main = All-weaker (All (IsFormedEntry a)) (All (IsFormedEntry b)) more_entries gathered.main formed.main;
+    few = formed.few;
     more = formed.more;
     sides = λ segment list found. more_entries list (formed.sides segment list found);
   }

@@ -238,6 +238,7 @@ unread_formed : (limits : Limits) (member : Member) → IsFormedMember limits me
 unread_formed limits member formed = record {
   member_is = formed.master;
   main = All-nil _;
+  few = omega arith;
   more = λ more. omega arith;
   sides = λ segment list found. absurd (cc found);
 }
@@ -382,12 +383,14 @@ segment_formed limits gathered segment bytes spelled formed =
     main None is spelled = record {
       member_is = formed.member_is;
       main = formed.main;
+      few = omega (arith, formed.more is);
       more = λ more. absurd (cc more);
       sides = formed.sides;
     }
     main (Some read) is spelled = record {
       member_is = formed.member_is;
       main = All-push (All (IsFormedEntry limits)) gathered.main (entries_of read) formed.main spelled;
+      few = omega (arith, length_push gathered.main (entries_of read), formed.more is);
       more = λ more. one_more gathered.main (entries_of read) (formed.more is) more;
       sides = formed.sides;
     }
@@ -396,6 +399,7 @@ segment_formed limits gathered segment bytes spelled formed =
     go true is = record {
       member_is = formed.member_is;
       main = formed.main;
+      few = formed.few;
       more = formed.more;
       sides =
           each_insert (λ segment list. All (IsFormedEntry limits) list) gathered.sides segment (entries_of (bytes_of bytes)) formed.sides

@@ -48,7 +48,8 @@ use Rattle.rk_world.specs.Limits.{AreOfDistinctClients, IsClient, IsFormedEnd, I
 pub record IsFormedGathered (limits : Limits) (gathered : Gathered) : Type 0 where
   pub member_is : IsMaster limits.masters gathered.member.master
   pub main : All (All (IsFormedEntry limits)) gathered.main
-  -- while main segments are read, another one may follow
+  -- no more main segments are read than there can be; while they are read, another one may follow
+  pub few : length gathered.main ≤ LAST_MAIN_SEGMENT
   pub more : gathered.main_read ≡ false → length gathered.main < LAST_MAIN_SEGMENT
   pub sides : EachIn (λ segment entries. All (IsFormedEntry limits) entries) gathered.sides
 
