@@ -149,7 +149,7 @@ side_held sides number entry =
     (λ e. held_among (slice_index_or sides (number - FIRST_SIDE_SEGMENT) []) entry)
 
 -- so what counts of those that a member names are its named items
-sides_named : (range : Range) (m : Member) (w : Written) (entry : Entry) → Contains (side_material range m w) entry → (item : Held) × (entries.Held item ≡ entry) × Contains (named_items range m.from w) item
+pub sides_named : (range : Range) (m : Member) (w : Written) (entry : Entry) → Contains (side_material range m w) entry → (item : Held) × (entries.Held item ≡ entry) × Contains (named_items range m.from w) item
 sides_named range m w entry at =
     let numbers : List ℕ = named range (unmarked_from w.marks m.from w.entries) in
     let kept = kept_stands (counts range) (flat_map (side_entries w.sides) numbers) entry at in

@@ -49,7 +49,7 @@ named_in range (entries.Refused refused) n = λ at. at
 named_in range (entries.Carried carried) n = λ at. at
 
 -- what stands at a place stands in the list
-stands_there : {X : Type 0} (xs : List X) (k : ℕ) (x : X) → slice_get xs k ≡ Some x → Contains xs x
+pub stands_there : {X : Type 0} (xs : List X) (k : ℕ) (x : X) → slice_get xs k ≡ Some x → Contains xs x
 stands_there [] k x at = absurd (cc at)
 stands_there (y ∷ xs) zero x at = let same : y ≡ x = cc at in (zero, omega arith, same)
 stands_there (y ∷ xs) (suc k) x at = let there = stands_there xs k x at in (suc there.0, omega (arith, there.1), there.2)

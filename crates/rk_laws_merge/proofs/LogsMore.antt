@@ -38,6 +38,7 @@ module _ (log : Log) (entry : Entry) (few : length (cut (log.entries ++ entry �
   abbrev more : Log
   more = with_entry log entry
 
+  -- so they were few
   was_few : length (cut log.entries) < FIRST_SIDE_SEGMENT
   was_few = omega (arith, few, ap length (cut_push [] log.entries entry), with_bytes_more (cut log.entries) (spelled entry))
 
@@ -90,6 +91,7 @@ module _ (log : Log) (entry : Entry) (few : length (cut (log.entries ++ entry �
       (λ (side : FIRST_SIDE_SEGMENT ≤ earlier). grown_side earlier side)
       (cases_lt earlier FIRST_SIDE_SEGMENT)
 
+  -- and the log grew
   pub grows_one : Grows log (with_entry log entry)
   grows_one = record { front = grown_front; full = grown_full }
 
@@ -118,6 +120,7 @@ cut_less list (entry ∷ more) =
     let same = ap (λ (all : List Entry). length (cut all)) (append_assoc list (entry ∷ []) more) in
     omega (arith, one, step, rest, same)
 
+-- so a log with more entries grew, where its main segments then are few
 pub grows_more : (log : Log) (list : List Entry) → length (cut (log.entries ++ list)) < FIRST_SIDE_SEGMENT → Grows log (with_entries log list)
 grows_more log [] few =
     subst (Grows log) (λ i. record log { entries = sym (append-nil log.entries) i }) (record {

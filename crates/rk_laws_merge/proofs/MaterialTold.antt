@@ -1,76 +1,39 @@
 -- What the members of a lineage have written, marked pieces apart, tells no end that the truth or the rest of the row does not tell.
-use Rattle.std.proofs.Common.{◌≡◌, ℕ, zero, suc, ◌-◌, ◌<◌, ◌≤◌, ◌⊎◌, max, true, List, [], ◌∷◌, Some, refl, sym, ap, ◌∙◌, subst, ⊎_elim, inl, inr, arith}
-use Rattle.std.specs.Prelude.{drop, nat_lt, slice_get, slice_index_or, take}
+use Rattle.std.proofs.Common.{◌≡◌, ℕ, zero, suc, ◌<◌, ◌≤◌, ◌⊎◌, max, true, List, [], ◌∷◌, refl, sym, subst, ⊎_elim, inl, inr, arith}
+use Rattle.std.specs.Prelude.{drop, take}
 use Rattle.std.specs.List.{Contains, flat_map}
 use Rattle.std.proofs.lemmas.Bool.{cases_lt, cond_both}
 use Rattle.std.proofs.lemmas.List.Elements.{Contains-append_cases, Contains-append_left, Contains-append_right}
 use Rattle.rk_types.specs.Range.{meets}
 use Rattle.rk_types.specs.declared.call.Ended.{Ended}
-use Rattle.rk_types.specs.declared.held.Held.{Held}
 use Rattle.rk_types.specs.declared.lineage.Member.{Member}
 use Rattle.rk_types.specs.declared.range.Range.{Range}
 use Rattle.rk_entry.specs.declared.entry.Entry.{Entry}
 use Rattle.rk_entry.specs.declared.entry.Entry.TheVariants as entries
-use Rattle.rk_entry.specs.declared.lists.TheConstants.{FIRST_SIDE_SEGMENT}
-use Rattle.rk_table.specs.Items.{is_in}
 use Rattle.rk_world.specs.Base.{Base}
-use Rattle.rk_world.specs.Ends.{item_end, items_in, items_of, told, told_by}
+use Rattle.rk_world.specs.Ends.{item_end, items_of, told, told_by}
 use Rattle.rk_world.specs.Marks.{unmarked_from}
-use Rattle.rk_world.specs.Material.{as_entries, counting, counts, is_joined_in, joined_from, named, named_by, side_entries}
+use Rattle.rk_world.specs.Material.{counting, counts, is_joined_in, joined_from, named, named_by, side_entries}
 use Rattle.rk_world.specs.Written.{Written, lineage_rest, lineage_truth, member_material, member_rest, member_truth}
 use Rattle.rk_sound.specs.Rows.{AreApart}
-use Rattle.rk_sound.specs.Receives.{NamedFit, named_items}
+use Rattle.rk_sound.specs.Receives.{NamedFit}
 use Rattle.rk_sound.specs.Rest.{FirstIsDone, OnlyIsUnnamed}
 use Rattle.rk_laws_parts.proofs.Apart.{contains_cases}
 use Rattle.rk_laws_parts.proofs.InRest.{behind_at}
 use Rattle.rk_laws_parts.proofs.Joining.{kept_stands, stands_kept}
 use Rattle.rk_laws_crash.proofs.Among.{flat_from, flat_of, named_from, named_of}
+use Rattle.rk_laws_crash.proofs.MarksTold.{sides_named}
 use Rattle.rk_laws_crash.proofs.MergeTells.{item_told}
-use Rattle.rk_laws_crash.proofs.ReadTold.{side_material}
+use Rattle.rk_laws_crash.proofs.ReadTold.{side_material, stands_there}
 use Rattle.rk_laws_crash.proofs.Unmarked.{first_stands, free_place, free_stands, taken_at}
 
 -- ---- lists
-
--- what stands at a place stands in the list
-at_stands : {X : Type 0} (xs : List X) (k : ℕ) (x : X) → slice_get xs k ≡ Some x → Contains xs x
-at_stands [] k x at = absurd (cc at)
-at_stands (y ∷ xs) zero x at = let same : y ≡ x = cc at in (zero, omega arith, same)
-at_stands (y ∷ xs) (suc k) x at = let there = at_stands xs k x at in (suc there.0, omega (arith, there.1), there.2)
 
 -- nothing stands where nothing is
 none_stands : {X : Type 0} (xs : List X) (x : X) → xs ≡ [] → Contains xs x → ⊥
 none_stands {X} xs x none at = let empty : Contains [] x = subst (λ (list : List X). Contains list x) none at in omega (arith, empty.1)
 
 -- ---- side segments
-
--- what a side segment has are items
-held_in : (list : List Held) (e : Entry) → Contains (as_entries list) e → (item : Held) × (entries.Held item ≡ e)
-held_in [] e at = absurd (omega (arith, at.1))
-held_in (item ∷ list) e at =
-    ⊎_elim (λ (same : entries.Held item ≡ e). (item, same)) (λ (later : Contains (as_entries list) e). held_in list e later)
-    (contains_cases (entries.Held item) (as_entries list) e at)
-
-side_held : (sides : List (List Held)) (number : ℕ) (e : Entry) → Contains (side_entries sides number) e → (item : Held) × (entries.Held item ≡ e)
-side_held sides number e =
-    cond_both (nat_lt number FIRST_SIDE_SEGMENT) [] (as_entries (slice_index_or sides (number - FIRST_SIDE_SEGMENT) []))
-    (λ list. Contains list e → (item : Held) × (entries.Held item ≡ e))
-    (λ short at. absurd (omega (arith, at.1)))
-    (λ long. held_in (slice_index_or sides (number - FIRST_SIDE_SEGMENT) []) e)
-
--- so what counts of those that a member names are its named items
-side_named : (range : Range) (m : Member) (w : Written) (e : Entry) → Contains (side_material range m w) e → (item : Held) × (entries.Held item ≡ e) × Contains (named_items range m.from w) item
-side_named range m w e at =
-    let numbers : List ℕ = named range (unmarked_from w.marks m.from w.entries) in
-    let kept = kept_stands (counts range) (flat_map (side_entries w.sides) numbers) e at in
-    let of = flat_from (side_entries w.sides) numbers e kept.0 in
-    let found = side_held w.sides of.0 e of.2 in
-    let inside : counts range (entries.Held found.0) ≡ true = ap (counts range) found.1 ∙ kept.1 in
-    let its : Contains (items_in e) found.0 = subst (λ (x : Entry). Contains (items_in x) found.0) found.1 (zero, omega arith, refl) in (
-      found.0,
-      found.1,
-      stands_kept (is_in range) (items_of (flat_map (side_entries w.sides) numbers)) found.0
-          (flat_of items_in (flat_map (side_entries w.sides) numbers) e found.0 kept.0 its) inside,
-    )
 
 -- an entry that names a segment for a range is a Joined of it
 names_joined : (range : Range) (e : Entry) (n : ℕ) → Contains (named_by range e) n → is_joined_in range e ≡ true
@@ -124,7 +87,7 @@ module _ (written : ℕ → Written) (range : Range) (m : Member) where
       (flat_of (side_entries w.sides) (named range sure) of.0 e (named_of range sure by.0 of.0 there by.2) of.2) kept.1))
       (λ (waits : w.applied ≤ is.place).
       let found = behind_at w.entries (max m.from w.applied) is.place by.0 (omega (arith, is.behind, waits)) is.stands in
-      let behind : Contains (drop (max m.from w.applied) w.entries) by.0 = at_stands (drop (max m.from w.applied) w.entries) found.0 by.0 found.1 in
+      let behind : Contains (drop (max m.from w.applied) w.entries) by.0 = stands_there (drop (max m.from w.applied) w.entries) found.0 by.0 found.1 in
       absurd
       (none_stands (joined_from range (max m.from w.applied) w.entries) by.0 none
       (stands_kept (is_joined_in range) (drop (max m.from w.applied) w.entries) by.0 behind (names_joined range by.0 of.0 by.2))))
@@ -200,7 +163,7 @@ module _ (base : Base) (written : ℕ → Written) (range : Range) where
       inr (flat_of told_by (member_rest written range last) found.0 end waits found.2))
       (main_stands written range last found.0 main))
       (λ (side : Contains (side_material range last w) found.0).
-      let item = side_named range last w found.0 side in
+      let item = sides_named range last w found.0 side in
       let true_of : Contains (items_of (member_truth written range first)) item.0 = names item.0 item.2 in
       let tells : Contains (told (member_truth written range first)) (item_end item.0) = item_told (member_truth written range first) item.0 true_of in
       let by : Contains (item_end item.0 ∷ []) end = subst (λ (e : Entry). Contains (told_by e) end) (sym item.1) found.2 in

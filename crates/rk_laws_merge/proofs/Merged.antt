@@ -35,7 +35,6 @@ use Rattle.rk_laws_parts.proofs.Serving.{meets_either}
 use Rattle.rk_laws_parts.proofs.Tables.{all_items_same}
 use Rattle.rk_laws_parts.proofs.Terms.{terms_looks}
 use Rattle.rk_laws_parts.proofs.TurnedRows.{stands_found}
-use Rattle.rk_laws_merge.proofs.Collected.{collected}
 use Rattle.rk_laws_merge.proofs.LogsMore.{logs_more}
 use Rattle.rk_laws_merge.proofs.MergedCalls.{calls_merged, counters_merged}
 use Rattle.rk_laws_merge.proofs.MergedMessages.{messages_merged}
@@ -166,7 +165,7 @@ module _ (v : View) (a : Merging v) where
     logs = logs;
     truth = a.sound.truth;
     order = a.sound.order;
-    calls = calls_merged v a (collected v a);
+    calls = calls_merged v a;
     counters = counters_merged v a;
     rest = rest_merged v a;
     records = records;

@@ -33,6 +33,7 @@ use Rattle.rk_laws_parts.proofs.Calls.{calls_alike, calls_more}
 use Rattle.rk_laws_parts.proofs.Steady.{IsHeir, heir_post}
 use Rattle.rk_laws_merge.specs.Moves.{IsToldIn}
 use Rattle.rk_laws_merge.specs.Small.{as_merged}
+use Rattle.rk_laws_merge.proofs.Collected.{collected}
 use Rattle.rk_laws_merge.proofs.Heirs.{heir_quiet}
 use Rattle.rk_laws_merge.proofs.Merging.{Merging, by_role, closing, gathers, here_or_apart, looks, merged, new_role, now, of_handover, old, rebuilt, role_is, term_is, truth_same}
 
@@ -93,51 +94,51 @@ module _ (v : View) (a : Merging v) where
   kept_same : (q r : ℕ) → (q ≡ a.master → r ≡ a.row.tablet → ⊥) → (now v a).completions q r ≡ v.completions q r
   kept_same q r apart = put2_other v.completions a.master a.row.tablet (completions_from [] (merged v a).ends) q r apart
 
-  module _ (told_in : All (IsToldIn v a.row) (ends_of (completions_from [] (merged v a).ends))) where
-    known_now : (q r : ℕ) → v.live q ≡ true → All (λ end. IsKnown v.base v.journal end ⊎ IsStagedEnd v.rows (rests v) q r ((now v a).handovers q r).term end) (ends_of ((now v a).completions q r))
-    known_now q r lives =
-        ⊎_elim
-        (λ (is : (q ≡ a.master) × (r ≡ a.row.tablet)).
-        let Known : ℕ → ℕ → ℕ → Ended → Type 0 = λ q r term end.
-        IsKnown v.base v.journal end ⊎ IsStagedEnd v.rows (rests v) q r term end in
-        let here : (now v a).completions q r ≡ completions_from [] (merged v a).ends =
-        put2_here v.completions a.master a.row.tablet (completions_from [] (merged v a).ends) q r is.0 is.1 in
-        subst (λ (c : Completions). All (Known q r ((now v a).handovers q r).term) (ends_of c)) (sym here)
-        (subst (λ (term : ℕ). All (Known q r term) (ends_of (completions_from [] (merged v a).ends)))
-        (sym (((looks v a).each q r).term ∙ (λ i. (v.handovers (is.0 i) (is.1 i)).term)))
-        (subst (λ (n : ℕ). All (Known n r (old v a).term) (ends_of (completions_from [] (merged v a).ends))) (sym is.0)
-        (subst (λ (n : ℕ). All (Known a.master n (old v a).term) (ends_of (completions_from [] (merged v a).ends))) (sym is.1)
-        (All-weaker (IsToldIn v a.row) (Known a.master a.row.tablet (old v a).term) told_known (ends_of (completions_from [] (merged v a).ends)) told_in)))))
-        (λ (apart : q ≡ a.master → r ≡ a.row.tablet → ⊥).
-        subst
-        (λ (c : Completions). All (λ end. IsKnown v.base v.journal end ⊎ IsStagedEnd v.rows (rests v) q r ((now v a).handovers q r).term end) (ends_of c))
-        (sym (kept_same q r apart)) (before.known q r lives))
-        (here_or_apart v a q r)
+  -- each end that a master keeps now is known, or staged
+  known_now : (q r : ℕ) → v.live q ≡ true → All (λ end. IsKnown v.base v.journal end ⊎ IsStagedEnd v.rows (rests v) q r ((now v a).handovers q r).term end) (ends_of ((now v a).completions q r))
+  known_now q r lives =
+      ⊎_elim
+      (λ (is : (q ≡ a.master) × (r ≡ a.row.tablet)).
+      let Known : ℕ → ℕ → ℕ → Ended → Type 0 = λ q r term end.
+      IsKnown v.base v.journal end ⊎ IsStagedEnd v.rows (rests v) q r term end in
+      let here : (now v a).completions q r ≡ completions_from [] (merged v a).ends =
+      put2_here v.completions a.master a.row.tablet (completions_from [] (merged v a).ends) q r is.0 is.1 in
+      subst (λ (c : Completions). All (Known q r ((now v a).handovers q r).term) (ends_of c)) (sym here)
+      (subst (λ (term : ℕ). All (Known q r term) (ends_of (completions_from [] (merged v a).ends)))
+      (sym (((looks v a).each q r).term ∙ (λ i. (v.handovers (is.0 i) (is.1 i)).term)))
+      (subst (λ (n : ℕ). All (Known n r (old v a).term) (ends_of (completions_from [] (merged v a).ends))) (sym is.0)
+      (subst (λ (n : ℕ). All (Known a.master n (old v a).term) (ends_of (completions_from [] (merged v a).ends))) (sym is.1)
+      (All-weaker (IsToldIn v a.row) (Known a.master a.row.tablet (old v a).term) told_known (ends_of (completions_from [] (merged v a).ends)) (collected v a))))))
+      (λ (apart : q ≡ a.master → r ≡ a.row.tablet → ⊥).
+      subst
+      (λ (c : Completions). All (λ end. IsKnown v.base v.journal end ⊎ IsStagedEnd v.rows (rests v) q r ((now v a).handovers q r).term end) (ends_of c))
+      (sym (kept_same q r apart)) (before.known q r lives))
+      (here_or_apart v a q r)
 
-    pub calls_merged : CallsOf (now v a) (truths v) (rests v)
-    calls_merged = record {
-      once = before.once;
-      reached = before.reached;
-      recorded = before.recorded;
-      moving = before.moving;
-      answering = λ q k d inside counts says.
-          let x : Row = slice_index_or v.rows k d in
-          ⊎_elim
-          (λ (is : (q ≡ a.master) × (x.tablet ≡ a.row.tablet)).
-          let spoke : speaks (post_of x.phase q) (as_merged (closing v a) (merged v a).floor (v.handovers q x.tablet)) x.term ≡ true =
-          of_handover v a
-          (λ h. speaks (post_of x.phase q) h x.term ≡ true
-          → speaks (post_of x.phase q) (as_merged (closing v a) (merged v a).floor (v.handovers q x.tablet)) x.term ≡ true)
-          q x.tablet (λ at its e. e) (λ apart. absurd (apart is.0 is.1)) says in
-          absurd (quiet q x (Contains-get_or v.rows k d inside) is.0 is.1 spoke))
-          (λ (apart : q ≡ a.master → x.tablet ≡ a.row.tablet → ⊥).
-          subst (λ (c : Completions). ReachAll x.range v.journal (ends_of c)) (sym (kept_same q x.tablet apart))
-          (before.answering q k d inside counts says))
-          (here_or_apart v a q x.tablet);
-      handed_on = before.handed_on;
-      sent = before.sent;
-      known = known_now;
-    }
+  pub calls_merged : CallsOf (now v a) (truths v) (rests v)
+  calls_merged = record {
+    once = before.once;
+    reached = before.reached;
+    recorded = before.recorded;
+    moving = before.moving;
+    answering = λ q k d inside counts says.
+        let x : Row = slice_index_or v.rows k d in
+        ⊎_elim
+        (λ (is : (q ≡ a.master) × (x.tablet ≡ a.row.tablet)).
+        let spoke : speaks (post_of x.phase q) (as_merged (closing v a) (merged v a).floor (v.handovers q x.tablet)) x.term ≡ true =
+        of_handover v a
+        (λ h. speaks (post_of x.phase q) h x.term ≡ true
+        → speaks (post_of x.phase q) (as_merged (closing v a) (merged v a).floor (v.handovers q x.tablet)) x.term ≡ true)
+        q x.tablet (λ at its e. e) (λ apart. absurd (apart is.0 is.1)) says in
+        absurd (quiet q x (Contains-get_or v.rows k d inside) is.0 is.1 spoke))
+        (λ (apart : q ≡ a.master → x.tablet ≡ a.row.tablet → ⊥).
+        subst (λ (c : Completions). ReachAll x.range v.journal (ends_of c)) (sym (kept_same q x.tablet apart))
+        (before.answering q k d inside counts says))
+        (here_or_apart v a q x.tablet);
+    handed_on = before.handed_on;
+    sent = before.sent;
+    known = known_now;
+  }
 
   -- ---- Counters
 

@@ -7,7 +7,6 @@ use Rattle.std.proofs.lemmas.List.{append-nil, take-append-le}
 use Rattle.std.proofs.lemmas.List.Elements.{All-contains, All-push, All-weaker, Contains-append_left, Contains-append_right, Contains-get_or, filter-append}
 use Rattle.std.proofs.lemmas.Option.{IfSome_then}
 use Rattle.rk_types.specs.declared.call.Ended.{Ended}
-use Rattle.rk_types.specs.declared.held.Held.{Held}
 use Rattle.rk_types.specs.declared.lineage.Member.{Member}
 use Rattle.rk_types.specs.declared.range.Range.{Range}
 use Rattle.rk_entry.specs.declared.entry.Entry.{Entry}
@@ -46,9 +45,8 @@ use Rattle.rk_laws_parts.proofs.Lists.{all_by, all_in}
 use Rattle.rk_laws_parts.proofs.Shares.{drop_all}
 use Rattle.rk_laws_merge.specs.Small.{as_merged, with_entries, with_piece}
 use Rattle.rk_laws_merge.proofs.Merging.{Merging, beside, closing, dead_apart, first, free_same, here_or_apart, inside, mark, marked, material_same, merged, mine, new, now, of_handover, of_log, of_written, old, own_is, past_is, piece, piece_length, rebuilder, rebuilt, row_cases, term_is, unmarked, untouched, within}
-use Rattle.rk_laws_merge.proofs.MergedReceives.{names_same}
 use Rattle.rk_laws_merge.proofs.OfRange.{none_passes}
-use Rattle.rk_laws_merge.proofs.Pieces.{drop_first, from_taken, marked_from_more, marked_past, none_more, take_whole}
+use Rattle.rk_laws_merge.proofs.Pieces.{drop_first, from_piece, from_taken, marked_from_more, marked_past, none_more, take_whole}
 
 -- a backup stores as many first entries of a log with more
 pub stored_more : (log : Log) (list : List Entry) (stored : ℕ → List ℕ) → stored_count log stored ≤ stored_count (with_entries log list) stored
@@ -149,6 +147,13 @@ module _ (v : View) (a : Merging v) where
         ((now v a).written to) h c g e (v.records to)) (sym known_same)
         (subst (λ (list : List Entry). Was list ((now v a).written to)) (sym (material_same v a x.range (member_at to (own_place h.role)))) was))
 
+  -- what a log with the piece names in side segments is what it named
+  names_piece : (range : Range) (from q : ℕ) → q ≡ a.master → named_items range from (with_piece (v.written q) (piece v a) (mark v a)) ≡ named_items range from (v.written q)
+  names_piece range from q at =
+      let w : Written = v.written q in
+      ap (λ (list : List Entry). filter (is_in range) (items_of (flat_map (side_entries w.sides) (named range list))))
+      (from_piece w.marks (mark v a) from w.entries (piece v a) (ap (λ (n : ℕ). length (v.written n).entries) at) (omega (arith, past_is v a)))
+
   -- ---- a master that rebuilds another tablet, and the same log
 
   module _ (x : Row) (has : Contains v.rows x) (lineage : List Member) (to : ℕ) (at : to ≡ a.master) (apart : x.tablet ≡ a.row.tablet → ⊥) where
@@ -161,12 +166,7 @@ module _ (v : View) (a : Merging v) where
     abbrev h : Handover
     h = v.handovers to x.tablet
 
-    free_same_here : (from : ℕ) → unmarked_from more.marks from more.entries ≡ unmarked_from w.marks from w.entries
-    free_same_here from =
-        of_written v a
-        (λ (now_w : Written). unmarked_from now_w.marks from now_w.entries ≡ unmarked_from w.marks from w.entries
-        → unmarked_from more.marks from more.entries ≡ unmarked_from w.marks from w.entries) to (λ _ same. same) (λ away. absurd (away at)) (free_same v a to from)
-
+    -- the piece of its own rebuild stands where it did, and still nothing of its range stands behind it
     piece_stays : (made : Merged) (from entry : ℕ) → h.range ≡ x.range → IsPieceOf x.tablet from h made w entry → IsPieceOf x.tablet from h made more entry
     piece_stays made from entry range was =
         let past : was.mark.past ≤ length w.entries =
@@ -187,6 +187,7 @@ module _ (v : View) (a : Merging v) where
               ∙ none_passes (touches x.range) (piece v a) (untouched v a x.range (beside v a x has apart)));
         }
 
+    -- so it rebuilds its row as before
     rebuilder_beside : (own : List Entry) → IsRebuilderWith v x lineage to (NeededOf x v.written lineage) own w h → IsRebuilderWith v x lineage to (NeededOf x v.written lineage) own more h
     rebuilder_beside own was = record {
       range_is = was.range_is;
@@ -209,16 +210,13 @@ module _ (v : View) (a : Merging v) where
           (λ (sure : List Entry). IsRebuildTable x.range (truths v x) (material_of x.range (side_entries w.sides) (drop (own_place h.role) sure)) (v.records to))
           (sym (take-append-le w.applied w.entries (piece v a) (within v a to))) was.items;
       sides =
-          subst (AreShared (truths v x) (v.records to))
-          (λ i. named_by_free x.range (sym (free_same_here (own_place h.role)) i)) was.sides;
+          subst (AreShared (truths v x) (v.records to)) (sym (names_piece x.range (own_place h.role) to at)) was.sides;
       outside = was.outside;
     }
-      where
-        named_by_free : Range → List Entry → List Held
-        named_by_free range list = filter (is_in range) (items_of (flat_map (side_entries w.sides) (named range list)))
 
   -- ---- the master, for its own row
 
+  -- the piece of its merge
   piece_here : IsPieceOf a.row.tablet (own_place (old v a).role) (new v a) (merged v a) (with_piece (v.written a.master) (piece v a) (mark v a)) (closing v a)
   piece_here =
       let w : Written = v.written a.master in
@@ -273,16 +271,9 @@ module _ (v : View) (a : Merging v) where
             (material_of a.row.range (side_entries w.sides) (drop (own_place (old v a).role) sure)) (v.records a.master))
             (sym (take-append-le w.applied w.entries (piece v a) (within v a a.master))) was.items;
         sides =
-            subst (AreShared (truths v a.row) (v.records a.master)) (sym (names_here (own_place (old v a).role))) was.sides;
+            subst (AreShared (truths v a.row) (v.records a.master)) (sym (names_piece a.row.range (own_place (old v a).role) a.master refl)) was.sides;
         outside = was.outside;
       }
-    where
-      names_here : (from : ℕ) → named_items a.row.range from (with_piece (v.written a.master) (piece v a) (mark v a)) ≡ named_items a.row.range from (v.written a.master)
-      names_here from =
-          of_written v a
-          (λ (now_w : Written). named_items a.row.range from now_w ≡ named_items a.row.range from (v.written a.master)
-          → named_items a.row.range from (with_piece (v.written a.master) (piece v a) (mark v a)) ≡ named_items a.row.range from (v.written a.master))
-          a.master (λ _ same. same) (λ away. absurd (away refl)) (names_same v a a.row.range from a.master)
 
   -- ---- each master that rebuilds a row at its term
 
@@ -313,6 +304,7 @@ module _ (v : View) (a : Merging v) where
       (of_written v a (λ (w : Written). IsRebuilderWith v x lineage to (NeededOf x v.written lineage) (own_of v x to h) w h) to
       (λ at. rebuilder_beside x has lineage to at (apart at) (own_of v x to h) (was term)) (λ _. was term)))))
 
+  -- what the master has of its own row
   here_on : (lineage : List Member) → a.row.phase ≡ Rebuilding lineage a.master → RebuildsIn (now v a) a.row lineage a.master
   here_on lineage is =
       let q : ℕ = a.master in
@@ -425,12 +417,13 @@ module _ (v : View) (a : Merging v) where
         within = omega (arith, term_is v a);
         present = λ lives. term_is v a;
         by_rebuilder = λ its. (phase, term_is v a, refl);
-        behind = ap (list_any (touches a.row.range)) (free_same v a a.master (first v a) ∙ ap (unmarked_at w.marks) (drop_all (first v a) w.entries (omega arith)));
+        behind =
+            ap (list_any (touches a.row.range))
+            (free_same v a a.master (first v a)
+            ∙ ap (λ (list : List Entry). unmarked_entries w.marks (first v a) list) (drop_all (first v a) w.entries (omega arith)));
       }
-    where
-      unmarked_at : List Mark → List Entry → List Entry
-      unmarked_at marks list = unmarked_entries marks (length (v.written a.master).entries) list
 
+  -- a mark that is there now fits its row
   abbrev Fits : Row → ℕ → Mark → Type 0
   Fits x q m = m.tablet ≡ x.tablet → MarkFits x q ((now v a).handovers q x.tablet) (v.live q) ((now v a).written q) m
 

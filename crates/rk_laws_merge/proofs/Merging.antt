@@ -1,11 +1,10 @@
 -- A rebuild merges what it gathered: what is known of its row and its own entries, what changes at its master, and what stays as it was.
-use Rattle.std.proofs.Common.{◌≡◌, ℕ, suc, ◌+◌, ◌-◌, ◌≤◌, ◌⊎◌, max, true, false, List, [], ◌∷◌, ◌++◌, length, Option, Some, None, refl, sym, ap, ◌∙◌, subst, ⊎_elim, inl, inr, arith, fold, length-append, length-take}
-use Rattle.std.specs.Prelude.{All, drop, is_some, nat_le, nat_lt, slice_get, take, ◌&&◌}
+use Rattle.std.proofs.Common.{◌≡◌, ℕ, suc, ◌+◌, ◌≤◌, ◌⊎◌, max, true, false, List, [], ◌∷◌, ◌++◌, length, Some, None, refl, sym, ap, ◌∙◌, subst, ⊎_elim, inl, inr, arith, fold, length-append, length-take}
+use Rattle.std.specs.Prelude.{All, drop, slice_get}
 use Rattle.std.specs.List.{Contains, flat_map}
-use Rattle.std.proofs.lemmas.Bool.{and_parts, cases_Bool, cases_eq, false≢true, leb-true, ltb-true}
+use Rattle.std.proofs.lemmas.Bool.{cases_Bool, cases_eq, false≢true}
 use Rattle.std.proofs.lemmas.List.{length-map, take-append-le}
 use Rattle.std.proofs.lemmas.List.Elements.{All-contains, All-weaker}
-use Rattle.std.proofs.lemmas.List.Folds.{Any-from_list_any}
 use Rattle.rk_types.specs.Range.{meets}
 use Rattle.rk_types.specs.declared.lineage.Member.{Member}
 use Rattle.rk_types.specs.declared.range.Range.{Range}
@@ -15,9 +14,7 @@ use Rattle.rk_log.specs.Log.{Log}
 use Rattle.rk_transfer.specs.declared.handover.Handover.{Handover}
 use Rattle.rk_transfer.specs.declared.role.Role.{Role}
 use Rattle.rk_transfer.specs.declared.role.Role.TheVariants as roles
-use Rattle.rk_tablet_map.proofs.Lawful.{number_of}
 use Rattle.rk_tablet_map.specs.Phase.{lineage_of, member as member_at}
-use Rattle.rk_tablet_map.specs.Rows.{row_of}
 use Rattle.rk_tablet_map.specs.declared.phase.Phase.{Phase}
 use Rattle.rk_tablet_map.specs.declared.phase.Phase.TheVariants.{Rebuilding}
 use Rattle.rk_tablet_map.specs.declared.row.Row.{Row}
@@ -31,21 +28,22 @@ use Rattle.rk_world.specs.Written.{Written, applied_entries, lineage_rest, membe
 use Rattle.rk_sound.specs.View.{View, truths, rests}
 use Rattle.rk_sound.specs.Posts.{StillCounts, Holds, bond_of, post_of}
 use Rattle.rk_sound.specs.Roles.{RoleFits}
-use Rattle.rk_sound.specs.Rebuilds.{HasOwnRange, IsOfRange, MarkFits, RowIsRebuilt, closing_carried, has_merged}
+use Rattle.rk_sound.specs.Rebuilds.{IsOfRange, MarkFits, RowIsRebuilt, closing_carried, has_merged}
 use Rattle.rk_sound.specs.Whole.{SoundView}
 use Rattle.rk_laws_parts.proofs.Put.{put_by, put2_by}
 use Rattle.rk_laws_parts.proofs.Apart.{same_number}
 use Rattle.rk_laws_parts.proofs.Applied.{applied_within}
 use Rattle.rk_laws_parts.proofs.Appending.{truth_by, truth_is}
-use Rattle.rk_laws_parts.proofs.MarkedApart.{apart_either, entry_apart, in_piece, place_of}
+use Rattle.rk_laws_parts.proofs.MarkedApart.{apart_either, place_of}
 use Rattle.rk_laws_parts.proofs.Rebuilds.{IsRebuilderIn}
 use Rattle.rk_laws_parts.proofs.RoleTaken.{rows_apart}
 use Rattle.rk_laws_parts.proofs.Seen.{AllLook, GoesOn, LooksAs, looks_same}
-use Rattle.rk_laws_parts.proofs.Serving.{found_stands}
+use Rattle.rk_laws_crash.proofs.MarkedPieces.{HasMark, mark_of}
+use Rattle.rk_laws_crash.proofs.PieceRows.{marked_names_none, marked_of_row}
 use Rattle.rk_laws_merge.specs.Moves.{MayMergeFormed}
 use Rattle.rk_laws_merge.specs.Small.{as_merged, merge_in, merged_view, own_entries, piece_entries, piece_mark, with_entries, with_piece}
 use Rattle.rk_laws_merge.proofs.Heirs.{at_term, gathering_rebuilds, gathers_from, merged_goes_on}
-use Rattle.rk_laws_merge.proofs.OfRange.{Counts, material_counts, names_none, piece_inside, touches_none}
+use Rattle.rk_laws_merge.proofs.OfRange.{Counts, material_counts, piece_inside, touches_none}
 use Rattle.rk_laws_merge.proofs.Pieces.{free_counting, free_names, from_front, from_piece}
 
 -- a merge that a master may make for a row, in a sound view
@@ -115,12 +113,14 @@ module _ (v : View) (a : Merging v) where
       (λ (other : q ≡ a.master → ⊥). inr (λ at _. other at))
       (cases_eq q a.master)
 
+  -- what is applied stands in the log, and so do the marked pieces
   pub within : (q : ℕ) → (v.written q).applied ≤ length (v.written q).entries
   within q = applied_within (v.logs q) (v.written q) _ (a.sound.logs.each q)
 
   pub marked : (q : ℕ) → All (λ mark. mark.past ≤ length (v.written q).entries) (v.written q).marks
   marked q = (a.sound.logs.each q).marked
 
+  -- a dead master is not the one that merges
   pub dead_apart : (q : ℕ) → v.live q ≡ false → q ≡ a.master → ⊥
   dead_apart q dead at = false≢true (sym dead ∙ ap v.live at ∙ a.may.may.lives)
 
@@ -130,6 +130,7 @@ module _ (v : View) (a : Merging v) where
   pub gathers : (from : ℕ) × (old.role ≡ roles.Rebuilding from None)
   gathers = gathers_from old.role a.may.may.gathering
 
+  -- it fits the master's post
   pub fit : Holds (bond_of (post_of a.row.phase a.master) (roles.Rebuilding gathers.0 None)) a.row.term old.term (v.written a.master).applied
   fit =
       subst (λ (role : Role). Holds (bond_of (post_of a.row.phase a.master) role) a.row.term old.term (v.written a.master).applied) gathers.1
@@ -156,9 +157,11 @@ module _ (v : View) (a : Merging v) where
       v.rows a.row a.sound.rebuilds.rebuilt a.has_row) in
       fits.0 term_is
 
+  -- no range of a row is empty
   pub some : (x : Row) → Contains v.rows x → x.range.first ≤ x.range.last
   some x has = All-contains (λ (r : Row). r.range.first ≤ r.range.last) v.rows x a.may.ranges has
 
+  -- a row is this one, or it has another number
   pub row_cases : (x : Row) → Contains v.rows x → (x ≡ a.row) ⊎ (x.tablet ≡ a.row.tablet → ⊥)
   row_cases x has =
       ⊎_elim (λ (same : x.tablet ≡ a.row.tablet). inl (same_number v.rows x a.row a.sound.rows.apart has a.has_row same))
@@ -187,46 +190,15 @@ module _ (v : View) (a : Merging v) where
       let by = fits.by_rebuilder (fits.present a.may.may.lives) in
       false≢true (sym (ap has_merged gathers.1) ∙ by.2)
 
-  -- a marked entry is of another row
-  record IsElsewhere (e : Entry) : Type 0 where
-    other : Row
-    stands : Contains v.rows other
-    apart : other.tablet ≡ a.row.tablet → ⊥
-    of : IsOfRange other.range e
-
-  of_known : (m : Mark) (e : Entry) → Contains (v.written a.master).marks m → Contains (take (m.past - m.first) (drop m.first (v.written a.master).entries)) e → (found : Option Row) → row_of v.rows m.tablet ≡ found → is_some found ≡ true → IsElsewhere e
-  of_known m e stands inside None is known = absurd (false≢true known)
-  of_known m e stands inside (Some other) is known =
-      let has : Contains v.rows other = found_stands v.rows m.tablet other is in
-      let number : other.tablet ≡ m.tablet = number_of v.rows m.tablet other is in
-      let own : HasOwnRange other.range (v.written a.master).entries m =
-      All-contains (λ m. m.tablet ≡ other.tablet → HasOwnRange other.range (v.written a.master).entries m) (v.written a.master).marks m
-      (All-contains
-      (λ r. All (λ m. m.tablet ≡ r.tablet → HasOwnRange r.range (v.written a.master).entries m) (v.written a.master).marks)
-      v.rows other (a.sound.rebuilds.pieces a.master) has) stands (sym number) in
-      record {
-        other = other;
-        stands = has;
-        apart = λ same. unmarked m stands (sym number ∙ same);
-        of = All-contains (IsOfRange other.range) (take (m.past - m.first) (drop m.first (v.written a.master).entries)) e own inside;
-      }
-
-  elsewhere : (place : ℕ) (e : Entry) → slice_get (v.written a.master).entries place ≡ Some e → is_marked (v.written a.master).marks place ≡ true → IsElsewhere e
-  elsewhere place e at is =
-      let found = Any-from_list_any (λ (m : Mark). nat_le m.first place && nat_lt place m.past) (v.written a.master).marks is in
-      let m : Mark = found.1 in
-      let stands : Contains (v.written a.master).marks m = (found.0, found.2, found.3) in
-      let parts = and_parts (nat_le m.first place) (nat_lt place m.past) found.4 in
-      of_known m e stands
-      (in_piece (v.written a.master).entries m.first m.past place e (leb-true m.first place parts.0) (ltb-true place m.past parts.1) at)
-      (row_of v.rows m.tablet) refl
-      (All-contains (λ m. is_some (row_of v.rows m.tablet) ≡ true) (v.written a.master).marks m (a.sound.cover.marks a.master) stands)
-
-  -- so it does not count for the row
-  uncounted : (e : Entry) → IsElsewhere e → counts a.row.range e ≡ false
-  uncounted e is =
-      let apart : meets a.row.range is.other.range ≡ false = beside is.other is.stands is.apart in
-      entry_apart is.other.range a.row.range (apart_either a.row.range is.other.range apart) apart (some a.row a.has_row) e is.of
+  -- so no marked entry counts for the row
+  uncounted : (place : ℕ) (e : Entry) → slice_get (v.written a.master).entries place ≡ Some e → is_marked (v.written a.master).marks place ≡ true → counts a.row.range e ≡ false
+  uncounted place e at is =
+      let found : HasMark (v.written a.master).marks place = mark_of (v.written a.master).marks place is in
+      ⊎_elim
+      (λ (its : counts a.row.range e ≡ true).
+      absurd (unmarked found.mark found.here (marked_of_row v a.sound a.master place e at found a.row a.has_row (some a.row a.has_row) its)))
+      (λ (none : counts a.row.range e ≡ false). none)
+      (cases_Bool (counts a.row.range e))
 
   -- ---- what is merged
 
@@ -234,18 +206,20 @@ module _ (v : View) (a : Merging v) where
   abbrev pub mine : List Entry
   mine = member_material v.written a.row.range (member_at a.master (own_place (v.handovers a.master a.row.tablet).role))
 
+  -- what it has of its own, marked entries too, is just that
   pub own_is : own_entries v a.master a.row.tablet ≡ mine
   own_is =
       let w : Written = v.written a.master in
       let from : ℕ = own_place old.role in
       let range : Range = a.row.range in
       let list : List Entry = drop from w.entries in
-      let far : (k : ℕ) (e : Entry) → slice_get list k ≡ Some e → is_marked w.marks (from + k) ≡ true → IsElsewhere e =
-      (λ k e at is. elsewhere (from + k) e (place_of w.entries from k (from + k) e refl at) is) in
+      let there : (k : ℕ) (e : Entry) → slice_get list k ≡ Some e → slice_get w.entries (from + k) ≡ Some e =
+      (λ k e at. place_of w.entries from k (from + k) e refl at) in
       let counted : counting range list ≡ counting range (unmarked_from w.marks from w.entries) =
-      free_counting range w.marks from list (λ k e at is. uncounted e (far k e at is)) in
+      free_counting range w.marks from list (λ k e at is. uncounted (from + k) e (there k e at) is) in
       let names : flat_map (named_by range) list ≡ flat_map (named_by range) (unmarked_from w.marks from w.entries) =
-      free_names range w.marks from list (λ k e at is. let there = far k e at is in names_none there.other.range range e there.of) in
+      free_names range w.marks from list
+      (λ k e at is. marked_names_none v a.sound a.master (from + k) e (there k e at) (mark_of w.marks (from + k) is) range) in
       ap (λ (r : Range). material_of r (side_entries w.sides) list) rebuilder.range_is
       ∙ (λ i. counted i ++ counting range (flat_map (side_entries w.sides) (fold with_number [] (names i))))
 
@@ -272,6 +246,7 @@ module _ (v : View) (a : Merging v) where
 
   -- ---- what counts: nothing of the piece is seen
 
+  -- what is applied counts as before
   pub truth_same : (range : Range) (member : Member) → member_truth now.written range member ≡ member_truth v.written range member
   truth_same range member =
       of_written
@@ -286,6 +261,7 @@ module _ (v : View) (a : Merging v) where
       (omega (arith, few, within member.master, ap (λ (n : ℕ). length (v.written n).entries) at))))
       (λ apart. refl)
 
+  -- the entries without a mark are those that there were
   pub free_same : (q from : ℕ) → unmarked_from (now.written q).marks from (now.written q).entries ≡ unmarked_from (v.written q).marks from (v.written q).entries
   free_same q from =
       of_written (λ (w : Written). unmarked_from w.marks from w.entries ≡ unmarked_from (v.written q).marks from (v.written q).entries) q
@@ -299,6 +275,7 @@ module _ (v : View) (a : Merging v) where
   pub applied_same : (q : ℕ) → (now.written q).applied ≡ (v.written q).applied
   applied_same q = of_written (λ (w : Written). w.applied ≡ (v.written q).applied) q (λ at. refl) (λ apart. refl)
 
+  -- so what a member has written counts as before, and what is not applied
   pub material_same : (range : Range) (member : Member) → member_material now.written range member ≡ member_material v.written range member
   material_same range member =
       (λ i. material_of range (side_entries (sides_same member.master i)) (free_same member.master member.from i))
@@ -309,6 +286,7 @@ module _ (v : View) (a : Merging v) where
       (applied_same member.master)
       ∙ ap (counting range) (free_same member.master (max member.from (v.written member.master).applied))
 
+  -- truths and rests of all rows are as before
   pub truths_same : ◌≡◌ {A = Row → List Entry} (truths now) (truths v)
   truths_same i x =
       (truth_is v.base now.written x.range (lineage_of x.phase)
@@ -325,6 +303,7 @@ module _ (v : View) (a : Merging v) where
 
   -- ---- how tablets look
 
+  -- the old role
   pub role_is : (q r : ℕ) → q ≡ a.master → r ≡ a.row.tablet → (v.handovers q r).role ≡ roles.Rebuilding gathers.0 None
   role_is q r at its =
       ap (λ (n : ℕ). (v.handovers n r).role) at ∙ ap (λ (n : ℕ). (v.handovers a.master n).role) its ∙ gathers.1
@@ -333,6 +312,7 @@ module _ (v : View) (a : Merging v) where
   pub new_role : (h : Handover) → h.role ≡ roles.Rebuilding gathers.0 None → (as_merged closing merged.floor h).role ≡ roles.Rebuilding gathers.0 (Some closing)
   new_role h is = ap (λ (role : Role). roles.Rebuilding (own_place role) (Some closing)) is
 
+  -- for rows and messages each tablet looks as it did
   pub looks : AllLook v.written now.written v.handovers now.handovers
   looks = record {
     each = λ q r.

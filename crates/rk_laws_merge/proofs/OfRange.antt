@@ -17,7 +17,7 @@ use Rattle.rk_overlay.specs.Overlay.{newest_items}
 use Rattle.rk_world.specs.Ends.{items_in, items_of}
 use Rattle.rk_world.specs.Gather.{Gather, Gathered, by_member, counted_of, is_of_lineage, main_entries, material_by, side_read}
 use Rattle.rk_world.specs.Master.{touches}
-use Rattle.rk_world.specs.Material.{as_entries, counting, counts, is_joined_in, material_of, named, named_by}
+use Rattle.rk_world.specs.Material.{as_entries, counting, counts, is_joined_in, material_of, named}
 use Rattle.rk_world.specs.Merge.{has_version, merge}
 use Rattle.rk_sound.specs.Logs.{segments_in}
 use Rattle.rk_sound.specs.Rebuilds.{IsOfRange}
@@ -25,16 +25,11 @@ use Rattle.rk_laws_merge.specs.Small.{piece_entries}
 use Rattle.rk_laws_parts.proofs.Apart.{key_outside}
 use Rattle.rk_laws_parts.proofs.Joining.{kept_stands}
 use Rattle.rk_laws_parts.proofs.Lists.{all_by}
+use Rattle.rk_laws_crash.proofs.Among.{all_flat}
 
 -- ---- an entry of a rebuild of a range
 
 -- names no side segment
-pub names_none : (a b : Range) (e : Entry) → IsOfRange a e → named_by b e ≡ []
-names_none a b (entries.Held held) of = refl
-names_none a b (entries.Refused refused) of = refl
-names_none a b (entries.Carried carried) of = refl
-names_none a b (entries.Joined joined) of = absurd of
-
 pub segments_none : (a : Range) (e : Entry) → IsOfRange a e → segments_in e ≡ []
 segments_none a (entries.Held held) of = refl
 segments_none a (entries.Refused refused) of = refl
@@ -63,9 +58,11 @@ none_passes p (x ∷ xs) fails =
 
 -- ---- what counts for a range is of it
 
+-- an entry counts for a range
 abbrev pub Counts : Range → Entry → Type 0
 Counts range e = counts range e ≡ true
 
+-- all that is kept of entries counts, and so does all that counts of a log
 pub counting_counts : (range : Range) (list : List Entry) → All (Counts range) (counting range list)
 counting_counts range list = all_by (Counts range) (counting range list) (λ e at. (kept_stands (counts range) list e at).1)
 
@@ -88,12 +85,6 @@ items_inside range (entry ∷ list) each =
     one (entries.Joined joined) inside = All-nil (λ item. is_in range item ≡ true)
 
 -- ---- what is merged
-
--- what holds of each element of each list holds of all of them together
-all_flat : {X Y : Type 0} (P : Y → Type 0) (f : X → List Y) (xs : List X) → All (λ x. All P (f x)) xs → All P (flat_map f xs)
-all_flat P f [] each = All-nil P
-all_flat {X} P f (x ∷ xs) each =
-    All-append P (f x) (flat_map f xs) (All-head (λ (x : X). All P (f x)) x xs each) (all_flat P f xs (All-tail (λ (x : X). All P (f x)) x xs each))
 
 -- all that is merged counts for the range of the gather
 pub read_counts : (gather : Gather) (own : List Entry) → All (Counts gather.range) own → All (Counts gather.range) (flat_map (λ list. list) (by_member gather own))

@@ -68,6 +68,7 @@ drop_past zero (x ∷ xs) ys past = absurd (omega (arith, past))
 drop_past (suc from) (x ∷ xs) ys past =
     let later = drop_past from xs ys (omega (arith, past)) in (later.0, omega (arith, later.1), later.2)
 
+-- so of what stands from a place on nothing more is without a mark
 pub from_piece : (marks : List Mark) (mark : Mark) (from : ℕ) (list piece : List Entry) → length list ≡ mark.first → mark.first + length piece ≤ mark.past → unmarked_from (marks ++ mark ∷ []) from (list ++ piece) ≡ unmarked_from marks from list
 from_piece marks mark from list piece first past =
     ⊎_elim
@@ -99,19 +100,21 @@ from_front marks mark from list within =
     ap (unmarked (marks ++ mark ∷ []) from) (drop_all from list beyond) ∙ sym (ap (unmarked marks from) (drop_all from list beyond)))
     (cases_lt from (length list))
 
--- so it is of the first ones of all
+-- the first ones of entries with more, where that are all of the first part and some of the other
 pub take_past : {X : Type 0} (n : ℕ) (xs ys : List X) → length xs ≤ n → (k : ℕ) × (take n (xs ++ ys) ≡ xs ++ take k ys)
 take_past n [] ys past = (n, refl)
 take_past zero (x ∷ xs) ys past = absurd (omega (arith, past))
 take_past {X} (suc n) (x ∷ xs) ys past =
     let later = take_past n xs ys (omega (arith, past)) in (later.0, ap (λ (rest : List X). x ∷ rest) later.1)
 
+-- all of them
 pub take_whole : {X : Type 0} (n : ℕ) (xs : List X) → length xs ≤ n → take n xs ≡ xs
 take_whole zero [] past = refl
 take_whole (suc n) [] past = refl
 take_whole zero (x ∷ xs) past = absurd (omega (arith, past))
 take_whole {X} (suc n) (x ∷ xs) past = ap (λ (rest : List X). x ∷ rest) (take_whole n xs (omega (arith, past)))
 
+-- nor of the first ones of that
 pub from_taken : (marks : List Mark) (mark : Mark) (from n : ℕ) (list piece : List Entry) → length list ≡ mark.first → mark.first + length piece ≤ mark.past → unmarked_from (marks ++ mark ∷ []) from (take n (list ++ piece)) ≡ unmarked_from marks from (take n list)
 from_taken marks mark from n list piece first past =
     ⊎_elim
@@ -137,12 +140,14 @@ marked_past (mark ∷ marks) place within =
     (and_right (leb mark.first place) (ltb place mark.past) (le-ltb place mark.past (All-head (λ m. m.past ≤ place) mark marks within)))
     (marked_past marks place (All-tail (λ m. m.past ≤ place) mark marks within))
 
+-- where nothing is marked from a place on, no entry there is
 pub marked_behind : (marks : List Mark) (place : ℕ) (list : List Entry) → ((k : ℕ) → place ≤ k → is_marked marks k ≡ false) → marked_entries marks place list ≡ []
 marked_behind marks place [] none = refl
 marked_behind marks place (entry ∷ list) none =
     cond-false (is_marked marks place) (entry ∷ marked_entries marks (suc place) list) (marked_entries marks (suc place) list) (none place (omega arith))
     ∙ marked_behind marks (suc place) list (λ k from. none k (omega (arith, from)))
 
+-- so entries with more that bear no mark have those marked that were
 pub marked_more : (marks : List Mark) (place : ℕ) (list more : List Entry) → ((k : ℕ) → place + length list ≤ k → is_marked marks k ≡ false) → marked_entries marks place (list ++ more) ≡ marked_entries marks place list
 marked_more marks place [] more none = marked_behind marks place more (λ k from. none k (omega (arith, from)))
 marked_more marks place (entry ∷ list) more none =
@@ -177,6 +182,7 @@ free_counting range marks place (entry ∷ list) none =
     cond-false (counts range entry) (entry ∷ counting range list) (counting range list) (none 0 entry refl (ap (is_marked marks) same ∙ marked)) ∙ later)
     (λ free. ap (λ (all : List Entry). cond (counts range entry) (entry ∷ all) all) later)
 
+-- and the same segments are named
 pub free_names : (range : Range) (marks : List Mark) (place : ℕ) (list : List Entry) → ((k : ℕ) (e : Entry) → slice_get list k ≡ Some e → is_marked marks (place + k) ≡ true → named_by range e ≡ []) → flat_map (named_by range) list ≡ flat_map (named_by range) (unmarked marks place list)
 free_names range marks place [] none = refl
 free_names range marks place (entry ∷ list) none =
