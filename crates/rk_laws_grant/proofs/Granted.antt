@@ -41,7 +41,7 @@ use Rattle.rk_laws_parts.proofs.Roles.{terms_look}
 use Rattle.rk_laws_parts.proofs.Rows.{rows_grown}
 use Rattle.rk_laws_parts.proofs.Serving.{meets_either}
 use Rattle.rk_laws_parts.proofs.Tables.{all_items_same}
-use Rattle.rk_laws_grant.specs.Moves.{MayTakeGrant}
+use Rattle.rk_laws_grant.specs.Moves.{MayGrantFormed}
 use Rattle.rk_laws_grant.specs.Small.{as_granted, granted, tablet_granted_in}
 use Rattle.rk_laws_grant.proofs.Granting.{Granting, applied_same, by_role, by_row, entry, has_itself, master, now, of_handover, of_log, of_written, old, outside, ranged, row_cases, same_term, seen_same, tablet, taker, truth_same, truths_same}
 use Rattle.rk_laws_grant.proofs.GrantedCalls.{calls_granted, counters_granted}
@@ -214,7 +214,7 @@ granted_is w master grant =
       calls = put_same (view w).calls master i;
     })
 
-pub sound_granted : (w : World) (row : Row) (source target : Member) (grant : Grant) → IsSound w → MayTakeGrant (view w) row source target grant → IsSound (tablet_granted_in w target.master grant)
+pub sound_granted : (w : World) (row : Row) (source target : Member) (grant : Grant) → IsSound w → MayGrantFormed (view w) row source target grant → IsSound (tablet_granted_in w target.master grant)
 sound_granted w row source target grant sound may =
     let a : Granting (view w) = record {
       row = row;

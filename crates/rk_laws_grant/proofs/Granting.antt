@@ -43,7 +43,7 @@ use Rattle.rk_laws_parts.proofs.MarkedApart.{not_all}
 use Rattle.rk_laws_parts.proofs.Rebuilders.{last_member}
 use Rattle.rk_laws_parts.proofs.RoleTaken.{rows_apart}
 use Rattle.rk_laws_parts.proofs.Shares.{material_outside, rest_inside, rest_outside}
-use Rattle.rk_laws_grant.specs.Moves.{MayTakeGrant}
+use Rattle.rk_laws_grant.specs.Moves.{MayGrantFormed}
 use Rattle.rk_laws_grant.specs.Small.{as_granted, granted}
 use Rattle.rk_laws_grant.proofs.Takers.{IsTaker, waiting_takes}
 
@@ -54,7 +54,7 @@ pub record Granting (v : View) : Type 0 where
   pub target : Member
   pub grant : Grant
   pub sound : SoundView v
-  pub may : MayTakeGrant v row source target grant
+  pub may : MayGrantFormed v row source target grant
 
 -- what a master has of a tablet
 abbrev pub tablet_of : View → ℕ → ℕ → Tablet

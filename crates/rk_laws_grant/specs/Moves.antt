@@ -9,7 +9,7 @@ use Rattle.rk_sound.specs.Moves.{MayGrant}
 
 -- a target of a row may take a grant of the row's tablet, where it may be granted that. That the ends of a grant rise by client, and
 -- that no range of a row is empty, is so in each lane that is well formed
-pub record MayTakeGrant (v : View) (row : Row) (source target : Member) (grant : Grant) : Type 0 where
+pub record MayGrantFormed (v : View) (row : Row) (source target : Member) (grant : Grant) : Type 0 where
   pub may : MayGrant v row source target grant
   pub tablet_is : grant.tenure.tablet ≡ row.tablet
   pub rising : RiseAbove 0 grant.ends

@@ -1,5 +1,5 @@
 // The headline law of a grant. The function does nothing: its contract is the law.
-ghost use Rattle.rk_laws_grant.specs.Moves.{MayTakeGrant};
+ghost use Rattle.rk_laws_grant.specs.Moves.{MayGrantFormed};
 ghost use Rattle.rk_laws_grant.specs.Small.{tablet_granted_in};
 ghost use Rattle.rk_message.specs.declared.handover.Grant.{Grant};
 ghost use Rattle.rk_sound.specs.View.{view};
@@ -12,6 +12,6 @@ ghost use Rattle.rk_world.specs.World.{World};
 /// has in its log what that told, and pulls.
 pub fn a_grant_keeps_lanes_sound()
     ensures granted { (w : World) (row : Row) (source target : Member) (grant : Grant)
-        → IsSound w → MayTakeGrant (view w) row source target grant
+        → IsSound w → MayGrantFormed (view w) row source target grant
         → IsSound (tablet_granted_in w target.master grant) }
 {}
