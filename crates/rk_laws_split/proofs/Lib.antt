@@ -2,3 +2,4 @@ pub mod Ranges
 pub mod HalfCounts
 pub mod HalfTells
 pub mod HalfRests
+pub mod HalfOfRow
