@@ -3,3 +3,4 @@ pub mod HalfCounts
 pub mod HalfTells
 pub mod HalfRests
 pub mod HalfOfRow
+pub mod SplitRows
