@@ -11,7 +11,20 @@ use Rattle.rk_types.specs.NumberMap.{NumberMap, get}
 use Rattle.rk_types.specs.declared.call.Ended.{Ended}
 use Rattle.rk_types.specs.declared.held.Held.{Held}
 use Rattle.rk_types.specs.declared.lineage.Member.{Member}
+use Rattle.rk_types.specs.Range.{meets}
+use Rattle.rk_types.specs.declared.node.Node.{Node}
 use Rattle.rk_types.specs.declared.range.Range.{Range}
+use Rattle.rk_outside.specs.Segments.{bytes_of as copied_bytes}
+use Rattle.rk_entry.specs.declared.entry.Entry.TheVariants as entries
+use Rattle.rk_table.specs.Items.{at_hash}
+use Rattle.rk_table.specs.Scans.{batch_at, next_token}
+use Rattle.rk_pull.specs.declared.batches.TheConstants.{BATCH_BYTES}
+use Rattle.rk_message.specs.declared.message.Body.{Body}
+use Rattle.rk_message.specs.declared.message.Body.TheVariants as bodies
+use Rattle.rk_message.specs.declared.pulling.Got.{Got}
+use Rattle.rk_message.specs.declared.pulling.Pulled.{Pulled}
+use Rattle.rk_message.specs.declared.rebuilding.CopySegment.{CopySegment}
+use Rattle.rk_world.specs.Master.{touches}
 use Rattle.rk_entry.specs.declared.entry.Entry.{Entry}
 use Rattle.rk_log.specs.Known.{Known}
 use Rattle.rk_log.specs.Log.{known_of}
@@ -29,7 +42,7 @@ use Rattle.rk_world.specs.Coordinator.{Handed}
 use Rattle.rk_world.specs.Ends.{items_of}
 use Rattle.rk_world.specs.Lineage.{first_of}
 use Rattle.rk_world.specs.Marks.{is_mark_of, is_marked, unmarked, unmarked_from}
-use Rattle.rk_world.specs.Material.{counting, counts}
+use Rattle.rk_world.specs.Material.{as_entries, counting, counts}
 use Rattle.rk_world.specs.Rebuilds.{own_place}
 use Rattle.rk_world.specs.Written.{Written, member_material, member_rest, member_truth}
 use Rattle.rk_sound.specs.View.{View, truths}
@@ -37,15 +50,22 @@ use Rattle.rk_sound.specs.Handing.{beginning_in, target_truth}
 use Rattle.rk_sound.specs.Logs.{stored_of}
 use Rattle.rk_sound.specs.Rest.{FirstIsDone, IsDone}
 use Rattle.rk_sound.specs.Tables.{HasItems, IsTableOf}
-use Rattle.rk_sound.specs.Receives.{IsTarget, MembersFit, NamedFit}
-use Rattle.rk_sound.specs.Rebuilds.{AreGathered, HasOwnRange, IsGathered, IsMergedOf, IsNeeded, IsPieceOf, IsRebuilder, MarkFits, MarkedFit, NeededOf, NeedsEnd, READ_BACKUP, RowIsRebuilt, StandsLast, TellNoMore, TellsMore, given_up_marks, marked_entries, member_given_up, member_marked, member_stored, merged_place, stored_count}
+use Rattle.rk_sound.specs.Messages.{CopyIn, GotAgrees, IsFromSource, PulledAgrees, SaysOf}
+use Rattle.rk_sound.specs.Receives.{IsTarget, MembersFit, NamedFit, scan_items}
+use Rattle.rk_sound.specs.Rebuilds.{AreGathered, HasOwnRange, IsMergedOf, IsNeeded, IsOfRange, IsPieceOf, IsRebuilder, MarkFits, MarkedFit, NeededOf, NeedsEnd, READ_BACKUP, RowIsRebuilt, StandsLast, TellNoMore, TellsMore, given_up_marks, marked_entries, member_given_up, member_marked, member_stored, merged_place, stored_count}
 use Rattle.rk_sound.specs.Whole.{SoundView}
-use Rattle.rk_laws_parts.proofs.MarkedApart.{apart_either}
-use Rattle.rk_laws_parts.proofs.Needed.{any_kept, one_weaker}
+use Rattle.rk_laws_parts.proofs.Apart.{key_outside}
+use Rattle.rk_laws_parts.proofs.Lists.{all_by}
+use Rattle.rk_laws_parts.proofs.MarkedApart.{apart_either, place_of}
+use Rattle.rk_laws_parts.proofs.Messages.{if_master}
+use Rattle.rk_laws_parts.proofs.Missed.{Misses, none_touches}
+use Rattle.rk_laws_parts.proofs.Needed.{one_weaker, part_weaker}
 use Rattle.rk_laws_parts.proofs.Records.{filter_from, filter_stands}
 use Rattle.rk_laws_lineage.specs.Small.{marks_taken}
 use Rattle.rk_laws_lineage.proofs.Among.{taken_from}
 use Rattle.rk_laws_lineage.proofs.FewerMarks.{free_counts, marked_counts}
+use Rattle.rk_laws_lineage.proofs.Pieces.{unmarked_place, unmarked_stands}
+use Rattle.rk_laws_lineage.proofs.Untouched.{each_misses}
 use Rattle.rk_laws_lineage.proofs.MarksTaken.{apart, fewer, marked_kept, material_kept, named_kept, rest_kept, silent_apart, taken_of, truth_kept}
 
 -- what is kept by two tests is kept by one that asks for both
@@ -310,3 +330,111 @@ module _ (v : View) (row : Row) (sound : SoundView v) (has_row : Contains v.rows
         marked_fit_beside l fit.1,
       )
   rebuilt_beside truth _ fit = tt
+
+  -- an entry of a rebuild of the row does not touch the other one
+  of_misses : (entry : Entry) → IsOfRange row.range entry → touches other.range entry ≡ false
+  of_misses (entries.Held held) of =
+      key_outside other.range row.range held.table held.key
+      (apart_either row.range other.range (apart v row sound has_row other has_other unlike some)) of
+  of_misses (entries.Refused refused) of = absurd of
+  of_misses (entries.Carried carried) of =
+      ap (λ (range : Range). meets range other.range) of ∙ apart v row sound has_row other has_other unlike some
+  of_misses (entries.Joined joined) of = absurd of
+
+  -- so a piece of the other still stands last
+  last_as : (q : ℕ) (mark : Mark) → StandsLast other.range (v.written q) mark → StandsLast other.range (now.written q) mark
+  last_as q mark last =
+      let list : List Entry = drop mark.first (v.written q).entries in
+      let missed : All (Misses other.range) (unmarked (old_marks q) mark.first list) =
+      each_misses other.range (unmarked (old_marks q) mark.first list) last in
+      none_touches other.range (unmarked (new_marks q) mark.first list)
+      (all_by (Misses other.range) (unmarked (new_marks q) mark.first list)
+      (λ entry stands.
+      let is = unmarked_place (new_marks q) mark.first list entry stands in
+      ⊎_elim
+      (λ (was : is_marked (old_marks q) (mark.first + is.k) ≡ true).
+      of_misses entry
+      (taken_of v row sound has_row q (mark.first + is.k) entry
+      (place_of (v.written q).entries mark.first is.k (mark.first + is.k) entry refl is.at) was is.free))
+      (λ (free : is_marked (old_marks q) (mark.first + is.k) ≡ false).
+      All-contains (Misses other.range) (unmarked (old_marks q) mark.first list) entry missed
+      (unmarked_stands (old_marks q) mark.first is.k list entry is.at free))
+      (cases_Bool (is_marked (old_marks q) (mark.first + is.k)))))
+
+  abbrev MarkIn : (ℕ → Written) → ℕ → Mark → Type 0
+  MarkIn written q mark =
+      mark.tablet ≡ other.tablet → MarkFits other q (v.handovers q other.tablet) (v.live q) (written q) mark
+
+  pub marks_beside : (q : ℕ) → All (MarkIn v.written q) (old_marks q) → All (MarkIn now.written q) (new_marks q)
+  marks_beside q all =
+      All-filter stays (MarkIn now.written q) (old_marks q)
+      (All-weaker (MarkIn v.written q) (MarkIn now.written q)
+      (λ mark fits its.
+      let was = fits its in
+      record {
+        rebuilt = was.rebuilt;
+        within = was.within;
+        present = was.present;
+        by_rebuilder = was.by_rebuilder;
+        behind = last_as q mark was.behind;
+      })
+      (old_marks q) all)
+
+  pub pieces_beside : (q : ℕ) → All (λ mark. mark.tablet ≡ other.tablet → HasOwnRange other.range (v.written q).entries mark) (old_marks q) → All (λ mark. mark.tablet ≡ other.tablet → HasOwnRange other.range (v.written q).entries mark) (new_marks q)
+  pieces_beside q all =
+      All-filter stays (λ mark. mark.tablet ≡ other.tablet → HasOwnRange other.range (v.written q).entries mark) (old_marks q) all
+
+  -- ---- messages
+
+  abbrev Pulls : (ℕ → Written) → List Member → Node → ℕ → Pulled → Type 0
+  Pulls written l from q message = PulledAgrees other written v.handovers v.live l from q message
+
+  pulled_as : (l : List Member) (from : Node) (q : ℕ) (message : Pulled) → Pulls v.written l from q message → Pulls now.written l from q message
+  pulled_as [] from q message agrees = tt
+  pulled_as (only ∷ []) from q message agrees = tt
+  pulled_as (source ∷ target ∷ []) from q message agrees = λ here lives is.
+      subst
+      (λ (t : List Entry). IsFromSource source from (as_entries (batch_at message.token BATCH_BYTES (scan_items t))) message.entries
+      × (message.next ≡ next_token message.token BATCH_BYTES (scan_items t)))
+      (sym (truth_as source)) (agrees here lives is)
+  pulled_as (source ∷ target ∷ third ∷ more) from q message agrees = tt
+
+  abbrev Gets : (ℕ → Written) → List Member → Node → ℕ → Got → Type 0
+  Gets written l from q message = GotAgrees other written v.handovers v.live l from q message
+
+  got_as : (l : List Member) (from : Node) (q : ℕ) (message : Got) → Gets v.written l from q message → Gets now.written l from q message
+  got_as [] from q message agrees = tt
+  got_as (only ∷ []) from q message agrees = tt
+  got_as (source ∷ target ∷ []) from q message agrees = λ here lives is.
+      subst
+      (λ (t : List Entry).
+      IsFromSource source from (as_entries (flat_map (λ hash. at_hash hash (scan_items t)) message.hashes)) message.entries)
+      (sym (truth_as source)) (agrees here lives is)
+  got_as (source ∷ target ∷ third ∷ more) from q message agrees = tt
+
+  copy_as : (phase : Phase) (copy : CopySegment) → CopyIn other phase v.logs v.written v.stored v.live copy → CopyIn other phase v.logs now.written v.stored v.live copy
+  copy_as (Rebuilding l to) copy said = (
+    said.0,
+    part_weaker (NeededOf other v.written l copy.master) (NeededOf other now.written l copy.master)
+        (known_of (v.logs copy.master) READ_BACKUP) (stored_of v.stored copy.master READ_BACKUP) copy.segment (copied_bytes copy.bytes)
+        (needed_beside l copy.master) said.1,
+  )
+  copy_as _ copy said = tt
+
+  abbrev SaysIn : (ℕ → Written) → Node → Node → Body → Type 0
+  SaysIn written from to body =
+      SaysOf other v.logs written v.stored v.handovers v.completions v.merged v.live v.handed from to body
+
+  pub says_beside : (from to : Node) (body : Body) → SaysIn v.written from to body → SaysIn now.written from to body
+  says_beside from to (bodies.Pulled message) said = (
+    said.0,
+    if_master to (λ q. Pulls v.written (lineage_of other.phase) from q message) (λ q. Pulls now.written (lineage_of other.phase) from q message)
+        (λ q. pulled_as (lineage_of other.phase) from q message) said.1,
+  )
+  says_beside from to (bodies.Got message) said = (
+    said.0,
+    if_master to (λ q. Gets v.written (lineage_of other.phase) from q message) (λ q. Gets now.written (lineage_of other.phase) from q message)
+        (λ q. got_as (lineage_of other.phase) from q message) said.1,
+  )
+  says_beside from to (bodies.Copy copy) said = λ is. copy_as other.phase copy (said is)
+  says_beside from to body said = said

@@ -255,6 +255,9 @@ module _ (v : View) (row : Row) (lineage : List Member) (to place : ℕ) (ends :
       let of = covered_of v sound to n entry stands before in
       of_one_row of.row entry of.stands (λ its. left_apart covered.mark covered.stands (sym of.number ∙ its)) of.of (piece_of_row entry inside))
 
+  stands_now : (n k : ℕ) (entry : Entry) → place + k ≡ n → slice_get front k ≡ Some entry → is_marked new_marks n ≡ false → Contains free_now entry
+  stands_now n k entry is stands free = unmarked_stands new_marks place k front entry stands (ap (is_marked new_marks) is ∙ free)
+
   piece_stands : (entry : Entry) → Contains pieces entry → Contains free_now entry
   piece_stands entry inside =
       let there : Contains (take (suc at.entry - mark.first) (drop mark.first w.entries)) entry =
@@ -270,8 +273,7 @@ module _ (v : View) (row : Row) (lineage : List Member) (to place : ℕ) (ends :
       let behind : place ≤ mark.first = piece.behind in
       let here = behind_at (applied_entries w) place n entry (omega (arith, behind))
       (taken_at w.applied w.entries n entry (omega (arith, less, within)) stands) in
-      unmarked_stands new_marks place here.0 front entry here.1
-      (subst (λ (m : ℕ). is_marked new_marks m ≡ false) (sym here.2) (piece_free n entry stands inside))
+      stands_now n here.0 entry here.2 here.1 (piece_free n entry stands inside)
 
   -- ---- what counts now: its own entries, and the piece
 
