@@ -17,3 +17,4 @@ pub mod FewerMarks
 pub mod MarksTaken
 pub mod RebuiltMaterial
 pub mod MarksBeside
+pub mod RebuiltSays

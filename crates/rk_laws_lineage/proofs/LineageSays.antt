@@ -28,6 +28,17 @@ use Rattle.rk_laws_parts.proofs.Messages.{if_master, by_master}
 use Rattle.rk_laws_lineage.specs.Lineages.{MayTakeLineage}
 use Rattle.rk_laws_lineage.proofs.Passing.{any_copy, any_lineage, any_read, has_moved, joined_goes, member_before, none_closes, none_granted, none_invited, none_opens, none_owned, none_rebuilt, none_rebuilt_by, none_released, owner_at, passes_by, ready_goes, source_stays, transfer_goes}
 
+-- what is asked for a row is not above its term
+pub asked_within : (row : Row) (order : Prepare) → SentFits row (bodies.Prepare order) → AsksFor order row → order.tenure.term ≤ row.term
+asked_within row order fits asks =
+    ⊎_elim (λ (its : order.tenure.tablet ≡ row.tablet). fits.within (sym its))
+    (λ meeting.
+    ⊎_elim (λ (same : eqb row.tablet order.tenure.tablet ≡ true). fits.within (eqb-true row.tablet order.tenure.tablet same))
+    (λ (other : eqb row.tablet order.tenure.tablet ≡ false).
+    let below : order.tenure.term < row.term = fits.below (differ row.tablet order.tenure.tablet other) meeting in omega (arith, below))
+    (cases_Bool (eqb row.tablet order.tenure.tablet)))
+    asks
+
 module _ (v : View) (row : Row) (phase : Phase) (handed : NumberMap Handed) (may : MayTakeLineage v row phase handed) where
   abbrev new : Row
   new = row_at row row.term phase
@@ -44,17 +55,6 @@ module _ (v : View) (row : Row) (phase : Phase) (handed : NumberMap Handed) (may
 
   -- ---- orders
 
-  -- what is asked for a row is not above its term
-  asked_within : (order : Prepare) → SentFits row (bodies.Prepare order) → AsksFor order row → order.tenure.term ≤ row.term
-  asked_within order fits asks =
-      ⊎_elim (λ (its : order.tenure.tablet ≡ row.tablet). fits.within (sym its))
-      (λ meeting.
-      ⊎_elim (λ (same : eqb row.tablet order.tenure.tablet ≡ true). fits.within (eqb-true row.tablet order.tenure.tablet same))
-      (λ (other : eqb row.tablet order.tenure.tablet ≡ false).
-      let below : order.tenure.term < row.term = fits.below (differ row.tablet order.tenure.tablet other) meeting in omega (arith, below))
-      (cases_Bool (eqb row.tablet order.tenure.tablet)))
-      asks
-
   prepare : (q : ℕ) (order : Prepare) → SentFits row (bodies.Prepare order) → PrepareFits row (v.handovers q row.tablet) (v.live q) q order → PrepareFits new (v.handovers q row.tablet) (v.live q) q order
   prepare q order sent fits = record {
     range = λ is. fits.range (was_of order.tenure is);
@@ -62,7 +62,7 @@ module _ (v : View) (row : Row) (phase : Phase) (handed : NumberMap Handed) (may
         absurd (none_invited row.phase phase q may.passes (fits.invited (was_of order.tenure is) lives below));
     members = λ asks lives inside.
         ⊎_elim (λ (before : is_member (lineage_of row.phase) q ≡ true). fits.members asks lives before)
-        (λ (at : terms q ≡ row.term). let low = asked_within order sent asks in omega (arith, low, at)) (member q inside);
+        (λ (at : terms q ≡ row.term). let low = asked_within row order sent asks in omega (arith, low, at)) (member q inside);
   }
 
   close : (q : ℕ) (tenure : Tenure) → CloseFits row (v.handovers q row.tablet) (v.live q) q tenure → CloseFits new (v.handovers q row.tablet) (v.live q) q tenure
