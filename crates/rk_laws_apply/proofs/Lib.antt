@@ -22,3 +22,5 @@ pub mod PassingState
 pub mod MarkedApplied
 pub mod EntryPassed
 pub mod CarriedApplied
+pub mod NamedSides
+pub mod JoinedApplied
