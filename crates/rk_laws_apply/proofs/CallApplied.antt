@@ -32,6 +32,7 @@ use Rattle.rk_laws_parts.proofs.Put.{put2_same, put_here, put_is, put_other, put
 use Rattle.rk_laws_parts.proofs.Views.{view_master}
 use Rattle.rk_laws_apply.specs.Small.{MayApplyCall, entry_applied_in, with_item_of, with_one_applied, worked_in}
 use Rattle.rk_laws_apply.proofs.Applying.{Applying, after, applying, entry, its_last, its_range, its_row, mutation, new}
+use Rattle.rk_laws_apply.proofs.EntryPassed.{item_put, written_now}
 use Rattle.rk_laws_apply.proofs.Stagers.{staging_present}
 use Rattle.rk_laws_apply.proofs.AppliedFrames.{asked, cover, logs, order, roles, rows}
 use Rattle.rk_laws_apply.proofs.AppliedTruth.{truth}
@@ -66,13 +67,6 @@ view_applied v a = record {
 }
 
 -- ---- the world
-
--- an item goes into the records of a master
-item_put : (master : Master) (entry : Entry) → with_entry_item master entry ≡ record master { records = with_item_of entry master.records }
-item_put master (entries.Held held) = refl
-item_put master (entries.Refused refused) = refl
-item_put master (entries.Carried carried) = refl
-item_put master (entries.Joined joined) = refl
 
 -- what is found of tablets that were changed each
 changed_found : (change : Tablet → Tablet) (tablets : NumberMap Tablet) (number : ℕ) → change no_tablet ≡ no_tablet → get_or no_tablet (map (λ entry. (entry.0, change entry.1)) tablets) number ≡ change (get_or no_tablet tablets number)
@@ -176,16 +170,6 @@ module _ (w : World) (a : Applying (view w)) where
 
   -- ---- what is seen
 
-  written_now : (q : ℕ) → with_one_applied v.written a.master q ≡ put v.written a.master (written_by changed (marks_of w.ledger a.master)) q
-  written_now q =
-      put_is v.written a.master (written_by changed (marks_of w.ledger a.master)) q (with_one_applied v.written a.master q)
-      (λ at i.
-      record (v.written (at i)) {
-        applied = put_here (λ r. (v.written r).applied) a.master ((v.written a.master).applied + 1) q at i;
-      })
-      (λ apart i.
-      record (v.written q) { applied = put_other (λ r. (v.written r).applied) a.master ((v.written a.master).applied + 1) q apart i })
-
   pub view_is : view (entry_applied_in w a.master (entry (view w) a)) ≡ after (view w) a
   view_is =
       ap view world_is
@@ -193,7 +177,7 @@ module _ (w : World) (a : Applying (view w)) where
       (view_master w a.master changed number tablet refl tablet_noted tablet_other
       ∙ (λ i. record v {
         logs = put_same v.logs a.master i;
-        written = λ q. sym (written_now q) i;
+        written = λ q. sym (written_now w a.master changed refl refl refl q) i;
         records = put v.records a.master (with_item_of (entry v a) (v.records a.master));
         calls = put v.calls a.master (remove (v.calls a.master) (v.written a.master).applied);
         handovers = put2_same v.handovers a.master number i;

@@ -61,18 +61,13 @@ pub record MayApplyCall (v : View) (master : ℕ) (call : Call) : Type 0 where
   pub held : MayApply v master
   pub waits : get (v.calls master) (v.written master).applied ≡ Some call
 
--- the next entry of a living master's log may be applied: this one
-pub record MayApplyEntry (v : View) (master : ℕ) (entry : Entry) : Type 0 where
-  pub held : MayApply v master
-  pub stands : slice_get (v.written master).entries (v.written master).applied ≡ Some entry
-
--- and it bears a mark
+-- or it bears a mark
 pub record MayApplyMarked (v : View) (master : ℕ) (entry : Entry) : Type 0 where
   pub held : MayApply v master
   pub stands : slice_get (v.written master).entries (v.written master).applied ≡ Some entry
   pub marked : is_marked (v.written master).marks (v.written master).applied ≡ true
 
--- or it bears none
+-- or none
 pub record MayApplyUnmarked (v : View) (master : ℕ) (entry : Entry) : Type 0 where
   pub held : MayApply v master
   pub stands : slice_get (v.written master).entries (v.written master).applied ≡ Some entry
