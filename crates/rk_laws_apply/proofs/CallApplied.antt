@@ -11,38 +11,35 @@ use Rattle.rk_types.specs.declared.call.Ended.{Ended}
 use Rattle.rk_types.specs.declared.range.Range.{Range}
 use Rattle.rk_model.specs.Merged.{is_mutation}
 use Rattle.rk_entry.specs.declared.entry.Entry.{Entry}
-use Rattle.rk_entry.specs.declared.entry.Entry.TheVariants as entries
 use Rattle.rk_done.specs.Completions.{noted}
-use Rattle.rk_world.specs.Commits.{apply_entry, ended_call, noting, with_applied, with_ended, with_entry_item}
+use Rattle.rk_world.specs.Commits.{apply_entry, ended_call, noting, with_applied, with_ended}
 use Rattle.rk_world.specs.Ends.{outcome_of}
 use Rattle.rk_world.specs.Journal.{has_record}
-use Rattle.rk_world.specs.Ledger.{Ledger, asked_by, marks_of, seen_of, with_all_served, with_mutation, with_record}
+use Rattle.rk_world.specs.Ledger.{Ledger, asked_by, seen_of, with_all_served, with_mutation, with_record}
 use Rattle.rk_world.specs.Master.{Master, tablet_at}
 use Rattle.rk_world.specs.Ranges.{has_key}
 use Rattle.rk_world.specs.RoleTests.{is_absent}
 use Rattle.rk_world.specs.Tablet.{Tablet, no_tablet}
 use Rattle.rk_world.specs.Worked.{Worked}
-use Rattle.rk_world.specs.Written.{written_by}
 use Rattle.rk_world.specs.World.{World, log_in, master_at, tablet_in, with_ledger, with_master}
 use Rattle.rk_sound.specs.Small.{put, put2}
 use Rattle.rk_sound.specs.View.{View, view}
 use Rattle.rk_sound.specs.Whole.{IsSound, SoundView}
 use Rattle.rk_laws_parts.proofs.Apart.{key_outside}
-use Rattle.rk_laws_parts.proofs.Put.{put2_same, put_here, put_is, put_other, put_same}
+use Rattle.rk_laws_parts.proofs.Put.{put2_same, put_same}
 use Rattle.rk_laws_parts.proofs.Views.{view_master}
-use Rattle.rk_laws_apply.specs.Small.{MayApplyCall, entry_applied_in, with_item_of, with_one_applied, worked_in}
+use Rattle.rk_laws_apply.specs.Small.{MayApplyCall, entry_applied_in, with_item_of, worked_in}
 use Rattle.rk_laws_apply.proofs.Applying.{Applying, after, applying, entry, its_last, its_range, its_row, mutation, new}
 use Rattle.rk_laws_apply.proofs.EntryPassed.{item_put, written_now}
 use Rattle.rk_laws_apply.proofs.Stagers.{staging_present}
-use Rattle.rk_laws_apply.proofs.AppliedFrames.{asked, cover, logs, order, roles, rows}
+use Rattle.rk_laws_apply.proofs.Applies.{cover_now, logs_now, rebuilds, roles_now}
+use Rattle.rk_laws_apply.proofs.AppliedFrames.{asked, order, rows}
+use Rattle.rk_laws_apply.proofs.AppliedState.{applies, messages, receives}
 use Rattle.rk_laws_apply.proofs.AppliedTruth.{truth}
 use Rattle.rk_laws_apply.proofs.AppliedCounters.{counters}
 use Rattle.rk_laws_apply.proofs.AppliedRest.{rest}
 use Rattle.rk_laws_apply.proofs.AppliedCalls.{calls}
 use Rattle.rk_laws_apply.proofs.AppliedTables.{tables}
-use Rattle.rk_laws_apply.proofs.AppliedReceives.{receives}
-use Rattle.rk_laws_apply.proofs.AppliedRebuilds.{rebuilds}
-use Rattle.rk_laws_apply.proofs.AppliedMessages.{messages}
 
 -- ---- the view
 
@@ -51,9 +48,9 @@ view_applied v a = record {
   nodes = a.sound.nodes;
   rows = rows v a;
   terms = a.sound.terms;
-  cover = cover v a;
-  roles = roles v a;
-  logs = logs v a;
+  cover = cover_now v (applies v a);
+  roles = roles_now v (applies v a);
+  logs = logs_now v (applies v a);
   truth = truth v a;
   order = order v a;
   calls = calls v a;
@@ -61,7 +58,7 @@ view_applied v a = record {
   rest = rest v a;
   records = tables v a;
   receives = receives v a;
-  rebuilds = rebuilds v a;
+  rebuilds = rebuilds v (applies v a);
   messages = messages v a;
   asked = asked v a;
 }

@@ -1,39 +1,36 @@
 -- A view stays sound when a Carried is applied that bears no mark: it tells ends that are known, and stood first in the rest of each row
 -- that it counts for, or its master is not of the row.
-use Rattle.std.proofs.Common.{◌≡◌, ℕ, ◌+◌, ◌≤◌, ◌<◌, max, Bool, true, false, List, [], ◌∷◌, ◌++◌, Option, Some, None, refl, sym, ap, ◌∙◌, subst, ⊎_elim, inl, inr, ◌⊎◌, arith, take, drop}
+use Rattle.std.proofs.Common.{◌≡◌, ℕ, ◌+◌, ◌≤◌, ◌<◌, max, true, false, List, [], ◌∷◌, ◌++◌, Option, Some, None, refl, sym, ap, ◌∙◌, subst, ⊎_elim, inl, inr, ◌⊎◌, arith, take}
 use Rattle.std.specs.Prelude.{slice_get}
-use Rattle.std.specs.List.{All, Contains, flat_map}
+use Rattle.std.specs.List.{All, Contains}
 use Rattle.std.proofs.lemmas.Bool.{cases_Bool, cases_eq, cases_lt}
-use Rattle.std.proofs.lemmas.List.Elements.{All-contains, All-cons, All-head, All-nil, Contains-append_left, Contains-get_or}
+use Rattle.std.proofs.lemmas.List.Elements.{All-contains, All-cons, All-head, All-nil}
 use Rattle.rk_types.specs.NumberMap.{get}
 use Rattle.rk_types.specs.declared.call.Call.{Call}
-use Rattle.rk_types.specs.declared.held.Held.{Held}
 use Rattle.rk_types.specs.declared.lineage.Member.{Member}
 use Rattle.rk_types.specs.declared.range.Range.{Range}
 use Rattle.rk_entry.specs.declared.entry.Carried.{Carried}
 use Rattle.rk_entry.specs.declared.entry.Entry.{Entry}
 use Rattle.rk_entry.specs.declared.entry.Entry.TheVariants as entries
-use Rattle.rk_overlay.proofs.Members.{first_stands, none_stands}
+use Rattle.rk_overlay.proofs.Members.{none_stands}
 use Rattle.rk_tablet_map.specs.Phase.{lineage_of}
 use Rattle.rk_tablet_map.specs.declared.row.Row.{Row}
-use Rattle.rk_world.specs.Ends.{items_in, items_of}
+use Rattle.rk_world.specs.Ends.{items_of}
 use Rattle.rk_world.specs.Marks.{is_marked, unmarked, unmarked_from}
 use Rattle.rk_world.specs.Material.{counting, counts, log_material, material_of, side_entries}
 use Rattle.rk_world.specs.Rebuilds.{own_place}
 use Rattle.rk_world.specs.Written.{Written, lineage_rest, lineage_truth, member_rest, member_truth}
-use Rattle.rk_sound.specs.Calls.{IsKnown}
 use Rattle.rk_sound.specs.Rest.{FirstIsDone, IsEntryOf, IsRest, IsStaged}
 use Rattle.rk_sound.specs.Rows.{AreApart, IsFormed}
 use Rattle.rk_sound.specs.View.{View, rests, truths}
 use Rattle.rk_sound.specs.Whole.{SoundView}
 use Rattle.rk_laws_parts.proofs.Appending.{formed_apart}
-use Rattle.rk_laws_parts.proofs.Put.{put_by}
-use Rattle.rk_laws_parts.proofs.Shares.{append_nil}
 use Rattle.rk_laws_apply.specs.Small.{MayApplyUnmarked, entry_applied, with_one_applied}
 use Rattle.rk_laws_apply.proofs.Inserted.{IsInserted, inserted_before, inserted_behind, same_items}
 use Rattle.rk_laws_apply.proofs.Keeps.{HasMore, IsQuietEntry, KeepsRow, more_none, more_one}
 use Rattle.rk_laws_apply.proofs.NextEntry.{nothing_ahead, rest_beside, rest_first, truth_beside, truth_more}
-use Rattle.rk_laws_apply.proofs.Passing.{HasApplied, IsStill, Passing}
+use Rattle.rk_laws_apply.proofs.Applies.{HasApplied, of_one_applied}
+use Rattle.rk_laws_apply.proofs.Passing.{IsStill, Passing}
 use Rattle.rk_laws_apply.proofs.PassingState.{view_passed}
 use Rattle.rk_laws_apply.proofs.TargetApplied.{applied_with}
 
@@ -54,9 +51,6 @@ module _ (v : View) (master : ℕ) (carried : Carried) (sound : SoundView v) (ma
           let same : waits.entry ≡ entries.Carried carried = cc (sym waits.stands ∙ may.stands) in
           absurd (subst (IsEntryOf call) same waits.own)
 
-  of_applied : (P : ℕ → Type 0) (q : ℕ) → (q ≡ master → P ((v.written q).applied + 1)) → ((q ≡ master → ⊥) → P (v.written q).applied) → P (with_one_applied v.written master q).applied
-  of_applied P q here was = put_by (λ r. (v.written r).applied) master (λ n. n + 1) P q here was
-
   stands_at : (q : ℕ) → q ≡ master → slice_get (v.written q).entries (v.written q).applied ≡ Some (entries.Carried carried)
   stands_at q at = ap (λ (n : ℕ). slice_get (v.written n).entries (v.written n).applied) at ∙ may.stands
 
@@ -70,7 +64,7 @@ module _ (v : View) (master : ℕ) (carried : Carried) (sound : SoundView v) (ma
       let w : Written = v.written member.master in
       record {
         truth =
-            of_applied (λ n. log_material range w.marks w.sides member.from (take n w.entries) ≡ member_truth v.written range member) member.master
+            of_one_applied v.written master (λ n. log_material range w.marks w.sides member.from (take n w.entries) ≡ member_truth v.written range member) member.master
             (λ at.
             ⊎_elim
             (λ (outside : counts range (entries.Carried carried) ≡ false).
@@ -81,7 +75,7 @@ module _ (v : View) (master : ℕ) (carried : Carried) (sound : SoundView v) (ma
             (beside at))
             (λ apart. refl);
         rest =
-            of_applied (λ n. counting range (unmarked_from w.marks (max member.from n) w.entries) ≡ member_rest v.written range member) member.master
+            of_one_applied v.written master (λ n. counting range (unmarked_from w.marks (max member.from n) w.entries) ≡ member_rest v.written range member) member.master
             (λ at.
             ⊎_elim
             (λ (outside : counts range (entries.Carried carried) ≡ false).
@@ -98,14 +92,14 @@ module _ (v : View) (master : ℕ) (carried : Carried) (sound : SoundView v) (ma
       let w : Written = v.written member.master in
       record {
         truth =
-            of_applied (λ n. IsInserted (entries.Carried carried) (member_truth v.written range member) (log_material range w.marks w.sides member.from (take n w.entries)))
+            of_one_applied v.written master (λ n. IsInserted (entries.Carried carried) (member_truth v.written range member) (log_material range w.marks w.sides member.from (take n w.entries)))
             member.master
             (λ here.
             truth_more range w.entries w.applied (entries.Carried carried) (stands_at member.master here) refl w.marks w.sides member.from inside
             (free_at member.master here) behind)
             (λ apart. absurd (apart at));
         rest =
-            of_applied
+            of_one_applied v.written master
             (λ n. member_rest v.written range member ≡ entries.Carried carried ∷ counting range (unmarked_from w.marks (max member.from n) w.entries))
             member.master
             (λ here.

@@ -1,6 +1,6 @@
 -- A lane stays sound when the next entry of a living master's log is applied, whichever it is: that of a call, or one with which no call
 -- ends.
-use Rattle.std.proofs.Common.{◌≡◌, ℕ, ◌≤◌, Bool, true, false, Option, Some, None, refl, sym, ◌∙◌, arith}
+use Rattle.std.proofs.Common.{◌≡◌, ℕ, Bool, true, false, Option, Some, None, refl, sym, ◌∙◌, arith}
 use Rattle.std.specs.Prelude.{slice_get}
 use Rattle.rk_types.specs.NumberMap.{get}
 use Rattle.rk_types.specs.declared.call.Call.{Call}

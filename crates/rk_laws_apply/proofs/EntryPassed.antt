@@ -1,5 +1,5 @@
 -- What is seen of a world once the next entry of a master's log is applied and no call ends with it.
-use Rattle.std.proofs.Common.{◌≡◌, ℕ, ◌+◌, List, [], Option, Some, None, refl, sym, ap, ◌∙◌, subst}
+use Rattle.std.proofs.Common.{◌≡◌, ℕ, ◌+◌, None, refl, sym, ap, ◌∙◌, subst}
 use Rattle.rk_types.specs.NumberMap.{get}
 use Rattle.rk_entry.specs.declared.entry.Entry.{Entry}
 use Rattle.rk_entry.specs.declared.entry.Entry.TheVariants as entries
@@ -8,10 +8,10 @@ use Rattle.rk_world.specs.Ends.{told_by}
 use Rattle.rk_world.specs.Ledger.{marks_of}
 use Rattle.rk_world.specs.Master.{Master}
 use Rattle.rk_world.specs.Worked.{changed}
-use Rattle.rk_world.specs.Written.{Written, written_by}
-use Rattle.rk_world.specs.World.{World, master_at, tablet_in, with_master}
-use Rattle.rk_sound.specs.Small.{put, put2}
-use Rattle.rk_sound.specs.View.{View, view}
+use Rattle.rk_world.specs.Written.{written_by}
+use Rattle.rk_world.specs.World.{World, master_at, tablet_in}
+use Rattle.rk_sound.specs.Small.{put}
+use Rattle.rk_sound.specs.View.{view}
 use Rattle.rk_sound.specs.Whole.{IsSound, SoundView}
 use Rattle.rk_laws_parts.proofs.Put.{put2_same, put_here, put_is, put_other, put_same}
 use Rattle.rk_laws_parts.proofs.Views.{view_master}

@@ -20,10 +20,11 @@ use Rattle.rk_table.specs.Items.{found, is_at, is_in, is_newer, with_newer}
 use Rattle.rk_table.specs.Order.{IsInScanOrder}
 use Rattle.rk_world.specs.Ends.{items_in, items_of}
 use Rattle.rk_world.specs.Material.{counts}
+use Rattle.rk_world.specs.Written.{Written}
 use Rattle.rk_sound.specs.Order.{IsAboveAll}
-use Rattle.rk_sound.specs.Receives.{IsFound}
+use Rattle.rk_sound.specs.Receives.{IsBare, IsFound}
 use Rattle.rk_sound.specs.Tables.{IsTableOf}
-use Rattle.rk_laws_parts.proofs.ItemsPulled.{table_beside}
+use Rattle.rk_laws_parts.proofs.ItemsPulled.{bare_beside, table_beside}
 use Rattle.rk_laws_parts.proofs.Records.{found_still, in_by_key, newer_cases, newer_stands, other_stays, stands_is_found}
 use Rattle.rk_laws_parts.proofs.Shares.{append_nil}
 use Rattle.rk_laws_apply.specs.Small.{with_item_of}
@@ -101,6 +102,13 @@ item_counts range (entries.Held held) x at inside =
 item_counts range (entries.Refused refused) x at inside = absurd (none_stands x at)
 item_counts range (entries.Carried carried) x at inside = absurd (none_stands x at)
 item_counts range (entries.Joined joined) x at inside = absurd (none_stands x at)
+
+-- a range has none of the records with an entry of another one
+pub bare_with : (range : Range) (entry : Entry) (records : List Held) (from : ℕ) (w : Written) → counts range entry ≡ false → IsBare range from w records → IsBare range from w (with_item_of entry records)
+bare_with range (entries.Held held) records from w outside bare = bare_beside range held records outside from w bare
+bare_with range (entries.Refused refused) records from w outside bare = bare
+bare_with range (entries.Carried carried) records from w outside bare = bare
+bare_with range (entries.Joined joined) records from w outside bare = bare
 
 -- ---- the newest of each key
 

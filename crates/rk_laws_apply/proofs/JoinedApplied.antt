@@ -1,9 +1,9 @@
 -- A view stays sound when a Joined is applied that bears no mark: the side items that it makes part of its master's log are of the truth of
 -- the first member already, or it names none for the row.
-use Rattle.std.proofs.Common.{◌≡◌, ℕ, ◌+◌, ◌≤◌, ◌<◌, max, Bool, true, false, List, [], ◌∷◌, ◌++◌, Option, Some, None, refl, sym, ap, ◌∙◌, subst, ⊎_elim, inl, inr, ◌⊎◌, arith, append_assoc, drop, filter, length, take}
-use Rattle.std.specs.Prelude.{if◌then◌else◌, slice_get}
-use Rattle.std.specs.List.{All, Contains, flat_map}
-use Rattle.std.proofs.lemmas.Bool.{cases_Bool, cases_eq, cases_lt, cond-false, false≢true}
+use Rattle.std.proofs.Common.{◌≡◌, ℕ, ◌+◌, ◌≤◌, ◌<◌, max, true, false, List, [], ◌∷◌, ◌++◌, Option, Some, None, refl, sym, ap, ◌∙◌, subst, ⊎_elim, inl, inr, ◌⊎◌, arith, append_assoc, drop, filter, length, take}
+use Rattle.std.specs.Prelude.{slice_get}
+use Rattle.std.specs.List.{Contains, flat_map}
+use Rattle.std.proofs.lemmas.Bool.{cases_Bool, cases_eq, cases_lt, cond-false}
 use Rattle.std.proofs.lemmas.List.{drop-append-le, length-append, nil_from_length}
 use Rattle.std.proofs.lemmas.List.Concat.{flat_map-append}
 use Rattle.std.proofs.lemmas.List.Elements.{All-contains, All-nil, Contains-append_cases, Contains-append_left, Contains-append_right, filter-append}
@@ -16,11 +16,9 @@ use Rattle.rk_types.specs.declared.range.Range.{Range}
 use Rattle.rk_entry.specs.declared.entry.Entry.{Entry}
 use Rattle.rk_entry.specs.declared.entry.Entry.TheVariants as entries
 use Rattle.rk_entry.specs.declared.entry.Joined.{Joined}
-use Rattle.rk_overlay.proofs.Members.{first_stands, none_stands, stands_cases}
+use Rattle.rk_overlay.proofs.Members.{none_stands, stands_cases}
 use Rattle.rk_table.proofs.Ordered.{filter_kept}
 use Rattle.rk_tablet_map.specs.Phase.{lineage_of}
-use Rattle.rk_tablet_map.specs.declared.phase.Phase.{Phase}
-use Rattle.rk_tablet_map.specs.declared.phase.Phase.TheVariants.{Rebuilding}
 use Rattle.rk_tablet_map.specs.declared.row.Row.{Row}
 use Rattle.rk_world.specs.Ends.{items_in, items_of}
 use Rattle.rk_world.specs.Marks.{is_marked, unmarked, unmarked_from}
@@ -31,20 +29,20 @@ use Rattle.rk_sound.specs.Rebuilds.{applied_from}
 use Rattle.rk_sound.specs.Receives.{IsFound, NamedFit, named_items}
 use Rattle.rk_sound.specs.Rest.{FirstIsDone, IsEntryOf, OnlyIsUnnamed}
 use Rattle.rk_sound.specs.Rows.{AreApart, IsFormed}
-use Rattle.rk_sound.specs.View.{View, rests, truths}
+use Rattle.rk_sound.specs.View.{View}
 use Rattle.rk_sound.specs.Whole.{SoundView}
 use Rattle.rk_laws_parts.proofs.Appending.{formed_apart}
 use Rattle.rk_laws_parts.proofs.Grows.{Extends}
 use Rattle.rk_laws_parts.proofs.Joining.{kept_stands, stands_kept}
 use Rattle.rk_laws_parts.proofs.Needed.{sides_extend}
-use Rattle.rk_laws_parts.proofs.Put.{put_by}
 use Rattle.rk_laws_parts.proofs.Shares.{append_nil}
 use Rattle.rk_laws_apply.specs.Small.{MayApplyUnmarked, entry_applied, with_one_applied}
 use Rattle.rk_laws_apply.proofs.Keeps.{HasMore, KeepsRow, more_none, told_among, told_from}
 use Rattle.rk_laws_apply.proofs.MergedEnds.{among_all}
 use Rattle.rk_laws_apply.proofs.NamedSides.{IsNamedItem, has_block, named_has, named_in, named_item, side_of, unmarked_all, unmarked_has, unmarked_now, unmarked_within}
 use Rattle.rk_laws_apply.proofs.NextEntry.{dropped_next, nothing_ahead, rest_beside, taken_next, truth_beside, length_first}
-use Rattle.rk_laws_apply.proofs.Passing.{HasApplied, IsStill, Passing}
+use Rattle.rk_laws_apply.proofs.Applies.{HasApplied, of_one_applied}
+use Rattle.rk_laws_apply.proofs.Passing.{IsStill, Passing}
 use Rattle.rk_laws_apply.proofs.PassingState.{view_passed}
 
 -- an entry that has an item is that item
@@ -84,9 +82,6 @@ module _ (v : View) (master : ℕ) (joined : Joined) (sound : SoundView v) (may 
           let same : waits.entry ≡ entries.Joined joined = cc (sym waits.stands ∙ may.stands) in
           absurd (subst (IsEntryOf call) same waits.own)
 
-  of_applied : (P : ℕ → Type 0) (q : ℕ) → (q ≡ master → P ((v.written q).applied + 1)) → ((q ≡ master → ⊥) → P (v.written q).applied) → P (with_one_applied v.written master q).applied
-  of_applied P q here was = put_by (λ r. (v.written r).applied) master (λ n. n + 1) P q here was
-
   stands_at : (q : ℕ) → q ≡ master → slice_get (v.written q).entries (v.written q).applied ≡ Some (entries.Joined joined)
   stands_at q at = ap (λ (n : ℕ). slice_get (v.written n).entries (v.written n).applied) at ∙ may.stands
 
@@ -98,7 +93,7 @@ module _ (v : View) (master : ℕ) (joined : Joined) (sound : SoundView v) (may 
   rest_same : (range : Range) (member : Member) → member_rest (with_one_applied v.written master) range member ≡ member_rest v.written range member
   rest_same range member =
       let w : Written = v.written member.master in
-      of_applied (λ n. counting range (unmarked_from w.marks (max member.from n) w.entries) ≡ member_rest v.written range member) member.master
+      of_one_applied v.written master (λ n. counting range (unmarked_from w.marks (max member.from n) w.entries) ≡ member_rest v.written range member) member.master
       (λ at. rest_beside range w.entries w.applied (entries.Joined joined) (stands_at member.master at) w.marks member.from refl)
       (λ apart. refl)
 
@@ -107,7 +102,7 @@ module _ (v : View) (master : ℕ) (joined : Joined) (sound : SoundView v) (may 
       let w : Written = v.written member.master in
       record {
         truth =
-            of_applied (λ n. log_material range w.marks w.sides member.from (take n w.entries) ≡ member_truth v.written range member) member.master
+            of_one_applied v.written master (λ n. log_material range w.marks w.sides member.from (take n w.entries) ≡ member_truth v.written range member) member.master
             (λ at.
             ⊎_elim
             (λ (apart : meets joined.range range ≡ false).
@@ -137,7 +132,7 @@ module _ (v : View) (master : ℕ) (joined : Joined) (sound : SoundView v) (may 
       record {
         block = more.block;
         truth =
-            of_applied (λ n. log_material range w.marks w.sides member.from (take n w.entries) ≡ member_truth v.written range member ++ more.block)
+            of_one_applied v.written master (λ n. log_material range w.marks w.sides member.from (take n w.entries) ≡ member_truth v.written range member ++ more.block)
             member.master (λ here. truth_is) (λ apart. absurd (apart at));
         rest = rest_same range member;
         sides = λ e there.

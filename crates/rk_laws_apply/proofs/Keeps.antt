@@ -1,9 +1,9 @@
 -- Truth and rest of a row, where what was applied tells nothing new: a block of entries came into the truth that were there already, or
 -- stood first in the rest, with no item and of no call.
-use Rattle.std.proofs.Common.{◌≡◌, ℕ, ◌≤◌, ◌<◌, max, Bool, true, List, [], ◌∷◌, ◌++◌, refl, sym, ap, ◌∙◌, subst, ⊎_elim, inl, inr, ◌⊎◌, arith, append_assoc, fold, filter}
+use Rattle.std.proofs.Common.{◌≡◌, ℕ, ◌≤◌, ◌<◌, Bool, true, List, [], ◌∷◌, ◌++◌, refl, sym, ap, ◌∙◌, subst, ⊎_elim, inl, inr, ◌⊎◌, arith, append_assoc, fold, filter}
 use Rattle.std.specs.List.{All, Contains, flat_map}
 use Rattle.std.proofs.lemmas.List.Concat.{flat_map-append}
-use Rattle.std.proofs.lemmas.List.Elements.{All-contains, All-cons, All-head, All-nil, All-tail, All-weaker, Contains-append_cases, Contains-append_left, Contains-append_right, filter-append}
+use Rattle.std.proofs.lemmas.List.Elements.{All-contains, All-head, All-tail, All-weaker, Contains-append_cases, Contains-append_left, Contains-append_right, filter-append}
 use Rattle.rk_types.specs.declared.call.Ended.{Ended}
 use Rattle.rk_types.specs.declared.held.Held.{Held}
 use Rattle.rk_types.specs.declared.history.Placed.{Placed}
@@ -16,7 +16,7 @@ use Rattle.rk_world.specs.Base.{Base}
 use Rattle.rk_world.specs.Ends.{items_in, items_of, told, told_by}
 use Rattle.rk_world.specs.Merge.{floor_by, floor_of}
 use Rattle.rk_sound.specs.Calls.{IsKnown}
-use Rattle.rk_sound.specs.Order.{AreAbove, IsAboveAll}
+use Rattle.rk_sound.specs.Order.{AreAbove}
 use Rattle.rk_sound.specs.Rest.{call_end, call_ends}
 use Rattle.rk_laws_parts.proofs.Floors.{floor_rises}
 use Rattle.rk_laws_parts.proofs.Lists.{all_by}
@@ -272,8 +272,10 @@ plain_behind items (item ∷ more) plain above =
     under x at table key =
         All-contains (λ (other : Held). is_of item.table item.key other ≡ true → other.version < item.version) items x above.0 at
         (is_of_from item.table item.key x table key)
+
     last : (x : Held) → Contains (item ∷ []) x → item ≡ x
     last x at = ⊎_elim (λ (is : item ≡ x). is) (λ (none : Contains [] x). absurd (none_stands x none)) (stands_cases item [] x at)
+
     with_one : IsPlain (items ++ item ∷ [])
     with_one a b at_a at_b table key version =
         ⊎_elim

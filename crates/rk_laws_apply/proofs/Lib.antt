@@ -5,6 +5,7 @@ pub mod Noting
 pub mod MergedEnds
 pub mod ItemPut
 pub mod TargetApplied
+pub mod Applies
 pub mod Applying
 pub mod AppliedFrames
 pub mod AppliedTruth
@@ -12,9 +13,7 @@ pub mod AppliedCounters
 pub mod AppliedRest
 pub mod AppliedCalls
 pub mod AppliedTables
-pub mod AppliedReceives
-pub mod AppliedMessages
-pub mod AppliedRebuilds
+pub mod AppliedState
 pub mod EntryPassed
 pub mod CallApplied
 pub mod Keeps

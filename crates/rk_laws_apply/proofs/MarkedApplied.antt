@@ -1,8 +1,8 @@
 -- A view stays sound when the next entry of a master's log is applied that bears a mark: it is of a rebuild that the coordinator was not
 -- told of, counts for nothing, and no call waits for it.
-use Rattle.std.proofs.Common.{◌≡◌, ℕ, ◌+◌, ◌≤◌, ◌<◌, max, Bool, true, false, ◌&&◌, List, [], ◌∷◌, ◌++◌, Option, Some, None, refl, sym, ap, ◌∙◌, subst, ⊎_elim, inl, inr, ◌⊎◌, arith, take, drop, is_some, leb, ltb}
+use Rattle.std.proofs.Common.{◌≡◌, ℕ, ◌≤◌, ◌<◌, max, true, ◌&&◌, List, [], ◌∷◌, Option, Some, None, refl, sym, ap, ◌∙◌, subst, ⊎_elim, inl, inr, ◌⊎◌, arith, take, is_some, leb, ltb}
 use Rattle.std.specs.Prelude.{IfSome, slice_get}
-use Rattle.std.specs.List.{All, Contains, flat_map, list_any}
+use Rattle.std.specs.List.{All, Contains, flat_map}
 use Rattle.std.proofs.lemmas.Bool.{and_parts, cases_eq, false≢true, leb-true, ltb-true}
 use Rattle.std.proofs.lemmas.List.Elements.{All-contains, All-nil}
 use Rattle.std.proofs.lemmas.List.Folds.{Any-from_list_any}
@@ -13,7 +13,6 @@ use Rattle.rk_types.specs.declared.lineage.Member.{Member}
 use Rattle.rk_types.specs.declared.range.Range.{Range}
 use Rattle.rk_entry.specs.declared.entry.Entry.{Entry}
 use Rattle.rk_entry.specs.declared.entry.Entry.TheVariants as entries
-use Rattle.rk_transfer.specs.declared.handover.Handover.{Handover}
 use Rattle.rk_transfer.specs.declared.role.Role.{Role}
 use Rattle.rk_transfer.specs.declared.role.Role.TheVariants as roles
 use Rattle.rk_overlay.proofs.Members.{none_stands}
@@ -26,25 +25,22 @@ use Rattle.rk_tablet_map.specs.declared.row.Row.{Row}
 use Rattle.rk_world.specs.declared.work.Mark.{Mark}
 use Rattle.rk_world.specs.Ends.{items_in, items_of}
 use Rattle.rk_world.specs.Marks.{is_marked, unmarked_from}
-use Rattle.rk_world.specs.Material.{counting, counts, log_material, material_of, named_by, side_entries}
+use Rattle.rk_world.specs.Material.{counting, log_material, material_of, named_by, side_entries}
 use Rattle.rk_world.specs.Rebuilds.{own_place}
 use Rattle.rk_world.specs.Written.{Written, lineage_rest, lineage_truth, member_rest, member_truth}
-use Rattle.rk_sound.specs.Changes.{MayApply}
-use Rattle.rk_sound.specs.Rebuilds.{HasOwnRange, IsMergedOf, IsOfRange, MarkFits, RowIsRebuilt, applied_from, has_merged, merged_place}
-use Rattle.rk_sound.specs.Receives.{IsFound, named_items}
-use Rattle.rk_sound.specs.Rest.{Waits}
+use Rattle.rk_sound.specs.Rebuilds.{HasOwnRange, IsOfRange, MarkFits, RowIsRebuilt, has_merged, merged_place}
 use Rattle.rk_sound.specs.View.{View, rests, truths}
 use Rattle.rk_sound.specs.Whole.{SoundView}
-use Rattle.rk_laws_parts.proofs.Apart.{in_one_row, same_number}
+use Rattle.rk_laws_parts.proofs.Apart.{in_one_row}
 use Rattle.rk_laws_parts.proofs.MarkedApart.{in_piece}
-use Rattle.rk_laws_parts.proofs.Put.{put_by}
 use Rattle.rk_laws_parts.proofs.Serving.{found_stands}
 use Rattle.rk_laws_apply.specs.Small.{MayApplyMarked, entry_applied, with_one_applied}
 use Rattle.rk_laws_apply.proofs.Keeps.{KeepsRow, more_none}
 use Rattle.rk_laws_apply.proofs.NextEntry.{rest_marked, unmarked_same}
-use Rattle.rk_laws_apply.proofs.Passing.{HasApplied, IsCopied, IsStill, Passing}
+use Rattle.rk_laws_apply.proofs.Applies.{HasApplied, of_one_applied}
+use Rattle.rk_laws_apply.proofs.Passing.{IsCopied, Passing}
 use Rattle.rk_laws_apply.proofs.PassingState.{view_passed}
-use Rattle.rk_laws_apply.proofs.TargetApplied.{HasOwn, StandsBehind, applied_with}
+use Rattle.rk_laws_apply.proofs.TargetApplied.{StandsBehind, applied_with}
 
 -- what a row has that is found by its number
 found_row : (o : Option Row) → is_some o ≡ true → (row : Row) × (o ≡ Some row)
@@ -83,9 +79,6 @@ module _ (v : View) (master : ℕ) (entry : Entry) (sound : SoundView v) (may : 
 
   -- ---- what counts is the same
 
-  of_applied : (P : ℕ → Type 0) (q : ℕ) → (q ≡ master → P ((v.written q).applied + 1)) → ((q ≡ master → ⊥) → P (v.written q).applied) → P (with_one_applied v.written master q).applied
-  of_applied P q here was = put_by (λ r. (v.written r).applied) master (λ n. n + 1) P q here was
-
   stands_at : (q : ℕ) → q ≡ master → slice_get (v.written q).entries (v.written q).applied ≡ Some entry
   stands_at q at = ap (λ (n : ℕ). slice_get (v.written n).entries (v.written n).applied) at ∙ may.stands
 
@@ -95,7 +88,7 @@ module _ (v : View) (master : ℕ) (entry : Entry) (sound : SoundView v) (may : 
   truth_same : (range : Range) (member : Member) → member_truth (with_one_applied v.written master) range member ≡ member_truth v.written range member
   truth_same range member =
       let x : Written = v.written member.master in
-      of_applied (λ n. log_material range x.marks x.sides member.from (take n x.entries) ≡ member_truth v.written range member) member.master
+      of_one_applied v.written master (λ n. log_material range x.marks x.sides member.from (take n x.entries) ≡ member_truth v.written range member) member.master
       (λ at.
       ap (material_of range (side_entries x.sides))
       (unmarked_same range x.entries x.applied entry (stands_at member.master at) x.marks member.from (marked_at member.master at)))
@@ -104,7 +97,7 @@ module _ (v : View) (master : ℕ) (entry : Entry) (sound : SoundView v) (may : 
   rest_same : (range : Range) (member : Member) → member_rest (with_one_applied v.written master) range member ≡ member_rest v.written range member
   rest_same range member =
       let x : Written = v.written member.master in
-      of_applied (λ n. counting range (unmarked_from x.marks (max member.from n) x.entries) ≡ member_rest v.written range member) member.master
+      of_one_applied v.written master (λ n. counting range (unmarked_from x.marks (max member.from n) x.entries) ≡ member_rest v.written range member) member.master
       (λ at.
       ap (counting range)
       (rest_marked range x.entries x.applied entry (stands_at member.master at) x.marks member.from (marked_at member.master at)))

@@ -1,10 +1,9 @@
 -- What a Joined makes part of a log: the items of the side segments that it names, and that no entry before it names.
-use Rattle.std.proofs.Common.{◌≡◌, ℕ, ◌+◌, ◌≤◌, ◌<◌, Bool, true, false, cond, ◌||◌, eqb, List, [], ◌∷◌, ◌++◌, Some, refl, sym, ap, ◌∙◌, subst, ⊎_elim, inl, inr, ◌⊎◌, arith, append_assoc, drop, filter, fold, length, map, take}
+use Rattle.std.proofs.Common.{◌≡◌, ℕ, ◌+◌, ◌≤◌, Bool, true, false, cond, eqb, List, [], ◌∷◌, ◌++◌, Some, refl, sym, ap, ◌∙◌, subst, ⊎_elim, inl, inr, ◌⊎◌, arith, append_assoc, drop, filter, fold, length, map, take}
 use Rattle.std.specs.Prelude.{◌-◌, nat_lt, slice_get, slice_index_or}
-use Rattle.std.specs.List.{Contains, flat_map, list_any}
-use Rattle.std.proofs.lemmas.Bool.{cases_Bool, cond-false, cond-true, eqb-true}
-use Rattle.std.proofs.lemmas.List.{length-append, take-append-drop}
-use Rattle.std.proofs.lemmas.List.Concat.{flat_map-append}
+use Rattle.std.specs.List.{Contains, flat_map}
+use Rattle.std.proofs.lemmas.Bool.{cases_Bool, cond-false, eqb-true}
+use Rattle.std.proofs.lemmas.List.{take-append-drop}
 use Rattle.std.proofs.lemmas.List.Elements.{Contains-append_cases, Contains-append_left, Contains-append_right, Contains-push, filter-append}
 use Rattle.std.proofs.lemmas.List.Folds.{Any-from_list_any}
 use Rattle.rk_types.specs.declared.held.Held.{Held}
@@ -24,7 +23,6 @@ use Rattle.rk_laws_parts.proofs.Grows.{Extends, drop_extends, still_contains, un
 use Rattle.rk_laws_parts.proofs.Joining.{kept_stands, stands_kept}
 use Rattle.rk_laws_parts.proofs.Needed.{sides_extend}
 use Rattle.rk_laws_parts.proofs.Shares.{append_nil, unless_marked, unmarked_from_last}
-use Rattle.rk_laws_apply.proofs.Keeps.{told_among}
 use Rattle.rk_laws_apply.proofs.MergedEnds.{among_all}
 use Rattle.rk_laws_apply.proofs.NextEntry.{length_first, taken_next}
 

@@ -1,21 +1,19 @@
 -- The next entry of a master's log is applied, and no call ends with it: what is asked of it, and the parts of what is written alone.
-use Rattle.std.proofs.Common.{◌≡◌, ℕ, suc, ◌+◌, ◌≤◌, ◌<◌, max, Bool, true, false, cond, List, [], ◌∷◌, ◌++◌, Option, Some, None, refl, sym, ap, ◌∙◌, subst, ⊎_elim, inl, inr, ◌⊎◌, arith, drop, filter}
+use Rattle.std.proofs.Common.{◌≡◌, ℕ, ◌+◌, ◌≤◌, max, Bool, true, false, List, [], ◌∷◌, ◌++◌, Option, Some, None, refl, sym, ap, ◌∙◌, subst, ⊎_elim, inl, inr, ◌⊎◌, arith, drop, filter}
 use Rattle.std.specs.Prelude.{◌≢◌, IfSome, slice_get, slice_index_or}
 use Rattle.std.specs.Option.{option_map}
 use Rattle.std.specs.List.{All, AllPairs, Contains, list_any}
-use Rattle.std.proofs.lemmas.List.Elements.{All-append, All-contains, All-tail, All-weaker, Contains-get_or}
-use Rattle.std.proofs.lemmas.Option.{get_or_from_slice_get, IfSome_then, slice_get_within}
-use Rattle.rk_types.specs.NumberMap.{EachIn, get}
+use Rattle.std.proofs.lemmas.List.Elements.{All-contains, All-tail, All-weaker, Contains-get_or}
+use Rattle.std.proofs.lemmas.Option.{IfSome_then}
+use Rattle.rk_types.specs.NumberMap.{get}
 use Rattle.rk_types.specs.declared.call.Call.{Call}
 use Rattle.rk_types.specs.declared.call.Ended.{Ended}
 use Rattle.rk_types.specs.declared.held.Held.{Held}
-use Rattle.rk_types.specs.declared.history.Placed.{Placed}
 use Rattle.rk_types.specs.declared.lineage.Member.{Member}
 use Rattle.rk_types.specs.declared.range.Range.{Range}
 use Rattle.rk_model.specs.Merged.{is_mutation}
 use Rattle.rk_model.specs.History.{IsLegal, Map, map_after, record_of as map_record_of}
 use Rattle.rk_entry.specs.declared.entry.Entry.{Entry}
-use Rattle.rk_log.specs.Log.{committed}
 use Rattle.rk_done.specs.Completions.{ends_of}
 use Rattle.rk_overlay.proofs.Alike.{newest_alike, plain_alike}
 use Rattle.rk_overlay.specs.Live.{record_of}
@@ -34,20 +32,18 @@ use Rattle.rk_world.specs.Written.{Written, member_rest, member_truth}
 use Rattle.rk_sound.specs.Calls.{IsKnown, IsReached, IsStagedEnd, TellAll, is_record_in}
 use Rattle.rk_sound.specs.Changes.{MayApply}
 use Rattle.rk_sound.specs.Counters.{AreAboveMap, IsNext}
-use Rattle.rk_sound.specs.Cover.{IsEntryWithin, IsItemWithin}
 use Rattle.rk_sound.specs.Handing.{beginning_in, handed_by, handed_for_grant, target_truth}
 use Rattle.rk_sound.specs.Order.{AreAbove}
-use Rattle.rk_sound.specs.Posts.{bond_of, post_of}
-use Rattle.rk_sound.specs.Rebuilds.{applied_from, has_merged}
+use Rattle.rk_sound.specs.Rebuilds.{has_merged}
 use Rattle.rk_sound.specs.Receives.{IsFound, named_items}
-use Rattle.rk_sound.specs.Rest.{EachHasCall, FirstIsDone, IsRest, IsStaged, OnlyIsUnnamed, Waits, call_ends, records_of}
+use Rattle.rk_sound.specs.Rest.{FirstIsDone, IsRest, IsStaged, OnlyIsUnnamed, Waits, call_ends, records_of}
 use Rattle.rk_sound.specs.Truth.{IsTruth}
 use Rattle.rk_sound.specs.View.{View, truths, rests}
-use Rattle.rk_sound.specs.Whole.{CallsOf, CountersOf, CoverOf, LogsOf, OrderOf, RestOf, RolesOf, RowsOf, SoundView, TruthOf}
+use Rattle.rk_sound.specs.Whole.{CallsOf, CountersOf, OrderOf, RestOf, RowsOf, SoundView, TruthOf}
 use Rattle.rk_laws_parts.proofs.Lists.{all_by}
 use Rattle.rk_laws_parts.proofs.Put.{put_by}
-use Rattle.rk_laws_apply.specs.Small.{entry_applied, with_item_of, with_one_applied}
-use Rattle.rk_laws_apply.proofs.AppliedFrames.{all_with, holds_more, item_within}
+use Rattle.rk_laws_apply.specs.Small.{entry_applied, with_one_applied}
+use Rattle.rk_laws_apply.proofs.Applies.{HasApplied}
 use Rattle.rk_laws_apply.proofs.Inserted.{above_fewer}
 use Rattle.rk_laws_apply.proofs.Keeps.{HasMore, KeepsRow, all_keep, floor_among, floor_keeps, items_keep, more_behind, more_kept, more_still, plain_all, rest_ends, rest_items, rest_tells, told_among, truth_tells}
 use Rattle.rk_laws_apply.proofs.NextEntry.{none_fewer, none_from}
@@ -72,18 +68,6 @@ pub record IsCopied (v : View) (master : ℕ) (entry : Entry) : Type 0 where
   pub at_term : (v.handovers master row.tablet).term ≡ row.term
   pub merged : has_merged (v.handovers master row.tablet).role ≡ true
   pub behind : own_place (v.handovers master row.tablet).role ≤ (v.written master).applied
-
--- what is applied of a master's own entries of a range, with one more: it has what it had, and beside it the entry's item or what is found
-pub record HasApplied (range : Range) (from : ℕ) (w : Written) (entry : Entry) (records : List Held) : Type 0 where
-  pub still :
-      (x : Held) → Contains (items_of (applied_from range from w)) x
-      → Contains (items_of (applied_from range from (record w { applied = w.applied + 1 }))) x
-  pub new :
-      counts range entry ≡ true → (x : Held) → Contains (items_in entry) x
-      → Contains (items_of (applied_from range from (record w { applied = w.applied + 1 }))) x
-  pub cases :
-      (x : Held) → Contains (items_of (applied_from range from (record w { applied = w.applied + 1 }))) x
-      → Contains (items_in entry) x ⊎ Contains (items_of (applied_from range from w)) x ⊎ IsFound records x
 
 -- an entry with which no call ends may be applied, in a sound view, and tells nothing new of any row
 pub record Passing (v : View) : Type 0 where
@@ -125,9 +109,6 @@ module _ (v : View) (p : Passing v) where
   pub of_applied : (P : ℕ → Type 0) (q : ℕ) → (q ≡ p.master → P ((v.written q).applied + 1)) → ((q ≡ p.master → ⊥) → P (v.written q).applied) → P (after.written q).applied
   of_applied P q here was = put_by (λ r. (v.written r).applied) p.master (λ n. n + 1) P q here was
 
-  pub of_records : (P : List Held → Type 0) (q : ℕ) → (q ≡ p.master → P (with_item_of p.entry (v.records q))) → ((q ≡ p.master → ⊥) → P (v.records q)) → P (after.records q)
-  of_records P q here was = put_by v.records p.master (with_item_of p.entry) P q here was
-
   pub applied_grows : (q : ℕ) → (v.written q).applied ≤ (after.written q).applied
   applied_grows q = of_applied (λ n. (v.written q).applied ≤ n) q (λ at. omega arith) (λ apart. omega arith)
 
@@ -140,61 +121,6 @@ module _ (v : View) (p : Passing v) where
     formed = p.sound.rows.formed;
     placed = p.sound.rows.placed;
     covered = p.sound.rows.covered;
-  }
-
-  entry_within : IsEntryWithin v.rows p.entry
-  entry_within =
-      let w : Written = v.written p.master in
-      All-contains (IsEntryWithin v.rows) w.entries p.entry (p.sound.cover.entries p.master)
-      (w.applied, slice_get_within w.entries w.applied p.entry p.stands,
-      get_or_from_slice_get w.entries w.applied p.entry p.entry p.stands)
-
-  pub cover : CoverOf after
-  cover = record {
-    unknown = p.sound.cover.unknown;
-    marks = p.sound.cover.marks;
-    sent = p.sound.cover.sent;
-    ranges = p.sound.cover.ranges;
-    ordered = p.sound.cover.ordered;
-    entries = p.sound.cover.entries;
-    sides = p.sound.cover.sides;
-    items = λ q.
-        of_records (All (IsItemWithin v.rows)) q
-        (λ at. all_with (IsItemWithin v.rows) p.entry (v.records q) (p.sound.cover.items q) (item_within v.rows p.entry entry_within))
-        (λ apart. p.sound.cover.items q);
-    wholes = p.sound.cover.wholes;
-  }
-
-  pub roles : RolesOf after
-  roles = record {
-    fitting = λ q k d within counts.
-        let row : Row = slice_index_or v.rows k d in
-        let kept = v.handovers q row.tablet in
-        holds_more (bond_of (post_of row.phase q) kept.role) row.term kept.term (v.written q).applied (after.written q).applied
-        (applied_grows q) (p.sound.roles.fitting q k d within counts);
-    ranged = p.sound.roles.ranged;
-    at_term = p.sound.roles.at_term;
-    known = p.sound.roles.known;
-  }
-
-  pub logs : LogsOf after
-  logs = record {
-    each = λ q.
-        let log = p.sound.logs.each q in record {
-          entries_are = log.entries_are;
-          held =
-              of_applied (λ n. n ≤ committed (v.logs q)) q
-              (λ at.
-              let next : (v.written q).applied < committed (v.logs q) =
-              subst (λ (n : ℕ). (v.written n).applied < committed (v.logs n)) (sym at) p.held.held in
-              omega (arith, next))
-              (λ apart. log.held);
-          copies = log.copies;
-          spelled = log.spelled;
-          named = log.named;
-          marked = log.marked;
-        };
-    sent = p.sound.logs.sent;
   }
 
   -- ---- rows, by truth and rest
@@ -299,6 +225,7 @@ module _ (v : View) (p : Passing v) where
       more =
           p.grows row has (record { master = target; from = dfrom })
           (subst (λ (l : List Member). Contains l (record { master = target; from = dfrom })) (ap lineage_of (sym is)) (1, omega arith, refl))
+
       of_handed : (handed : Option Handed)
           → IfSome (option_map (λ h. beginning_in row h ∷ member_truth v.written row.range (record { master = target; from = dfrom })) handed) (P row)
           → IfSome (option_map (λ h. beginning_in row h ∷ member_truth after.written row.range (record { master = target; from = dfrom })) handed) (P row)
