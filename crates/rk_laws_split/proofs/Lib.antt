@@ -4,3 +4,4 @@ pub mod HalfTells
 pub mod HalfRests
 pub mod HalfOfRow
 pub mod SplitRows
+pub mod RowSplit

@@ -1,0 +1,659 @@
+-- A view stays sound when an owned row is split in two, and its owner, if it lives, serves both halves.
+use Rattle.std.proofs.Common.{◌≡◌, ℕ, ◌+◌, ◌≤◌, ◌<◌, Bool, true, false, cond, ◌&&◌, ◌||◌, List, [], ◌∷◌, ◌++◌, Option, Some, None, eqb, leb, refl, sym, ap, subst, ◌∙◌, ⊎_elim, arith, ◌⊎◌, inl, inr}
+use Rattle.std.specs.Prelude.{⊤, IfSome, is_some, drop}
+use Rattle.std.specs.List.{All, Contains, flat_map, list_any}
+use Rattle.std.proofs.lemmas.Bool.{and_parts, cases_Bool, cases_eq, cases_lt, eq-eqb, eqb-true, false≢true, ne_eqb, or_left, or_right}
+use Rattle.std.proofs.lemmas.Bool.Decides.{nat_tests}
+use Rattle.std.proofs.lemmas.List.{append-nil}
+use Rattle.std.proofs.lemmas.List.Elements.{All-contains, All-nil, All-cons, All-weaker}
+use Rattle.std.proofs.lemmas.Option.{IfSome_then}
+use Rattle.std.specs.Cmp.Lexicographic.{bytes_decides}
+use Rattle.rk_types.specs.Hashing.{hash_of}
+use Rattle.rk_types.specs.NumberMap.{get}
+use Rattle.rk_types.specs.Range.{has, meets}
+use Rattle.rk_types.specs.declared.call.Ended.{Ended}
+use Rattle.rk_types.specs.declared.held.Held.{Held}
+use Rattle.rk_types.specs.declared.history.Placed.{Placed}
+use Rattle.rk_types.specs.declared.lineage.Member.{Member}
+use Rattle.rk_types.specs.declared.node.Node.{Node}
+use Rattle.rk_types.specs.declared.range.Range.{Range}
+use Rattle.rk_model.proofs.Keys.{is_at_parts}
+use Rattle.rk_model.specs.History.{IsLegal, is_at, live_after, map_after, record_of}
+use Rattle.rk_model.specs.Machine.{last_version, never}
+use Rattle.rk_model.specs.Merged.{is_mutation}
+use Rattle.rk_entry.specs.declared.entry.Entry.{Entry}
+use Rattle.rk_entry.specs.declared.entry.Entry.TheVariants as entries
+use Rattle.rk_overlay.proofs.Bridges.{newest_none}
+use Rattle.rk_overlay.specs.Newest.{is_of}
+use Rattle.rk_transfer.specs.declared.handover.Handover.{Handover}
+use Rattle.rk_transfer.specs.Handover.{is_serving}
+use Rattle.rk_transfer.specs.declared.role.Role.{Role}
+use Rattle.rk_transfer.specs.declared.role.Role.TheVariants as roles
+use Rattle.rk_tablet_map.proofs.Lawful.{lawful_placed}
+use Rattle.rk_tablet_map.specs.Phase.{lineage_of}
+use Rattle.rk_tablet_map.specs.Rows.{IsTabletMap, Precedes, is_covered, is_split, row_of}
+use Rattle.rk_tablet_map.specs.declared.phase.Phase.{Phase}
+use Rattle.rk_tablet_map.specs.declared.phase.Phase.TheVariants.{Owned, Opening, Moving, Rebuilding}
+use Rattle.rk_tablet_map.specs.declared.row.Row.{Row}
+use Rattle.rk_message.specs.declared.handover.Tenure.{Tenure}
+use Rattle.rk_message.specs.declared.pulling.Got.{Got}
+use Rattle.rk_message.specs.declared.pulling.Pulled.{Pulled}
+use Rattle.rk_types.specs.declared.node.Node.TheVariants as nodes
+use Rattle.rk_message.specs.declared.message.Body.{Body}
+use Rattle.rk_message.specs.declared.message.Body.TheVariants as bodies
+use Rattle.rk_world.specs.Base.{newest_entry, base_map}
+use Rattle.rk_world.specs.Coordinator.{Handed, new_row}
+use Rattle.rk_world.specs.Ends.{items_of, told}
+use Rattle.rk_world.specs.Lineage.{is_member, second_of}
+use Rattle.rk_world.specs.Marks.{unmarked_from}
+use Rattle.rk_world.specs.Master.{touches}
+use Rattle.rk_world.specs.Material.{of_key, side_entries}
+use Rattle.rk_world.specs.Notices.{names}
+use Rattle.rk_world.specs.Premises.{IsMaster}
+use Rattle.rk_world.specs.Ranges.{has_all, has_key}
+use Rattle.rk_world.specs.RoleTests.{is_absent, is_idle, may_have_staged}
+use Rattle.rk_world.specs.Step.{tablet_added, with_added}
+use Rattle.rk_world.specs.World.{World, master_at, tablet_in, with_master}
+use Rattle.rk_world.specs.Written.{member_truth, applied_entries}
+use Rattle.rk_world.specs.declared.work.Mark.{Mark}
+use Rattle.rk_done.specs.Completions.{ends_of}
+use Rattle.rk_sound.specs.View.{View, view, truths, rests}
+use Rattle.rk_sound.specs.Rows.{IsFormed, IsPlaced, Rows}
+use Rattle.rk_sound.specs.Terms.{HandoverFits, SentFits, Terms, range_in, tenure_in}
+use Rattle.rk_sound.specs.Cover.{Cover, HasWholeRows, IsEntryWithin, IsItemWithin, IsOfWholeRows, IsWithinRows}
+use Rattle.rk_sound.specs.Posts.{Bystander, Owner, Post, Holds, StillCounts, bond_of, post_of, speaks}
+use Rattle.rk_sound.specs.Roles.{KeepTerm, RoleFits, Roles}
+use Rattle.rk_sound.specs.Truth.{IsTruth, Truth}
+use Rattle.rk_sound.specs.Order.{AreAbove, Order}
+use Rattle.rk_sound.specs.Handing.{handed_by, handed_for_grant, is_waiting, is_waiting_at, second_has, target_truth}
+use Rattle.rk_sound.specs.Calls.{AreHandedOver, IsKnown, IsReached, IsStagedEnd, ReachAll, TellAll, is_record_in}
+use Rattle.rk_sound.specs.Counters.{AreAboveMap, Counters, IsNext}
+use Rattle.rk_sound.specs.Rest.{FirstIsDone, IsRest, OnlyIsUnnamed}
+use Rattle.rk_sound.specs.Tables.{HasItems, IsTableOf, has_all_items}
+use Rattle.rk_sound.specs.Receives.{HandedFits, IsHandedBy, MembersFit, NamedFit, is_granted}
+use Rattle.rk_sound.specs.Rebuilds.{HasOwnRange, MarkFits, RowIsRebuilt}
+use Rattle.rk_sound.specs.Messages.{SaysOf, PrepareFits, ReadyIn, CloseFits, TransferIn, GrantAgrees, AskAgrees, PulledAgrees, GotAgrees, ByMaster, IfMaster, IsOfTarget, JoinedIn, OwnFits, ReleaseFits, RebuildFits, RebuiltIn, IsOf}
+use Rattle.rk_sound.specs.Whole.{IsSound, SoundView, NodesOf, RowsOf, TermsOf, CoverOf, RolesOf, TruthOf, OrderOf, CallsOf, CountersOf, RestOf, TablesOf, ReceivesOf, RebuildsOf, MessagesOf}
+use Rattle.rk_sound.specs.Moves.{HasSome, HasSomeIn, MayAdd}
+use Rattle.rk_sound.specs.Small.{added, as_added, put2}
+use Rattle.rk_laws_parts.proofs.AddedRows.{all_with, covered_still, known_placed, known_still, new_placed, row_apart, stands_placed, uncovered}
+use Rattle.rk_laws_parts.proofs.Cover.{covered_by}
+use Rattle.rk_laws_parts.proofs.Lists.{all_by}
+use Rattle.rk_laws_parts.proofs.Messages.{by_master, if_master}
+use Rattle.rk_laws_parts.proofs.Missed.{Misses, counting_none, drop_missed, from_missed, joined_none, map_elsewhere, material_none, none_touches, take_missed}
+use Rattle.rk_laws_parts.proofs.Put.{put2_by, put2_here, put2_other, put2_same}
+use Rattle.rk_laws_parts.proofs.Receives.{IsBareOf, IsTargetIn}
+use Rattle.rk_laws_parts.proofs.Rebuilds.{IsRebuilderIn}
+use Rattle.rk_laws_parts.proofs.Apart.{one_precedes}
+use Rattle.rk_laws_parts.proofs.Serving.{meets_either}
+use Rattle.rk_laws_parts.proofs.TurnedRows.{stands_found}
+use Rattle.rk_laws_parts.proofs.Views.{view_kept}
+use Rattle.rk_laws_parts.proofs.BeforeTurn.{at_most}
+use Rattle.rk_laws_split.specs.Halves.{IsHalf, IsOfWhole}
+use Rattle.rk_laws_split.specs.Small.{as_half, lower_row, rows_halved, upper_row}
+use Rattle.rk_laws_split.proofs.HalfOfRow.{low_of_half, next_of_half, order_of_half, reached_of_half, recorded_of_half, rest_of_half, table_of_half, truth_of_half}
+use Rattle.rk_laws_split.proofs.Ranges.{all_of_half, in_whole, meets_whole}
+use Rattle.rk_laws_split.proofs.SplitRows.{covered_halved, each_halved, halved_apart, halves_apart, halves_apart_turned, known_halved, lower_half, lower_stands, other, others_stand, unknown, upper_half, upper_stands}
+
+-- a bystander at a term is one at the next
+bystander_rises : (role : Role) (term own applied : ℕ) → Holds (bond_of Bystander role) term own applied → Holds (bond_of Bystander role) (term + 1) own applied
+bystander_rises roles.Absent term own applied holds = omega (arith, holds)
+bystander_rises roles.Frozen term own applied holds = omega (arith, holds)
+bystander_rises (roles.Wanting from) term own applied holds = omega (arith, holds)
+bystander_rises roles.Serving term own applied holds = absurd holds
+bystander_rises roles.Closing term own applied holds = absurd holds
+bystander_rises roles.Receiving term own applied holds = absurd holds
+bystander_rises (roles.Joining entry) term own applied holds = absurd holds
+bystander_rises (roles.Rebuilding from entry) term own applied holds = absurd holds
+
+-- what has not begun is a bystander's
+absent_fits : (role : Role) (term own applied : ℕ) → own ≡ 0 → is_absent role ≡ true → Holds (bond_of Bystander role) term own applied
+absent_fits roles.Absent term own applied none is = omega (arith, none)
+absent_fits roles.Serving term own applied none is = absurd (cc is)
+absent_fits roles.Closing term own applied none is = absurd (cc is)
+absent_fits roles.Frozen term own applied none is = absurd (cc is)
+absent_fits (roles.Wanting from) term own applied none is = absurd (cc is)
+absent_fits roles.Receiving term own applied none is = absurd (cc is)
+absent_fits (roles.Joining entry) term own applied none is = absurd (cc is)
+absent_fits (roles.Rebuilding from entry) term own applied none is = absurd (cc is)
+
+-- an owner has the tablet
+owner_present : (role : Role) (place term own applied : ℕ) → Holds (bond_of (Owner place) role) term own applied → is_absent role ≡ false
+owner_present roles.Absent place term own applied holds = absurd holds
+owner_present role place term own applied holds = refl
+
+module _ (v : View) (tablet : ℕ) (range : Range) (term owner from at new : ℕ) (sound : SoundView v) (has_row : Contains v.rows (record { tablet = tablet; range = range; term = term; phase = Owned owner from })) (free : is_some (row_of v.rows new) ≡ false) (splits : is_split range at ≡ true) where
+  abbrev row : Row
+  row = record { tablet = tablet; range = range; term = term; phase = Owned owner from }
+
+  abbrev low : Row
+  low = lower_row row at
+
+  abbrev high : Row
+  high = upper_row row at new
+
+  abbrev rows' : List Row
+  rows' = rows_halved v.rows row at new
+
+  map : IsTabletMap v.rows
+  map = sound.rows.apart
+
+  in_row : (P : Row → Type 0) → All P v.rows → P row
+  in_row P all = All-contains P v.rows row all has_row
+
+  each : (P : Row → Type 0) → P low → P high → ((x : Row) → Contains v.rows x → (x.tablet ≡ tablet → ⊥) → P x) → All P rows'
+  each P = each_halved v.rows row at new map has_row free splits P
+
+  kept : (P : Row → Type 0) → P low → P high → All P v.rows → All P rows'
+  kept P first second all = each P first second (λ x has unlike. All-contains P v.rows x all has)
+
+  none_new : (x : Row) → Contains v.rows x → x.tablet ≡ new → ⊥
+  none_new = other v.rows row at new map has_row free splits
+
+  unknown_new : (n : ℕ) → is_some (row_of v.rows n) ≡ true → n ≡ new → ⊥
+  unknown_new = unknown v.rows row at new map has_row free splits
+
+  low_half : IsHalf range low.range
+  low_half = lower_half v.rows row at new map has_row free splits
+
+  high_half : IsHalf range high.range
+  high_half = upper_half v.rows row at new map has_row free splits
+
+  covered_same : (table hash : ℕ) → is_covered rows' table hash ≡ is_covered v.rows table hash
+  covered_same = covered_halved v.rows row at new map has_row free splits
+
+  known_on : (n : ℕ) → is_some (row_of v.rows n) ≡ true → is_some (row_of rows' n) ≡ true
+  known_on n known =
+      known_halved v.rows row at new map has_row free splits n ∙ or_right (eqb new n) (is_some (row_of v.rows n)) known
+
+  known_new : is_some (row_of rows' new) ≡ true
+  known_new =
+      known_halved v.rows row at new map has_row free splits new ∙ or_left (eqb new new) (is_some (row_of v.rows new)) (eq-eqb new new refl)
+
+  known_low : is_some (row_of rows' tablet) ≡ true
+  known_low = known_on tablet (ap is_some (stands_found v.rows row map has_row))
+
+  still_none : (n : ℕ) → row_of rows' n ≡ None → row_of v.rows n ≡ None
+  still_none n none = go (row_of v.rows n) (known_on n)
+    where
+      go : (o : Option Row) → (is_some o ≡ true → is_some (row_of rows' n) ≡ true) → o ≡ None
+      go None on = refl
+      go (Some x) on = absurd (false≢true (sym (ap is_some none) ∙ on refl))
+
+  none_found : row_of v.rows new ≡ None
+  none_found = go (row_of v.rows new) free
+    where
+      go : (o : Option Row) → is_some o ≡ false → o ≡ None
+      go None is = refl
+      go (Some x) is = absurd (cc is)
+
+  -- what masters had of the two tablets
+  at_most_row : (q : ℕ) → (v.handovers q tablet).term ≤ term
+  at_most_row q = at_most v row q sound has_row
+
+  term_none : (q : ℕ) → (v.handovers q new).term ≡ 0
+  term_none q = sound.cover.unknown q new none_found
+
+  absent_before : (q : ℕ) → is_absent (v.handovers q new).role ≡ true
+  absent_before q =
+      ⊎_elim (λ (is : is_absent (v.handovers q new).role ≡ true). is)
+      (λ (is : is_absent (v.handovers q new).role ≡ false).
+      let begun : 1 ≤ (v.handovers q new).term = sound.terms.begun q new is in
+      let none : (v.handovers q new).term ≡ 0 = term_none q in
+      absurd (omega (arith, begun, none)))
+      (cases_Bool (is_absent (v.handovers q new).role))
+
+  -- the halves that a living owner has
+  abbrev low_half_of : ℕ → Handover
+  low_half_of q = as_half (v.handovers q tablet) low.range (term + 1)
+
+  abbrev high_half_of : ℕ → Handover
+  high_half_of q = as_half (v.handovers q tablet) high.range (term + 1)
+
+  -- the tablet is the owner's that lives
+  abbrev Serves : ℕ → Type 0
+  Serves q = (v.live q ≡ true) × (q ≡ owner)
+
+  -- what a master has of a tablet: a living owner the halves, and else what it had
+  data Has (q n : ℕ) (h : Handover) : Type 0 where
+    Old : h ≡ v.handovers q n → (Serves q → (n ≡ tablet → ⊥) × (n ≡ new → ⊥)) → Has q n h
+    Low : Serves q → n ≡ tablet → h ≡ low_half_of q → Has q n h
+    High : Serves q → n ≡ new → h ≡ high_half_of q → Has q n h
+
+  module _ (handovers' : ℕ → ℕ → Handover) (halved : (q n : ℕ) → Has q n (handovers' q n)) where
+    by_has : (P : Handover → Type 0) (q n : ℕ) (h : Handover) → Has q n h → ((Serves q → (n ≡ tablet → ⊥) × (n ≡ new → ⊥)) → P (v.handovers q n)) → (Serves q → n ≡ tablet → P (low_half_of q)) → (Serves q → n ≡ new → P (high_half_of q)) → P h
+    by_has P q n h (Old is unlike) old first second = subst P (sym is) (old unlike)
+    by_has P q n h (Low serves its is) old first second = subst P (sym is) (first serves its)
+    by_has P q n h (High serves its is) old first second = subst P (sym is) (second serves its)
+
+    by : (P : Handover → Type 0) (q n : ℕ) → ((Serves q → (n ≡ tablet → ⊥) × (n ≡ new → ⊥)) → P (v.handovers q n)) → (Serves q → n ≡ tablet → P (low_half_of q)) → (Serves q → n ≡ new → P (high_half_of q)) → P (handovers' q n)
+    by P q n = by_has P q n (handovers' q n) (halved q n)
+
+    -- of another row's tablet it is what it was
+    of_row : (x : Row) → Contains v.rows x → (x.tablet ≡ tablet → ⊥) → (q : ℕ) → v.handovers q x.tablet ≡ handovers' q x.tablet
+    of_row x has unlike q =
+        by (λ h. v.handovers q x.tablet ≡ h) q x.tablet (λ _. refl) (λ _ its. absurd (unlike its)) (λ _ its. absurd (none_new x has its))
+
+    by_row : (x : Row) → Contains v.rows x → (x.tablet ≡ tablet → ⊥) → (q : ℕ) (P : Handover → Type 0) → P (v.handovers q x.tablet) → P (handovers' q x.tablet)
+    by_row x has unlike q P = subst P (of_row x has unlike q)
+
+    -- ---- rows
+
+    rows_split : Rows rows' v.written v.journal
+    rows_split = record {
+      apart = halved_apart v.rows row at new map has_row free splits;
+      begun = kept (λ r. 1 ≤ r.term) (omega arith) (omega arith) sound.rows.begun;
+      formed = kept (λ r. IsFormed r.phase) tt tt sound.rows.formed;
+      placed =
+          let own = in_row (λ r. All (IsPlaced v.written) (lineage_of r.phase)) sound.rows.placed in
+          kept (λ r. All (IsPlaced v.written) (lineage_of r.phase)) own own sound.rows.placed;
+      covered =
+          All-weaker (λ p. is_covered v.rows p.call.table (hash_of p.call.key) ≡ true) (λ p. is_covered rows' p.call.table (hash_of p.call.key) ≡ true)
+          (λ p covered. covered_same p.call.table (hash_of p.call.key) ∙ covered) v.journal sound.rows.covered;
+    }
+
+    named_of : (q : ℕ) → All (λ r. names r.phase q ≡ true → IsMaster v.masters q) rows'
+    named_of q =
+        let own = in_row (λ r. names r.phase q ≡ true → IsMaster v.masters q) (sound.nodes.named q) in
+        kept (λ r. names r.phase q ≡ true → IsMaster v.masters q) own own (sound.nodes.named q)
+
+    -- ---- terms
+
+    meets_turned : (a b : Range) → meets a b ≡ false → meets b a ≡ false
+    meets_turned a b none =
+        ⊎_elim (λ (met : meets b a ≡ true). absurd (false≢true (sym none ∙ meets_either b a met))) (λ (e : meets b a ≡ false). e) (cases_Bool (meets b a))
+
+    -- what meets a half meets the row
+    half_met : (half a : Range) → IsHalf range half → meets half a ≡ true → meets range a ≡ true
+    half_met half a is met = meets_either a range (meets_whole range half is a (meets_either half a met))
+
+    -- no half meets another row
+    half_apart : (half : Range) → IsHalf range half → (x : Row) → Contains v.rows x → (x.tablet ≡ tablet → ⊥) → meets x.range half ≡ true → ⊥
+    half_apart half is x has unlike met =
+        let whole : meets x.range range ≡ true = meets_whole range half is x.range met in
+        ⊎_elim (λ (same : x ≡ row). unlike (ap (λ (r : Row). r.tablet) same))
+        (λ (p : Precedes x row ⊎ Precedes row x).
+        ⊎_elim (λ (h : Precedes x row). false≢true (sym h.apart ∙ whole)) (λ (h : Precedes row x). false≢true (sym h.apart ∙ meets_either x.range range whole)) p)
+        (one_precedes v.rows x row map has has_row)
+
+    old_fits : (q n : ℕ) (x : Row) → Contains v.rows x → HandoverFits x n (v.handovers q n)
+    old_fits q n x has = All-contains (λ r. HandoverFits r n (v.handovers q n)) v.rows x (sound.terms.kept q n) has
+
+    -- a tablet beside the halves
+    fits_low : (q n : ℕ) → HandoverFits low n (handovers' q n)
+    fits_low q n =
+        by (λ h. HandoverFits low n h) q n
+        (λ unlike. record {
+          within = λ is. let was = (old_fits q n row has_row).within is in omega (arith, was);
+          below = λ apart met. let was = (old_fits q n row has_row).below apart (half_met low.range (v.handovers q n).range low_half met) in omega (arith, was);
+          exact = λ is its. let was = (old_fits q n row has_row).within is in absurd (omega (arith, was, its));
+        })
+        (λ serves its. record { within = λ is. omega arith; below = λ apart met. absurd (apart (sym its)); exact = λ is term. refl })
+        (λ serves its. record {
+          within = λ is. absurd (none_new row has_row (is ∙ its));
+          below = λ apart met. absurd (false≢true (sym (halves_apart v.rows row at new map has_row free splits) ∙ met));
+          exact = λ is term. absurd (none_new row has_row (is ∙ its));
+        })
+
+    fits_high : (q n : ℕ) → HandoverFits high n (handovers' q n)
+    fits_high q n =
+        by (λ h. HandoverFits high n h) q n
+        (λ unlike. record {
+          within = λ is. let none : (v.handovers q n).term ≡ 0 = ap (λ (m : ℕ). (v.handovers q m).term) (sym is) ∙ term_none q in omega (arith, none);
+          below = λ apart met.
+              ⊎_elim (λ (is : tablet ≡ n). let was = (old_fits q n row has_row).within is in omega (arith, was))
+              (λ (away : tablet ≡ n → ⊥).
+              let was = (old_fits q n row has_row).below away (half_met high.range (v.handovers q n).range high_half met) in omega (arith, was))
+              (cases_eq tablet n);
+          exact = λ is its.
+              let none : (v.handovers q n).term ≡ 0 = ap (λ (m : ℕ). (v.handovers q m).term) (sym is) ∙ term_none q in absurd (omega (arith, none, its));
+        })
+        (λ serves its. record {
+          within = λ is. absurd (none_new row has_row (sym (is ∙ its)));
+          below = λ apart met. absurd (false≢true (sym (halves_apart_turned v.rows row at new map has_row free splits) ∙ met));
+          exact = λ is term. absurd (none_new row has_row (sym (is ∙ its)));
+        })
+        (λ serves its. record { within = λ is. omega arith; below = λ apart met. absurd (apart (sym its)); exact = λ is term. refl })
+
+    fits_other : (q n : ℕ) (x : Row) → Contains v.rows x → (x.tablet ≡ tablet → ⊥) → HandoverFits x n (handovers' q n)
+    fits_other q n x has unlike =
+        by (λ h. HandoverFits x n h) q n (λ _. old_fits q n x has)
+        (λ serves its. record {
+          within = λ is. absurd (unlike (is ∙ its));
+          below = λ apart met. absurd (half_apart low.range low_half x has unlike met);
+          exact = λ is term. absurd (unlike (is ∙ its));
+        })
+        (λ serves its. record {
+          within = λ is. absurd (none_new x has (is ∙ its));
+          below = λ apart met. absurd (half_apart high.range high_half x has unlike met);
+          exact = λ is term. absurd (none_new x has (is ∙ its));
+        })
+
+    -- the owner that lives
+    owner_fits : (q : ℕ) → Serves q → Holds (bond_of (Owner from) (v.handovers q tablet).role) term (v.handovers q tablet).term (v.written q).applied
+    owner_fits q serves =
+        subst (λ (b : Bool). Holds (bond_of (cond b (Owner from) Bystander) (v.handovers q tablet).role) term (v.handovers q tablet).term (v.written q).applied)
+        (eq-eqb owner q (sym serves.1))
+        (in_row (λ r. StillCounts (v.live q) (v.handovers q r.tablet).term r.term → RoleFits r q (v.handovers q r.tablet) (v.written q).applied) (sound.roles.fitting q) (inl serves.0))
+
+    owner_range : (q : ℕ) → Serves q → (v.handovers q tablet).range ≡ range
+    owner_range q serves =
+        in_row (λ r. StillCounts (v.live q) (v.handovers q r.tablet).term r.term → is_member (lineage_of r.phase) q ≡ true → (v.handovers q r.tablet).range ≡ r.range) (sound.roles.ranged q)
+        (inl serves.0) (or_left (eqb owner q) false (eq-eqb owner q (sym serves.1)))
+
+    -- a half that it has meets none of its other tablets
+    beside_half : (half : Range) → IsHalf range half → (q n : ℕ) → Serves q → (n ≡ tablet → ⊥) → is_absent (v.handovers q n).role ≡ false → meets half (v.handovers q n).range ≡ false
+    beside_half half is q n serves unlike there =
+        ⊎_elim
+        (λ (met : meets half (v.handovers q n).range ≡ true).
+        let whole : meets (v.handovers q tablet).range (v.handovers q n).range ≡ true =
+        ap (λ (r : Range). meets r (v.handovers q n).range) (owner_range q serves) ∙ half_met half (v.handovers q n).range is met in
+        absurd (false≢true
+        (sym (sound.terms.apart q tablet n (λ same. unlike (sym same))
+        (owner_present (v.handovers q tablet).role from term (v.handovers q tablet).term (v.written q).applied (owner_fits q serves)) there)
+        ∙ whole)))
+        (λ (e : meets half (v.handovers q n).range ≡ false). e)
+        (cases_Bool (meets half (v.handovers q n).range))
+
+    abbrev ApartFrom : ℕ → ℕ → ℕ → Handover → Type 0
+    ApartFrom q a b h = is_absent h.role ≡ false → is_absent (handovers' q b).role ≡ false → meets h.range (handovers' q b).range ≡ false
+
+    ranges_apart : (q a b : ℕ) → (a ≡ b → ⊥) → ApartFrom q a b (handovers' q a)
+    ranges_apart q a b unlike =
+        by (ApartFrom q a b) q a
+        (λ one first.
+        by (λ h. is_absent h.role ≡ false → meets (v.handovers q a).range h.range ≡ false) q b
+        (λ other second. sound.terms.apart q a b unlike first second)
+        (λ serves its second. meets_turned low.range (v.handovers q a).range (beside_half low.range low_half q a serves (one serves).0 first))
+        (λ serves its second. meets_turned high.range (v.handovers q a).range (beside_half high.range high_half q a serves (one serves).0 first)))
+        (λ serves its first.
+        by (λ h. is_absent h.role ≡ false → meets low.range h.range ≡ false) q b
+        (λ other second. beside_half low.range low_half q b serves (other serves).0 second)
+        (λ _ too second. absurd (unlike (its ∙ sym too)))
+        (λ _ too second. halves_apart v.rows row at new map has_row free splits))
+        (λ serves its first.
+        by (λ h. is_absent h.role ≡ false → meets high.range h.range ≡ false) q b
+        (λ other second. beside_half high.range high_half q b serves (other serves).0 second)
+        (λ _ too second. halves_apart_turned v.rows row at new map has_row free splits)
+        (λ _ too second. absurd (unlike (its ∙ sym too))))
+
+    old_sent : (body : Body) → All (λ r. SentFits r body) v.rows → SentFits row body
+    old_sent body all = in_row (λ r. SentFits r body) all
+
+    sent_low : (body : Body) → SentFits row body → SentFits low body
+    sent_low body was = record {
+      within = IfSome_then (tenure_in body) was.within (λ tenure fits is. let low_enough = fits is in omega (arith, low_enough));
+      below =
+          IfSome_then (tenure_in body) was.below
+          (λ tenure fits.
+          IfSome_then (range_in body) fits (λ r its apart met. let less = its apart (half_met low.range r low_half met) in omega (arith, less)));
+    }
+
+    sent_high : (body : Body) → IfSome (tenure_in body) (λ tenure. is_some (row_of v.rows tenure.tablet) ≡ true) → SentFits row body → SentFits high body
+    sent_high body knows was = record {
+      within = IfSome_then (tenure_in body) knows (λ tenure known is. absurd (unknown_new tenure.tablet known (sym is)));
+      below =
+          IfSome_then (tenure_in body) (both_some _ _ (tenure_in body) was.within was.below)
+          (λ tenure fits.
+          IfSome_then (range_in body) fits.1
+          (λ r its apart met.
+          ⊎_elim (λ (is : tablet ≡ tenure.tablet). let low_enough = fits.0 is in omega (arith, low_enough))
+          (λ (away : tablet ≡ tenure.tablet → ⊥). let less = its away (half_met high.range r high_half met) in omega (arith, less))
+          (cases_eq tablet tenure.tablet)));
+    }
+      where
+        both_some : (P Q : Tenure → Type 0) (o : Option Tenure) → IfSome o P → IfSome o Q → IfSome o (λ t. P t × Q t)
+        both_some P Q None p q = tt
+        both_some P Q (Some t) p q = (p, q)
+
+    terms : Terms rows' handovers' v.wire
+    terms = record {
+      kept = λ q n. each (λ r. HandoverFits r n (handovers' q n)) (fits_low q n) (fits_high q n) (fits_other q n);
+      begun = λ q n. by (λ h. is_absent h.role ≡ false → 1 ≤ h.term) q n (λ _. sound.terms.begun q n) (λ _ _ _. omega arith) (λ _ _ _. omega arith);
+      apart = ranges_apart;
+      sent = λ n m there.
+          let was = old_sent m.body (sound.terms.sent n m there) in
+          kept (λ r. SentFits r m.body) (sent_low m.body was) (sent_high m.body (sound.cover.sent n m there) was) (sound.terms.sent n m there);
+    }
+
+    -- ---- cover
+
+    range_within : (r : Range) → IsWithinRows v.rows r → IsWithinRows rows' r
+    range_within r within hash inside = covered_same r.table hash ∙ within hash inside
+
+    half_within : (half : Range) → IsHalf range half → IsWithinRows rows' half
+    half_within half is hash inside =
+        covered_same half.table hash
+        ∙ covered_by v.rows row half.table hash has_row (in_whole range half is half.table hash inside)
+
+    item_within : (item : Held) → IsItemWithin v.rows item → IsItemWithin rows' item
+    item_within item within = covered_same item.table (hash_of item.key) ∙ within
+
+    entry_within : (entry : Entry) → IsEntryWithin v.rows entry → IsEntryWithin rows' entry
+    entry_within (entries.Held held) within = item_within held within
+    entry_within (entries.Refused refused) within = covered_same refused.table (hash_of refused.key) ∙ within
+    entry_within (entries.Carried carried) within = range_within carried.range within
+    entry_within (entries.Joined joined) within = range_within joined.range within
+
+    half_whole : (half r : Range) → IsHalf range half → HasWholeRows v.rows r → meets half r ≡ true → has_all r half ≡ true
+    half_whole half r is wholes met =
+        all_of_half range half is r (in_row (λ x. meets x.range r ≡ true → has_all r x.range ≡ true) wholes (half_met half r is met))
+
+    whole : (r : Range) → HasWholeRows v.rows r → HasWholeRows rows' r
+    whole r wholes = kept (λ x. meets x.range r ≡ true → has_all r x.range ≡ true) (half_whole low.range r low_half wholes) (half_whole high.range r high_half wholes) wholes
+
+    entry_whole : (entry : Entry) → IsOfWholeRows v.rows entry → IsOfWholeRows rows' entry
+    entry_whole (entries.Held held) wholes = tt
+    entry_whole (entries.Refused refused) wholes = tt
+    entry_whole (entries.Carried carried) wholes = whole carried.range wholes
+    entry_whole (entries.Joined joined) wholes = whole joined.range wholes
+
+    cover : Cover rows' v.written handovers' v.records v.wire
+    cover = record {
+      unknown = λ q n none.
+          by (λ h. h.term ≡ 0) q n (λ _. sound.cover.unknown q n (still_none n none))
+          (λ _ its. absurd (false≢true (sym (ap is_some none) ∙ ap (λ (m : ℕ). is_some (row_of rows' m)) its ∙ known_low)))
+          (λ _ its. absurd (false≢true (sym (ap is_some none) ∙ ap (λ (m : ℕ). is_some (row_of rows' m)) its ∙ known_new)));
+      marks = λ q.
+          All-weaker (λ mark. is_some (row_of v.rows mark.tablet) ≡ true) (λ mark. is_some (row_of rows' mark.tablet) ≡ true)
+          (λ mark knows. known_on mark.tablet knows) (v.written q).marks (sound.cover.marks q);
+      sent = λ n m there. IfSome_then (tenure_in m.body) (sound.cover.sent n m there) (λ tenure knows. known_on tenure.tablet knows);
+      ranges = λ q n.
+          by (λ h. 1 ≤ h.term → IsWithinRows rows' h.range) q n
+          (λ _ begun. range_within (v.handovers q n).range (sound.cover.ranges q n begun))
+          (λ _ _ _. half_within low.range low_half) (λ _ _ _. half_within high.range high_half);
+      ordered = λ n m there. IfSome_then (range_in m.body) (sound.cover.ordered n m there) range_within;
+      entries = λ q. All-weaker (IsEntryWithin v.rows) (IsEntryWithin rows') entry_within (v.written q).entries (sound.cover.entries q);
+      sides = λ q. All-weaker (IsItemWithin v.rows) (IsItemWithin rows') item_within (flat_map (λ items. items) (v.written q).sides) (sound.cover.sides q);
+      items = λ q. All-weaker (IsItemWithin v.rows) (IsItemWithin rows') item_within (v.records q) (sound.cover.items q);
+      wholes = λ q. All-weaker (IsOfWholeRows v.rows) (IsOfWholeRows rows') entry_whole (v.written q).entries (sound.cover.wholes q);
+    }
+
+    -- ---- roles
+
+    abbrev Counts : ℕ → Handover → Type 0
+    Counts q h = StillCounts (v.live q) h.term (term + 1)
+
+    -- only a living master counts at the next term
+    lives_now : (q own : ℕ) → own ≤ term → StillCounts (v.live q) own (term + 1) → v.live q ≡ true
+    lives_now q own few counts = ⊎_elim (λ (lives : v.live q ≡ true). lives) (λ (same : own ≡ term + 1). absurd (omega (arith, few, same))) counts
+
+    -- one that has what it had is no owner
+    not_owner : (q n : ℕ) → (Serves q → (n ≡ tablet → ⊥) × (n ≡ new → ⊥)) → v.live q ≡ true → (n ≡ tablet) ⊎ (n ≡ new) → eqb owner q ≡ false
+    not_owner q n unlike lives its =
+        ne_eqb owner q
+        (λ is.
+        ⊎_elim (λ (e : n ≡ tablet). (unlike (lives, sym is)).0 e) (λ (e : n ≡ new). (unlike (lives, sym is)).1 e) its)
+
+    bystands : (q : ℕ) → v.live q ≡ true → eqb owner q ≡ false → Holds (bond_of Bystander (v.handovers q tablet).role) term (v.handovers q tablet).term (v.written q).applied
+    bystands q lives away =
+        subst (λ (b : Bool). Holds (bond_of (cond b (Owner from) Bystander) (v.handovers q tablet).role) term (v.handovers q tablet).term (v.written q).applied) away
+        (in_row (λ r. StillCounts (v.live q) (v.handovers q r.tablet).term r.term → RoleFits r q (v.handovers q r.tablet) (v.written q).applied) (sound.roles.fitting q) (inl lives))
+
+    -- what a master is to a half, and has of it
+    by_post : (P : Post → Handover → Type 0) (q n : ℕ) → (n ≡ tablet) ⊎ (n ≡ new) → (Serves q → n ≡ tablet → P (Owner from) (low_half_of q)) → (Serves q → n ≡ new → P (Owner from) (high_half_of q)) → (v.live q ≡ true → eqb owner q ≡ false → P Bystander (v.handovers q n)) → Counts q (handovers' q n) → P (cond (eqb owner q) (Owner from) Bystander) (handovers' q n)
+    by_post P q n its first second old =
+        by (λ h. Counts q h → P (cond (eqb owner q) (Owner from) Bystander) h) q n
+        (λ unlike counts.
+        let few : (v.handovers q n).term ≤ term =
+        ⊎_elim (λ (e : n ≡ tablet). subst (λ (m : ℕ). (v.handovers q m).term ≤ term) (sym e) (at_most_row q))
+        (λ (e : n ≡ new). let none : (v.handovers q n).term ≡ 0 = ap (λ (m : ℕ). (v.handovers q m).term) e ∙ term_none q in omega (arith, none)) its in
+        let lives = lives_now q (v.handovers q n).term few counts in
+        let away = not_owner q n unlike lives its in
+        subst (λ (b : Bool). P (cond b (Owner from) Bystander) (v.handovers q n)) (sym away) (old lives away))
+        (λ serves it _. subst (λ (b : Bool). P (cond b (Owner from) Bystander) (low_half_of q)) (sym (eq-eqb owner q (sym serves.1))) (first serves it))
+        (λ serves it _. subst (λ (b : Bool). P (cond b (Owner from) Bystander) (high_half_of q)) (sym (eq-eqb owner q (sym serves.1))) (second serves it))
+
+    no_owner : (q : ℕ) → eqb owner q ≡ false → is_member (record { master = owner; from = from } ∷ []) q ≡ true → ⊥
+    no_owner q away inside = false≢true (sym (ap (λ (b : Bool). b || false) away) ∙ inside)
+
+    new_apart : new ≡ tablet → ⊥
+    new_apart is = none_new row has_row (sym is)
+
+    keep_term : (x : Row) → Contains v.rows x → (x.tablet ≡ tablet → ⊥) → (phase : Phase) → KeepTerm phase (λ q. (v.handovers q x.tablet).term) x.term → KeepTerm phase (λ q. (handovers' q x.tablet).term) x.term
+    keep_term x has unlike (Owned owner from) at = tt
+    keep_term x has unlike (Opening source sfrom target None) at = tt
+    keep_term x has unlike (Opening source sfrom target (Some dfrom)) at = by_row x has unlike target (λ h. h.term ≡ x.term) at
+    keep_term x has unlike (Moving source sfrom target dfrom) at =
+        (by_row x has unlike source (λ h. h.term ≡ x.term) at.0, by_row x has unlike target (λ h. h.term ≡ x.term) at.1)
+    keep_term x has unlike (Rebuilding lineage to) at = tt
+
+    roles_fit : Roles rows' handovers' v.written v.live
+    roles_fit = record {
+      fitting = λ q.
+          each (λ r. StillCounts (v.live q) (handovers' q r.tablet).term r.term → RoleFits r q (handovers' q r.tablet) (v.written q).applied)
+          (by_post (λ post h. Holds (bond_of post h.role) (term + 1) h.term (v.written q).applied) q tablet (inl refl) (λ _ _. refl) (λ _ its. absurd (new_apart (sym its)))
+          (λ lives away. bystander_rises (v.handovers q tablet).role term (v.handovers q tablet).term (v.written q).applied (bystands q lives away)))
+          (by_post (λ post h. Holds (bond_of post h.role) (term + 1) h.term (v.written q).applied) q new (inr refl) (λ _ its. absurd (new_apart its)) (λ _ _. refl)
+          (λ lives away. absent_fits (v.handovers q new).role (term + 1) (v.handovers q new).term (v.written q).applied (term_none q) (absent_before q)))
+          (λ x has unlike.
+          by_row x has unlike q (λ h. StillCounts (v.live q) h.term x.term → RoleFits x q h (v.written q).applied)
+          (All-contains (λ r. StillCounts (v.live q) (v.handovers q r.tablet).term r.term → RoleFits r q (v.handovers q r.tablet) (v.written q).applied) v.rows x (sound.roles.fitting q) has));
+      ranged = λ q.
+          each (λ r. StillCounts (v.live q) (handovers' q r.tablet).term r.term → is_member (lineage_of r.phase) q ≡ true → (handovers' q r.tablet).range ≡ r.range)
+          (λ counts inside.
+          by_post (λ post h. h.range ≡ low.range) q tablet (inl refl) (λ _ _. refl) (λ _ its. absurd (new_apart (sym its))) (λ lives away. absurd (no_owner q away inside)) counts)
+          (λ counts inside.
+          by_post (λ post h. h.range ≡ high.range) q new (inr refl) (λ _ its. absurd (new_apart its)) (λ _ _. refl) (λ lives away. absurd (no_owner q away inside)) counts)
+          (λ x has unlike.
+          by_row x has unlike q (λ h. StillCounts (v.live q) h.term x.term → is_member (lineage_of x.phase) q ≡ true → h.range ≡ x.range)
+          (All-contains (λ r. StillCounts (v.live q) (v.handovers q r.tablet).term r.term → is_member (lineage_of r.phase) q ≡ true → (v.handovers q r.tablet).range ≡ r.range) v.rows x (sound.roles.ranged q) has));
+      at_term =
+          each (λ r. KeepTerm r.phase (λ q. (handovers' q r.tablet).term) r.term) tt tt
+          (λ x has unlike. keep_term x has unlike x.phase (All-contains (λ r. KeepTerm r.phase (λ q. (v.handovers q r.tablet).term) r.term) v.rows x sound.roles.at_term has));
+      known = λ q n lives.
+          by (λ h. is_absent h.role ≡ false → is_some (row_of rows' n) ≡ true) q n (λ _ there. known_on n (sound.roles.known q n lives there))
+          (λ _ its there. ap (λ (m : ℕ). is_some (row_of rows' m)) its ∙ known_low)
+          (λ _ its there. ap (λ (m : ℕ). is_some (row_of rows' m)) its ∙ known_new);
+    }
+
+    -- ---- truth, order and rest
+
+    truth : Truth v.base rows' (truths v) v.journal v.asked
+    truth = record {
+      legal = sound.truth.legal;
+      rising = sound.truth.rising;
+      seen = sound.truth.seen;
+      true =
+          kept (λ r. IsTruth v.base r.range (truths v r) v.journal) (truth_of_half v sound row low has_row owner from refl refl low_half)
+          (truth_of_half v sound row high has_row owner from refl refl high_half) sound.truth.true;
+    }
+
+    order : Order rows' (truths v) (rests v)
+    order = record {
+      above =
+          kept (λ r. AreAbove (items_of (truths v r)) (items_of (rests v r))) (order_of_half v sound row low has_row owner from refl refl low_half)
+          (order_of_half v sound row high has_row owner from refl refl high_half) sound.order.above;
+    }
+
+    -- nothing hands a half over
+    hands_none : (n t : ℕ) (r : Range) (body : Body) → handed_by (record { tablet = n; range = r; term = t; phase = Owned owner from }) handovers' body ≡ None
+    hands_none n t r (bodies.Transfer transfer) = refl
+    hands_none n t r (bodies.Grant grant) = go (eqb grant.tenure.tablet n)
+      where
+        handed : Handed
+        handed = record { floor = grant.floor; ends = grant.ends }
+
+        go : (b : Bool) → cond (b && false) (Some handed) None ≡ None
+        go true = refl
+        go false = refl
+    hands_none n t r _ = refl
+
+    second_same : (x : Row) → Contains v.rows x → (x.tablet ≡ tablet → ⊥) → (member : Option Member) → second_has handovers' x member ≡ second_has v.handovers x member
+    second_same x has unlike None = refl
+    second_same x has unlike (Some member) = ap Some (sym (of_row x has unlike member.master))
+
+    for_grant_same : (x : Row) → Contains v.rows x → (x.tablet ≡ tablet → ⊥) → handed_for_grant x handovers' v.handed ≡ handed_for_grant x v.handovers v.handed
+    for_grant_same x has unlike =
+        ap (λ (o : Option Handover). cond (is_waiting o) (get v.handed x.tablet) None) (second_same x has unlike (second_of (lineage_of x.phase)))
+
+    by_message_same : (x : Row) → Contains v.rows x → (x.tablet ≡ tablet → ⊥) → (body : Body) → handed_by x handovers' body ≡ handed_by x v.handovers body
+    by_message_same x has unlike (bodies.Grant grant) =
+        ap (λ (o : Option Handover). cond (eqb grant.tenure.tablet x.tablet && is_waiting_at o grant.tenure.term) (Some (record { floor = grant.floor; ends = grant.ends })) None)
+        (second_same x has unlike (second_of (lineage_of x.phase)))
+    by_message_same x has unlike _ = refl
+
+    abbrev Floors : Row → Option Handed → Type 0
+    Floors x given = IfSome given (λ h. IsNext (truths v x ++ rests v x) h.floor)
+
+    -- a bystander does not speak
+    bystander_silent : (role : Role) (own applied : ℕ) → Holds (bond_of Bystander role) term own applied → is_serving role ≡ false
+    bystander_silent roles.Absent own applied holds = refl
+    bystander_silent roles.Frozen own applied holds = refl
+    bystander_silent (roles.Wanting place) own applied holds = refl
+    bystander_silent roles.Serving own applied holds = absurd holds
+    bystander_silent roles.Closing own applied holds = absurd holds
+    bystander_silent roles.Receiving own applied holds = absurd holds
+    bystander_silent (roles.Joining entry) own applied holds = absurd holds
+    bystander_silent (roles.Rebuilding place entry) own applied holds = absurd holds
+
+    absent_silent : (role : Role) → is_absent role ≡ true → is_serving role ≡ false
+    absent_silent roles.Absent is = refl
+    absent_silent roles.Serving is = absurd (cc is)
+    absent_silent roles.Closing is = absurd (cc is)
+    absent_silent roles.Frozen is = absurd (cc is)
+    absent_silent (roles.Wanting place) is = absurd (cc is)
+    absent_silent roles.Receiving is = absurd (cc is)
+    absent_silent (roles.Joining entry) is = absurd (cc is)
+    absent_silent (roles.Rebuilding place entry) is = absurd (cc is)
+
+    -- the counter of the owner is next for the row
+    owner_next : (q : ℕ) → Serves q → IsNext (truths v row ++ rests v row) (v.handovers q tablet).counter
+    owner_next q serves =
+        in_row
+        (λ r. StillCounts (v.live q) (v.handovers q r.tablet).term r.term → speaks (post_of r.phase q) (v.handovers q r.tablet) r.term ≡ true
+        → IsNext (truths v r ++ rests v r) (v.handovers q r.tablet).counter) (sound.counters.counted q) (inl serves.0)
+        (ap (λ (b : Bool). speaks (cond b (Owner from) Bystander) (v.handovers q tablet) term) (eq-eqb owner q (sym serves.1)))
+
+    counters : Counters v.base rows' (truths v) (rests v) v.written handovers' v.live v.handed v.journal v.wire
+    counters = record {
+      low =
+          kept (λ r. AreAboveMap r.range (map_after (base_map v.base) v.journal) (truths v r)) (low_of_half v sound row low has_row owner from refl refl low_half)
+          (low_of_half v sound row high has_row owner from refl refl high_half) sound.counters.low;
+      moving = kept (λ r. IfSome (target_truth v.written v.handed r r.phase) (AreAboveMap r.range (map_after (base_map v.base) v.journal))) tt tt sound.counters.moving;
+      counted = λ q.
+          each
+          (λ r. StillCounts (v.live q) (handovers' q r.tablet).term r.term → speaks (post_of r.phase q) (handovers' q r.tablet) r.term ≡ true
+          → IsNext (truths v r ++ rests v r) (handovers' q r.tablet).counter)
+          (by_post (λ post h. speaks post h (term + 1) ≡ true → IsNext (truths v low ++ rests v low) h.counter) q tablet (inl refl)
+          (λ serves _ says. next_of_half v sound row low has_row owner from refl refl low_half (v.handovers q tablet).counter (owner_next q serves))
+          (λ _ its. absurd (new_apart (sym its)))
+          (λ lives away says. absurd (false≢true (sym (bystander_silent (v.handovers q tablet).role (v.handovers q tablet).term (v.written q).applied (bystands q lives away)) ∙ says))))
+          (by_post (λ post h. speaks post h (term + 1) ≡ true → IsNext (truths v high ++ rests v high) h.counter) q new (inr refl)
+          (λ _ its. absurd (new_apart its))
+          (λ serves _ says. next_of_half v sound row high has_row owner from refl refl high_half (v.handovers q tablet).counter (owner_next q serves))
+          (λ lives away says. absurd (false≢true (sym (absent_silent (v.handovers q new).role (absent_before q)) ∙ says))))
+          (λ x has unlike.
+          by_row x has unlike q
+          (λ h. StillCounts (v.live q) h.term x.term → speaks (post_of x.phase q) h x.term ≡ true → IsNext (truths v x ++ rests v x) h.counter)
+          (All-contains
+          (λ r. StillCounts (v.live q) (v.handovers q r.tablet).term r.term → speaks (post_of r.phase q) (v.handovers q r.tablet) r.term ≡ true
+          → IsNext (truths v r ++ rests v r) (v.handovers q r.tablet).counter) v.rows x (sound.counters.counted q) has));
+      handed_on =
+          each (λ r. Floors r (handed_for_grant r handovers' v.handed)) tt tt
+          (λ x has unlike. subst (Floors x) (sym (for_grant_same x has unlike)) (All-contains (λ r. Floors r (handed_for_grant r v.handovers v.handed)) v.rows x sound.counters.handed_on has));
+      sent = λ n m there.
+          each (λ r. Floors r (handed_by r handovers' m.body)) (subst (Floors low) (sym (hands_none tablet (term + 1) low.range m.body)) tt)
+          (subst (Floors high) (sym (hands_none new (term + 1) high.range m.body)) tt)
+          (λ x has unlike. subst (Floors x) (sym (by_message_same x has unlike m.body)) (All-contains (λ r. Floors r (handed_by r v.handovers m.body)) v.rows x (sound.counters.sent n m there) has));
+    }
