@@ -1,8 +1,8 @@
 -- A view stays sound when an owned row is split in two, and its owner, if it lives, serves both halves.
 use Rattle.std.proofs.Common.{◌≡◌, ℕ, ◌+◌, ◌≤◌, ◌<◌, Bool, true, false, cond, ◌&&◌, ◌||◌, List, [], ◌∷◌, ◌++◌, Option, Some, None, eqb, leb, refl, sym, ap, subst, ◌∙◌, ⊎_elim, arith, ◌⊎◌, inl, inr}
-use Rattle.std.specs.Prelude.{⊤, IfSome, is_some, drop}
+use Rattle.std.specs.Prelude.{⊤, ◌-◌, IfSome, drop, filter, is_some, max}
 use Rattle.std.specs.List.{All, Contains, flat_map, list_any}
-use Rattle.std.proofs.lemmas.Bool.{and_parts, cases_Bool, cases_eq, cases_lt, eq-eqb, eqb-true, false≢true, ne_eqb, or_left, or_right}
+use Rattle.std.proofs.lemmas.Bool.{and_parts, cases_Bool, cases_eq, cases_lt, eq-eqb, eqb-true, false≢true, ne_eqb, or_from, or_left, or_parts, or_right}
 use Rattle.std.proofs.lemmas.Bool.Decides.{nat_tests}
 use Rattle.std.proofs.lemmas.List.{append-nil}
 use Rattle.std.proofs.lemmas.List.Elements.{All-contains, All-nil, All-cons, All-weaker}
@@ -11,6 +11,7 @@ use Rattle.std.specs.Cmp.Lexicographic.{bytes_decides}
 use Rattle.rk_types.specs.Hashing.{hash_of}
 use Rattle.rk_types.specs.NumberMap.{get}
 use Rattle.rk_types.specs.Range.{has, meets}
+use Rattle.rk_types.specs.declared.call.Call.{Call}
 use Rattle.rk_types.specs.declared.call.Ended.{Ended}
 use Rattle.rk_types.specs.declared.held.Held.{Held}
 use Rattle.rk_types.specs.declared.history.Placed.{Placed}
@@ -44,19 +45,21 @@ use Rattle.rk_message.specs.declared.message.Body.TheVariants as bodies
 use Rattle.rk_world.specs.Base.{newest_entry, base_map}
 use Rattle.rk_world.specs.Coordinator.{Handed, new_row}
 use Rattle.rk_world.specs.Ends.{items_of, told}
-use Rattle.rk_world.specs.Lineage.{is_member, second_of}
+use Rattle.rk_world.specs.Lineage.{is_member, last_of, second_of}
 use Rattle.rk_world.specs.Marks.{unmarked_from}
 use Rattle.rk_world.specs.Master.{touches}
-use Rattle.rk_world.specs.Material.{of_key, side_entries}
+use Rattle.rk_world.specs.Material.{is_joined_in, of_key, side_entries}
 use Rattle.rk_world.specs.Notices.{names}
 use Rattle.rk_world.specs.Premises.{IsMaster}
 use Rattle.rk_world.specs.Ranges.{has_all, has_key}
 use Rattle.rk_world.specs.RoleTests.{is_absent, is_idle, may_have_staged}
 use Rattle.rk_world.specs.Step.{tablet_added, with_added}
 use Rattle.rk_world.specs.World.{World, master_at, tablet_in, with_master}
-use Rattle.rk_world.specs.Written.{member_truth, applied_entries}
+use Rattle.rk_world.specs.Written.{Written, member_truth, applied_entries}
 use Rattle.rk_world.specs.declared.work.Mark.{Mark}
-use Rattle.rk_done.specs.Completions.{ends_of}
+use Rattle.rk_done.specs.Completions.{Completions, ends_of}
+use Rattle.rk_world.specs.Gather.{Gather}
+use Rattle.rk_world.specs.Tablet.{Pulling}
 use Rattle.rk_sound.specs.View.{View, view, truths, rests}
 use Rattle.rk_sound.specs.Rows.{IsFormed, IsPlaced, Rows}
 use Rattle.rk_sound.specs.Terms.{HandoverFits, SentFits, Terms, range_in, tenure_in}
@@ -66,10 +69,10 @@ use Rattle.rk_sound.specs.Roles.{KeepTerm, RoleFits, Roles}
 use Rattle.rk_sound.specs.Truth.{IsTruth, Truth}
 use Rattle.rk_sound.specs.Order.{AreAbove, Order}
 use Rattle.rk_sound.specs.Handing.{handed_by, handed_for_grant, is_waiting, is_waiting_at, second_has, target_truth}
-use Rattle.rk_sound.specs.Calls.{AreHandedOver, IsKnown, IsReached, IsStagedEnd, ReachAll, TellAll, is_record_in}
+use Rattle.rk_sound.specs.Calls.{AreHandedOver, Calls, IsKnown, IsReached, IsStagedEnd, ReachAll, TellAll, is_record_in}
 use Rattle.rk_sound.specs.Counters.{AreAboveMap, Counters, IsNext}
-use Rattle.rk_sound.specs.Rest.{FirstIsDone, IsRest, OnlyIsUnnamed}
-use Rattle.rk_sound.specs.Tables.{HasItems, IsTableOf, has_all_items}
+use Rattle.rk_sound.specs.Rest.{FirstIsDone, IsRest, OnlyIsUnnamed, Rest, Waits}
+use Rattle.rk_sound.specs.Tables.{HasItems, IsTableOf, Tables, has_all_items}
 use Rattle.rk_sound.specs.Receives.{HandedFits, IsHandedBy, MembersFit, NamedFit, is_granted}
 use Rattle.rk_sound.specs.Rebuilds.{HasOwnRange, MarkFits, RowIsRebuilt}
 use Rattle.rk_sound.specs.Messages.{SaysOf, PrepareFits, ReadyIn, CloseFits, TransferIn, GrantAgrees, AskAgrees, PulledAgrees, GotAgrees, ByMaster, IfMaster, IsOfTarget, JoinedIn, OwnFits, ReleaseFits, RebuildFits, RebuiltIn, IsOf}
@@ -84,13 +87,14 @@ use Rattle.rk_laws_parts.proofs.Missed.{Misses, counting_none, drop_missed, from
 use Rattle.rk_laws_parts.proofs.Put.{put2_by, put2_here, put2_other, put2_same}
 use Rattle.rk_laws_parts.proofs.Receives.{IsBareOf, IsTargetIn}
 use Rattle.rk_laws_parts.proofs.Rebuilds.{IsRebuilderIn}
-use Rattle.rk_laws_parts.proofs.Apart.{one_precedes}
+use Rattle.rk_laws_parts.proofs.Apart.{one_precedes, same_number}
 use Rattle.rk_laws_parts.proofs.Serving.{meets_either}
 use Rattle.rk_laws_parts.proofs.TurnedRows.{stands_found}
 use Rattle.rk_laws_parts.proofs.Views.{view_kept}
 use Rattle.rk_laws_parts.proofs.BeforeTurn.{at_most}
 use Rattle.rk_laws_split.specs.Halves.{IsHalf, IsOfWhole}
 use Rattle.rk_laws_split.specs.Small.{as_half, lower_row, rows_halved, upper_row}
+use Rattle.rk_laws_split.proofs.HalfCounts.{filter_finer}
 use Rattle.rk_laws_split.proofs.HalfOfRow.{low_of_half, next_of_half, order_of_half, reached_of_half, recorded_of_half, rest_of_half, table_of_half, truth_of_half}
 use Rattle.rk_laws_split.proofs.Ranges.{all_of_half, in_whole, meets_whole}
 use Rattle.rk_laws_split.proofs.SplitRows.{covered_halved, each_halved, halved_apart, halves_apart, halves_apart_turned, known_halved, lower_half, lower_stands, other, others_stand, unknown, upper_half, upper_stands}
@@ -657,3 +661,313 @@ module _ (v : View) (tablet : ℕ) (range : Range) (term owner from at new : ℕ
           (subst (Floors high) (sym (hands_none new (term + 1) high.range m.body)) tt)
           (λ x has unlike. subst (Floors x) (sym (by_message_same x has unlike m.body)) (All-contains (λ r. Floors r (handed_by r v.handovers m.body)) v.rows x (sound.counters.sent n m there) has));
     }
+
+    -- ---- what is staged
+
+    -- what a test that implies another one finds
+    any_finer : (p q : Entry → Bool) (list : List Entry) → ((entry : Entry) → p entry ≡ true → q entry ≡ true) → list_any q list ≡ false → list_any p list ≡ false
+    any_finer p q [] finer none = refl
+    any_finer p q (entry ∷ list) finer none =
+        let parts = or_parts (q entry) (list_any q list) none in
+        or_from (p entry) (list_any p list)
+        (⊎_elim (λ (passes : p entry ≡ true). absurd (false≢true (sym parts.0 ∙ finer entry passes))) (λ (e : p entry ≡ false). e) (cases_Bool (p entry)))
+        (any_finer p q list finer parts.1)
+
+    touches_row : (half : Range) → IsHalf range half → (entry : Entry) → touches half entry ≡ true → touches range entry ≡ true
+    touches_row half is (entries.Held held) met = in_whole range half is held.table (hash_of held.key) met
+    touches_row half is (entries.Refused refused) met = in_whole range half is refused.table (hash_of refused.key) met
+    touches_row half is (entries.Carried carried) met = meets_whole range half is carried.range met
+    touches_row half is (entries.Joined joined) met = meets_whole range half is joined.range met
+
+    joined_row : (half : Range) → IsHalf range half → (entry : Entry) → is_joined_in half entry ≡ true → is_joined_in range entry ≡ true
+    joined_row half is (entries.Joined joined) met = meets_whole range half is joined.range met
+    joined_row half is (entries.Held held) met = met
+    joined_row half is (entries.Refused refused) met = met
+    joined_row half is (entries.Carried carried) met = met
+
+    unnamed_half : (half : Range) → IsHalf range half → (n t : ℕ) → OnlyIsUnnamed v.written half (record { master = owner; from = from } ∷ [])
+    unnamed_half half is n t =
+        let w : Written = v.written owner in
+        let list : List Entry = drop (max from w.applied) w.entries in
+        let none : filter (is_joined_in range) list ≡ [] = in_row (λ r. OnlyIsUnnamed v.written r.range (lineage_of r.phase)) sound.rest.unnamed in
+        filter_finer (is_joined_in half) (is_joined_in range) list
+        (all_by (λ entry. is_joined_in half entry ≡ true → is_joined_in range entry ≡ true) list (λ entry _. joined_row half is entry))
+        ∙ ap (filter (is_joined_in half)) none
+
+    bystander_idle : (role : Role) (own applied : ℕ) → Holds (bond_of Bystander role) term own applied → is_idle role ≡ true
+    bystander_idle roles.Absent own applied holds = refl
+    bystander_idle roles.Frozen own applied holds = refl
+    bystander_idle (roles.Wanting place) own applied holds = refl
+    bystander_idle roles.Serving own applied holds = absurd holds
+    bystander_idle roles.Closing own applied holds = absurd holds
+    bystander_idle roles.Receiving own applied holds = absurd holds
+    bystander_idle (roles.Joining entry) own applied holds = absurd holds
+    bystander_idle (roles.Rebuilding place entry) own applied holds = absurd holds
+
+    idle_half : (half : Range) → IsHalf range half → (q : ℕ) → v.live q ≡ true → eqb owner q ≡ false → list_any (touches half) (drop (v.written q).applied (v.written q).entries) ≡ false
+    idle_half half is q lives away =
+        any_finer (touches half) (touches range) (drop (v.written q).applied (v.written q).entries) (touches_row half is)
+        (in_row
+        (λ r. StillCounts (v.live q) (v.handovers q r.tablet).term r.term → is_idle (v.handovers q r.tablet).role ≡ true
+        → list_any (touches r.range) (drop (v.written q).applied (v.written q).entries) ≡ false) (sound.rest.idle q) (inl lives)
+        (bystander_idle (v.handovers q tablet).role (v.handovers q tablet).term (v.written q).applied (bystands q lives away)))
+
+    -- a key of the row is in one of the halves
+    in_a_half : (table hash : ℕ) → has range table hash ≡ true → (has low.range table hash ≡ true) ⊎ (has high.range table hash ≡ true)
+    in_a_half table hash inside =
+        go range.table range.first range.last at table hash inside (cases_lt hash at)
+      where
+        below : (t f l at u h : ℕ) → (eqb t u && leb f h && leb h l) ≡ true → h < at → (eqb t u && leb f h && leb h (at - 1)) ≡ true
+        below t f l at u h inside less = grind (arith, nat_tests)
+
+        from_it : (t f l at u h : ℕ) → (eqb t u && leb f h && leb h l) ≡ true → at ≤ h → (eqb t u && leb at h && leb h l) ≡ true
+        from_it t f l at u h inside more = grind (arith, nat_tests)
+
+        go : (t f l at u h : ℕ) → (eqb t u && leb f h && leb h l) ≡ true → (h < at) ⊎ (at ≤ h) → ((eqb t u && leb f h && leb h (at - 1)) ≡ true) ⊎ ((eqb t u && leb at h && leb h l) ≡ true)
+        go t f l at u h inside =
+            ⊎_elim (λ (less : h < at). inl (below t f l at u h inside less)) (λ (more : at ≤ h). inr (from_it t f l at u h inside more))
+
+    abbrev WaitsNow : ℕ → ℕ → Call → Type 0
+    WaitsNow q place call = Waits rows' (handovers' q) (v.written q) q place call
+
+    waits_half : (q place : ℕ) (call : Call) → v.live q ≡ true → (wait : Waits v.rows (v.handovers q) (v.written q) q place call) → wait.row ≡ row → WaitsNow q place call
+    waits_half q place call lives wait same =
+        let last_is : Some (record { master = owner; from = from }) ≡ Some wait.last = sym (ap (λ (r : Row). last_of (lineage_of r.phase)) same) ∙ wait.is_last in
+        let own : record { master = owner; from = from } ≡ wait.last = cc last_is in
+        let serves : Serves q = (lives, sym wait.here ∙ ap (λ (m : Member). m.master) (sym own)) in
+        let inside : has range call.table (hash_of call.key) ≡ true = ap (λ (r : Row). has r.range call.table (hash_of call.key)) (sym same) ∙ wait.in_row in
+        ⊎_elim
+        (λ (below : has low.range call.table (hash_of call.key) ≡ true). record {
+          behind = wait.behind;
+          entry = wait.entry;
+          stands = wait.stands;
+          own = wait.own;
+          unmarked = wait.unmarked;
+          row = low;
+          has_row = lower_stands v.rows row at new map has_row free splits;
+          in_row = below;
+          last = wait.last;
+          is_last = last_is;
+          here = wait.here;
+          from = wait.from;
+          may_stage =
+              by (λ h. may_have_staged h.role ≡ true) q tablet (λ unlike. absurd ((unlike serves).0 refl)) (λ _ _. refl) (λ _ its. absurd (new_apart (sym its)));
+        })
+        (λ (above : has high.range call.table (hash_of call.key) ≡ true). record {
+          behind = wait.behind;
+          entry = wait.entry;
+          stands = wait.stands;
+          own = wait.own;
+          unmarked = wait.unmarked;
+          row = high;
+          has_row = upper_stands v.rows row at new map has_row free splits;
+          in_row = above;
+          last = wait.last;
+          is_last = last_is;
+          here = wait.here;
+          from = wait.from;
+          may_stage =
+              by (λ h. may_have_staged h.role ≡ true) q new (λ unlike. absurd ((unlike serves).1 refl)) (λ _ its. absurd (new_apart its)) (λ _ _. refl);
+        })
+        (in_a_half call.table (hash_of call.key) inside)
+
+    waits_on : (q place : ℕ) (call : Call) → v.live q ≡ true → Waits v.rows (v.handovers q) (v.written q) q place call → WaitsNow q place call
+    waits_on q place call lives wait =
+        ⊎_elim
+        (λ (same : wait.row.tablet ≡ tablet). waits_half q place call lives wait (same_number v.rows wait.row row map wait.has_row has_row same))
+        (λ (unlike : wait.row.tablet ≡ tablet → ⊥). record {
+          behind = wait.behind;
+          entry = wait.entry;
+          stands = wait.stands;
+          own = wait.own;
+          unmarked = wait.unmarked;
+          row = wait.row;
+          has_row = others_stand v.rows row at new map has_row free splits wait.row wait.has_row unlike;
+          in_row = wait.in_row;
+          last = wait.last;
+          is_last = wait.is_last;
+          here = wait.here;
+          from = wait.from;
+          may_stage = by_row wait.row wait.has_row unlike q (λ h. may_have_staged h.role ≡ true) wait.may_stage;
+        })
+        (cases_eq wait.row.tablet tablet)
+
+    rest : Rest v.base rows' (truths v) (rests v) v.written handovers' v.calls v.live v.journal v.asked
+    rest = record {
+      goes_on =
+          kept (λ r. IsRest v.base r.range (truths v r) (rests v r) v.journal v.asked) (rest_of_half v sound row low has_row owner from refl refl low_half)
+          (rest_of_half v sound row high has_row owner from refl refl high_half) sound.rest.goes_on;
+      done = kept (λ r. FirstIsDone v.written r.range (lineage_of r.phase)) tt tt sound.rest.done;
+      unnamed =
+          kept (λ r. OnlyIsUnnamed v.written r.range (lineage_of r.phase)) (unnamed_half low.range low_half 0 0) (unnamed_half high.range high_half 0 0) sound.rest.unnamed;
+      idle = λ q.
+          each
+          (λ r. StillCounts (v.live q) (handovers' q r.tablet).term r.term → is_idle (handovers' q r.tablet).role ≡ true
+          → list_any (touches r.range) (drop (v.written q).applied (v.written q).entries) ≡ false)
+          (by_post (λ post h. is_idle h.role ≡ true → list_any (touches low.range) (drop (v.written q).applied (v.written q).entries) ≡ false) q tablet (inl refl)
+          (λ _ _ idles. absurd (false≢true idles)) (λ _ its. absurd (new_apart (sym its))) (λ lives away idles. idle_half low.range low_half q lives away))
+          (by_post (λ post h. is_idle h.role ≡ true → list_any (touches high.range) (drop (v.written q).applied (v.written q).entries) ≡ false) q new (inr refl)
+          (λ _ its. absurd (new_apart its)) (λ _ _ idles. absurd (false≢true idles)) (λ lives away idles. idle_half high.range high_half q lives away))
+          (λ x has unlike.
+          by_row x has unlike q
+          (λ h. StillCounts (v.live q) h.term x.term → is_idle h.role ≡ true → list_any (touches x.range) (drop (v.written q).applied (v.written q).entries) ≡ false)
+          (All-contains
+          (λ r. StillCounts (v.live q) (v.handovers q r.tablet).term r.term → is_idle (v.handovers q r.tablet).role ≡ true
+          → list_any (touches r.range) (drop (v.written q).applied (v.written q).entries) ≡ false) v.rows x (sound.rest.idle q) has));
+      waiting = λ q lives place call there. waits_on q place call lives (sound.rest.waiting q lives place call there);
+      are_last = sound.rest.are_last;
+      found = sound.rest.found;
+    }
+
+    -- ---- records
+
+    table_of_owner : (half : Row) → half.phase ≡ Owned owner from → IsHalf range half.range → (q : ℕ) → v.live q ≡ true → (h : Handover) → has_all_items (cond (eqb owner q) (Owner from) Bystander) h (term + 1) ≡ true → IsTableOf half.range (member_truth v.written half.range (record { master = owner; from = from })) (v.records q)
+    table_of_owner half phase is q lives h has_all = go (eqb owner q) refl has_all
+      where
+        go : (b : Bool) → eqb owner q ≡ b → has_all_items (cond b (Owner from) Bystander) h (term + 1) ≡ true → IsTableOf half.range (member_truth v.written half.range (record { master = owner; from = from })) (v.records q)
+        go true e has_all =
+            table_of_half v sound row half has_row owner from refl phase is (v.records q)
+            (in_row (λ r. has_all_items (post_of r.phase q) (v.handovers q r.tablet) r.term ≡ true → HasItems r v.written (v.records q)) (sound.records.items q lives)
+            (ap (λ (b : Bool). has_all_items (cond b (Owner from) Bystander) (v.handovers q tablet) term) e))
+        go false e has_all = absurd (false≢true has_all)
+
+    tables : Tables rows' v.written handovers' v.records v.live
+    tables = record {
+      ordered = sound.records.ordered;
+      items = λ q lives.
+          each (λ r. has_all_items (post_of r.phase q) (handovers' q r.tablet) r.term ≡ true → HasItems r v.written (v.records q))
+          (table_of_owner low refl low_half q lives (handovers' q tablet)) (table_of_owner high refl high_half q lives (handovers' q new))
+          (λ x has unlike.
+          by_row x has unlike q (λ h. has_all_items (post_of x.phase q) h x.term ≡ true → HasItems x v.written (v.records q))
+          (All-contains (λ r. has_all_items (post_of r.phase q) (v.handovers q r.tablet) r.term ≡ true → HasItems r v.written (v.records q)) v.rows x
+          (sound.records.items q lives) has));
+    }
+
+    -- ---- what else masters have of tablets
+
+    -- another one than the halves has what it had
+    abbrev IsAway : {X : Type 0} → (ℕ → ℕ → X) → (ℕ → ℕ → X) → Type 0
+    IsAway was is = (q n : ℕ) → (Serves q → (n ≡ tablet → ⊥) × (n ≡ new → ⊥)) → is q n ≡ was q n
+
+    module _ (completions' : ℕ → ℕ → Completions) (pullings' : ℕ → ℕ → Pulling) (gathers' : ℕ → ℕ → Gather) (merged' : ℕ → ℕ → List Ended) (completions_away : IsAway v.completions completions') (pullings_away : IsAway v.pullings pullings') (gathers_away : IsAway v.gathers gathers') (merged_away : IsAway v.merged merged') (ends_stay : (q n : ℕ) → Serves q → (n ≡ tablet) ⊎ (n ≡ new) → completions' q n ≡ v.completions q tablet) where
+      apart_of : (x : Row) → Contains v.rows x → (x.tablet ≡ tablet → ⊥) → (q : ℕ) → Serves q → (x.tablet ≡ tablet → ⊥) × (x.tablet ≡ new → ⊥)
+      apart_of x has unlike q serves = (unlike, none_new x has)
+
+      -- ---- calls
+
+      reached_half : (half : Range) → IsHalf range half → (list : List Ended) → ReachAll range v.journal list → ReachAll half v.journal list
+      reached_half half is list all =
+          All-weaker (λ placed. is_record_in range placed ≡ true → is_mutation placed.call.op ≡ true → IsReached list placed)
+          (λ placed. is_record_in half placed ≡ true → is_mutation placed.call.op ≡ true → IsReached list placed)
+          (λ placed its inside. its (in_whole range half is placed.call.table (hash_of placed.call.key) inside)) v.journal all
+
+      owner_answers : (q : ℕ) → Serves q → ReachAll range v.journal (ends_of (v.completions q tablet))
+      owner_answers q serves =
+          in_row
+          (λ r. StillCounts (v.live q) (v.handovers q r.tablet).term r.term → speaks (post_of r.phase q) (v.handovers q r.tablet) r.term ≡ true
+          → ReachAll r.range v.journal (ends_of (v.completions q r.tablet))) (sound.calls.answering q) (inl serves.0)
+          (ap (λ (b : Bool). speaks (cond b (Owner from) Bystander) (v.handovers q tablet) term) (eq-eqb owner q (sym serves.1)))
+
+      owner_answers_now : (q n : ℕ) → Serves q → (n ≡ tablet) ⊎ (n ≡ new) → ReachAll range v.journal (ends_of (completions' q n))
+      owner_answers_now q n serves its =
+          subst (λ (c : Completions). ReachAll range v.journal (ends_of c)) (sym (ends_stay q n serves its)) (owner_answers q serves)
+
+      -- no end of the row is staged by a rebuild of it
+      not_staged : (q n : ℕ) (t : ℕ) (end : Ended) → n ≡ tablet → IsStagedEnd v.rows (rests v) q n t end → ⊥
+      not_staged q n t end its s =
+          let same : s.row ≡ row = same_number v.rows s.row row map s.stands has_row (s.number ∙ its) in
+          let clash : Owned owner from ≡ Rebuilding (lineage_of s.row.phase) q = sym (ap (λ (r : Row). r.phase) same) ∙ s.rebuilt in
+          absurd (cc clash)
+
+      abbrev KnownAt : ℕ → ℕ → Ended → Type 0
+      KnownAt q n end = IsKnown v.base v.journal end ⊎ IsStagedEnd rows' (rests v) q n (handovers' q n).term end
+
+      end_known : (q n : ℕ) (end : Ended) → IsKnown v.base v.journal end ⊎ IsStagedEnd v.rows (rests v) q n (v.handovers q n).term end → KnownAt q n end
+      end_known q n end =
+          ⊎_elim (λ (knows : IsKnown v.base v.journal end). inl knows)
+          (λ (s : IsStagedEnd v.rows (rests v) q n (v.handovers q n).term end).
+          let unlike : s.row.tablet ≡ tablet → ⊥ = λ its. not_staged q n (v.handovers q n).term end (sym s.number ∙ its) s in
+          inr (record {
+            row = s.row;
+            stands = others_stand v.rows row at new map has_row free splits s.row s.stands unlike;
+            told = s.told;
+            number = s.number;
+            rebuilt = s.rebuilt;
+            at_term =
+                ap (λ (m : ℕ). (handovers' q m).term) (sym s.number) ∙ sym (ap (λ (h : Handover). h.term) (of_row s.row s.stands unlike q))
+                ∙ ap (λ (m : ℕ). (v.handovers q m).term) s.number ∙ s.at_term;
+          }))
+
+      known_served : (q n : ℕ) → Serves q → (n ≡ tablet) ⊎ (n ≡ new) → All (KnownAt q n) (ends_of (completions' q n))
+      known_served q n serves its =
+          subst (λ (c : Completions). All (KnownAt q n) (ends_of c)) (sym (ends_stay q n serves its))
+          (All-weaker (λ end. IsKnown v.base v.journal end ⊎ IsStagedEnd v.rows (rests v) q tablet (v.handovers q tablet).term end) (KnownAt q n)
+          (λ end.
+          ⊎_elim (λ (knows : IsKnown v.base v.journal end). inl knows)
+          (λ (s : IsStagedEnd v.rows (rests v) q tablet (v.handovers q tablet).term end). absurd (not_staged q tablet (v.handovers q tablet).term end refl s)))
+          (ends_of (v.completions q tablet)) (sound.calls.known q tablet serves.0))
+
+      known_away : (q n : ℕ) → v.live q ≡ true → (Serves q → (n ≡ tablet → ⊥) × (n ≡ new → ⊥)) → All (KnownAt q n) (ends_of (completions' q n))
+      known_away q n lives unlike =
+          subst (λ (c : Completions). All (KnownAt q n) (ends_of c)) (sym (completions_away q n unlike))
+          (All-weaker (λ end. IsKnown v.base v.journal end ⊎ IsStagedEnd v.rows (rests v) q n (v.handovers q n).term end) (KnownAt q n) (end_known q n)
+          (ends_of (v.completions q n)) (sound.calls.known q n lives))
+
+      known_all : (q n : ℕ) → v.live q ≡ true → All (KnownAt q n) (ends_of (completions' q n))
+      known_all q n lives =
+          ⊎_elim
+          (λ (is : q ≡ owner).
+          ⊎_elim (λ (its : n ≡ tablet). known_served q n (lives, is) (inl its))
+          (λ (one : n ≡ tablet → ⊥).
+          ⊎_elim (λ (its : n ≡ new). known_served q n (lives, is) (inr its)) (λ (other : n ≡ new → ⊥). known_away q n lives (λ _. (one, other)))
+          (cases_eq n new))
+          (cases_eq n tablet))
+          (λ (away : q ≡ owner → ⊥). known_away q n lives (λ serves. absurd (away serves.1)))
+          (cases_eq q owner)
+
+      calls : Calls v.base rows' (truths v) (rests v) v.written handovers' completions' v.live v.handed v.journal v.wire
+      calls = record {
+        once = sound.calls.once;
+        reached =
+            kept (λ r. TellAll r.range v.journal (truths v r)) (reached_of_half v sound row low has_row owner from refl refl low_half)
+            (reached_of_half v sound row high has_row owner from refl refl high_half) sound.calls.reached;
+        recorded =
+            kept (λ r. All (IsKnown v.base v.journal) (told (truths v r))) (recorded_of_half v sound row low has_row owner from refl refl low_half)
+            (recorded_of_half v sound row high has_row owner from refl refl high_half) sound.calls.recorded;
+        moving = kept (λ r. IfSome (target_truth v.written v.handed r r.phase) (TellAll r.range v.journal)) tt tt sound.calls.moving;
+        answering = λ q.
+            each
+            (λ r. StillCounts (v.live q) (handovers' q r.tablet).term r.term → speaks (post_of r.phase q) (handovers' q r.tablet) r.term ≡ true
+            → ReachAll r.range v.journal (ends_of (completions' q r.tablet)))
+            (by_post (λ post h. speaks post h (term + 1) ≡ true → ReachAll low.range v.journal (ends_of (completions' q tablet))) q tablet (inl refl)
+            (λ serves _ says. reached_half low.range low_half (ends_of (completions' q tablet)) (owner_answers_now q tablet serves (inl refl)))
+            (λ _ its. absurd (new_apart (sym its)))
+            (λ lives away says. absurd (false≢true (sym (bystander_silent (v.handovers q tablet).role (v.handovers q tablet).term (v.written q).applied (bystands q lives away)) ∙ says))))
+            (by_post (λ post h. speaks post h (term + 1) ≡ true → ReachAll high.range v.journal (ends_of (completions' q new))) q new (inr refl)
+            (λ _ its. absurd (new_apart its))
+            (λ serves _ says. reached_half high.range high_half (ends_of (completions' q new)) (owner_answers_now q new serves (inr refl)))
+            (λ lives away says. absurd (false≢true (sym (absent_silent (v.handovers q new).role (absent_before q)) ∙ says))))
+            (λ x has unlike.
+            subst
+            (λ (c : Completions). StillCounts (v.live q) (handovers' q x.tablet).term x.term → speaks (post_of x.phase q) (handovers' q x.tablet) x.term ≡ true
+            → ReachAll x.range v.journal (ends_of c))
+            (sym (completions_away q x.tablet (apart_of x has unlike q)))
+            (by_row x has unlike q
+            (λ h. StillCounts (v.live q) h.term x.term → speaks (post_of x.phase q) h x.term ≡ true → ReachAll x.range v.journal (ends_of (v.completions q x.tablet)))
+            (All-contains
+            (λ r. StillCounts (v.live q) (v.handovers q r.tablet).term r.term → speaks (post_of r.phase q) (v.handovers q r.tablet) r.term ≡ true
+            → ReachAll r.range v.journal (ends_of (v.completions q r.tablet))) v.rows x (sound.calls.answering q) has)));
+        handed_on =
+            each (λ r. IfSome (handed_for_grant r handovers' v.handed) (λ h. AreHandedOver v.base r.range v.journal h.ends)) tt tt
+            (λ x has unlike.
+            subst (λ (o : Option Handed). IfSome o (λ h. AreHandedOver v.base x.range v.journal h.ends)) (sym (for_grant_same x has unlike))
+            (All-contains (λ r. IfSome (handed_for_grant r v.handovers v.handed) (λ h. AreHandedOver v.base r.range v.journal h.ends)) v.rows x sound.calls.handed_on has));
+        sent = λ n m there.
+            each (λ r. IfSome (handed_by r handovers' m.body) (λ h. AreHandedOver v.base r.range v.journal h.ends))
+            (subst (λ (o : Option Handed). IfSome o (λ h. AreHandedOver v.base low.range v.journal h.ends)) (sym (hands_none tablet (term + 1) low.range m.body)) tt)
+            (subst (λ (o : Option Handed). IfSome o (λ h. AreHandedOver v.base high.range v.journal h.ends)) (sym (hands_none new (term + 1) high.range m.body)) tt)
+            (λ x has unlike.
+            subst (λ (o : Option Handed). IfSome o (λ h. AreHandedOver v.base x.range v.journal h.ends)) (sym (by_message_same x has unlike m.body))
+            (All-contains (λ r. IfSome (handed_by r v.handovers m.body) (λ h. AreHandedOver v.base r.range v.journal h.ends)) v.rows x (sound.calls.sent n m there) has));
+        known = known_all;
+      }
