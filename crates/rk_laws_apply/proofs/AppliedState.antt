@@ -31,7 +31,6 @@ use Rattle.rk_sound.specs.Posts.{Bystander, FormerMember, LastRebuilder, OnlyReb
 use Rattle.rk_sound.specs.Rows.{AreApart}
 use Rattle.rk_sound.specs.View.{View, truths}
 use Rattle.rk_sound.specs.Whole.{ReceivesOf, MessagesOf}
-use Rattle.rk_laws_apply.specs.Small.{with_item_of}
 use Rattle.rk_laws_apply.proofs.Inserted.{told_still}
 use Rattle.rk_laws_apply.proofs.ItemPut.{bare_with}
 use Rattle.rk_laws_apply.proofs.MergedEnds.{HasReached, among_all, mapped, merged_reaches, noted_again}
@@ -42,12 +41,12 @@ use Rattle.rk_types.specs.NumberMap.{get}
 use Rattle.rk_types.specs.Range.{meets}
 use Rattle.rk_world.specs.RoleTests.{is_absent, may_have_staged}
 use Rattle.rk_sound.specs.Handing.{is_wanting}
-use Rattle.rk_sound.specs.Receives.{HandedFits, IsBare, IsHandedBy}
+use Rattle.rk_sound.specs.Receives.{HandedFits, IsHandedBy}
 use Rattle.rk_laws_parts.proofs.Apart.{key_outside}
 use Rattle.rk_laws_parts.proofs.Shares.{counts_call}
 use Rattle.rk_laws_apply.proofs.Stagers.{staging_present, staging_wants}
 use Rattle.rk_laws_apply.proofs.TargetApplied.{applied_with}
-use Rattle.rk_laws_apply.proofs.Applies.{Applies, HasApplied, bare_at, members_at, named_at, says_now}
+use Rattle.rk_laws_apply.proofs.Applies.{Applies, StaysBare, HasApplied, bare_at, members_at, named_at, says_now}
 use Rattle.rk_laws_parts.proofs.MoreRecords.{says_still}
 
 -- ---- data
@@ -229,7 +228,7 @@ module _ (v : View) (a : Applying v) where
       a.waits.in_row
 
   -- so none that waits for its grant has it
-  pub waiting_apart : (r : ℕ) → is_wanting (v.handovers a.master r).role ≡ true → is_absent (v.handovers a.master r).role ≡ false → (from : ℕ) (w : Written) → IsBare (v.handovers a.master r).range from w (v.records a.master) → IsBare (v.handovers a.master r).range from w (with_item_of (entry v a) (v.records a.master))
+  pub waiting_apart : (r : ℕ) → is_wanting (v.handovers a.master r).role ≡ true → is_absent (v.handovers a.master r).role ≡ false → StaysBare v a.master (entry v a) r
   waiting_apart r wants there from w bare =
       let apart : r ≡ (its_row v a).tablet → ⊥ = λ its.
       absurd

@@ -180,6 +180,12 @@ pub record HasApplied (range : Range) (from : ℕ) (w : Written) (entry : Entry)
       (x : Held) → Contains (items_of (applied_from range from (record w { applied = w.applied + 1 }))) x
       → Contains (items_in entry) x ⊎ Contains (items_of (applied_from range from w)) x ⊎ IsFound records x
 
+-- whoever has nothing of what a tablet of the master asks for has nothing with the item of an entry
+abbrev pub StaysBare : View → ℕ → Entry → ℕ → Type 0
+StaysBare v master entry tablet =
+    (from : ℕ) (w : Written) → IsBare (v.handovers master tablet).range from w (v.records master)
+    → IsBare (v.handovers master tablet).range from w (with_item_of entry (v.records master))
+
 -- an entry is applied, in a sound view, by which masters keep these last ends
 pub record Applies (v : View) : Type 0 where
   pub master : ℕ
@@ -198,8 +204,7 @@ pub record Applies (v : View) : Type 0 where
       → StandsBehind row.range entry last.from (v.written last.master).applied
   pub wanted :
       (tablet : ℕ) → is_wanting (v.handovers master tablet).role ≡ true → is_absent (v.handovers master tablet).role ≡ false
-      → (from : ℕ) (w : Written) → IsBare (v.handovers master tablet).range from w (v.records master)
-      → IsBare (v.handovers master tablet).range from w (with_item_of entry (v.records master))
+      → StaysBare v master entry tablet
   -- what the truth of a row has it has still, and so has what the master rebuilds
   pub still :
       (row : Row) → Contains v.rows row → (x : Held) → Contains (items_of (truths v row)) x
@@ -304,7 +309,9 @@ module _ (v : View) (b : Applies v) where
       IsTarget other.range first.master truth (member_material v.written other.range first) last.from w
       (v.handovers last.master other.tablet) (v.pullings last.master other.tablet) (get v.handed other.tablet) records
 
-  target_at : (other : Row) → Contains v.rows other → (first last : Member) → lineage_of other.phase ≡ first ∷ last ∷ [] → is_granted (v.handovers last.master other.tablet).role ≡ true → (truth : List Entry) → IsTargetOf other first last truth (v.written last.master) (v.records last.master) → IsTargetOf other first last truth (now.written last.master) (now.records last.master)
+  target_at : (other : Row) → Contains v.rows other → (first last : Member) → lineage_of other.phase ≡ first ∷ last ∷ [] → is_granted (v.handovers last.master other.tablet).role ≡ true → (truth : List Entry)
+      → IsTargetOf other first last truth (v.written last.master) (v.records last.master)
+      → IsTargetOf other first last truth (now.written last.master) (now.records last.master)
   target_at other has first last is granted truth old =
       let w : Written = v.written last.master in
       of_records (IsTargetOf other first last truth (now.written last.master)) last.master

@@ -4,9 +4,8 @@ use Rattle.std.proofs.Common.{◌≡◌, ℕ, ◌+◌, ◌≤◌, ◌<◌, max, 
 use Rattle.std.specs.Prelude.{slice_get}
 use Rattle.std.specs.List.{Contains, flat_map}
 use Rattle.std.proofs.lemmas.Bool.{cases_Bool, cases_eq, cases_lt, cond-false}
-use Rattle.std.proofs.lemmas.List.{drop-append-le, length-append, nil_from_length}
-use Rattle.std.proofs.lemmas.List.Concat.{flat_map-append}
-use Rattle.std.proofs.lemmas.List.Elements.{All-contains, All-nil, Contains-append_cases, Contains-append_left, Contains-append_right, filter-append}
+use Rattle.std.proofs.lemmas.List.{length-append, nil_from_length}
+use Rattle.std.proofs.lemmas.List.Elements.{All-contains, All-nil, Contains-append_left, filter-append}
 use Rattle.rk_types.specs.NumberMap.{get}
 use Rattle.rk_types.specs.Range.{meets}
 use Rattle.rk_types.specs.declared.call.Call.{Call}
@@ -16,7 +15,6 @@ use Rattle.rk_types.specs.declared.range.Range.{Range}
 use Rattle.rk_entry.specs.declared.entry.Entry.{Entry}
 use Rattle.rk_entry.specs.declared.entry.Entry.TheVariants as entries
 use Rattle.rk_entry.specs.declared.entry.Joined.{Joined}
-use Rattle.rk_overlay.proofs.Members.{none_stands, stands_cases}
 use Rattle.rk_table.proofs.Ordered.{filter_kept}
 use Rattle.rk_tablet_map.specs.Phase.{lineage_of}
 use Rattle.rk_tablet_map.specs.declared.row.Row.{Row}
@@ -25,7 +23,6 @@ use Rattle.rk_world.specs.Marks.{is_marked, unmarked, unmarked_from}
 use Rattle.rk_world.specs.Material.{counting, counts, is_joined_in, joined_from, log_material, material_of, named, named_by, side_entries}
 use Rattle.rk_world.specs.Rebuilds.{own_place}
 use Rattle.rk_world.specs.Written.{Written, lineage_rest, lineage_truth, member_material, member_rest, member_truth}
-use Rattle.rk_sound.specs.Rebuilds.{applied_from}
 use Rattle.rk_sound.specs.Receives.{IsFound, NamedFit, named_items}
 use Rattle.rk_sound.specs.Rest.{FirstIsDone, IsEntryOf, OnlyIsUnnamed}
 use Rattle.rk_sound.specs.Rows.{AreApart, IsFormed}
@@ -33,26 +30,16 @@ use Rattle.rk_sound.specs.View.{View}
 use Rattle.rk_sound.specs.Whole.{SoundView}
 use Rattle.rk_laws_parts.proofs.Appending.{formed_apart}
 use Rattle.rk_laws_parts.proofs.Grows.{Extends}
-use Rattle.rk_laws_parts.proofs.Joining.{kept_stands, stands_kept}
 use Rattle.rk_laws_parts.proofs.Needed.{sides_extend}
 use Rattle.rk_laws_parts.proofs.Shares.{append_nil}
 use Rattle.rk_laws_apply.specs.Small.{MayApplyUnmarked, entry_applied, with_one_applied}
 use Rattle.rk_laws_apply.proofs.Keeps.{HasMore, KeepsRow, more_none, told_among, told_from}
-use Rattle.rk_laws_apply.proofs.MergedEnds.{among_all}
-use Rattle.rk_laws_apply.proofs.NamedSides.{IsNamedItem, has_block, named_has, named_in, named_item, side_of, unmarked_all, unmarked_has, unmarked_now, unmarked_within}
-use Rattle.rk_laws_apply.proofs.NextEntry.{dropped_next, nothing_ahead, rest_beside, taken_next, truth_beside, length_first}
+use Rattle.rk_laws_apply.proofs.JoinedOwn.{applied_named, held_of}
+use Rattle.rk_laws_apply.proofs.NamedSides.{IsNamedItem, has_block, named_has, named_in, named_item, unmarked_all, unmarked_now, unmarked_within}
+use Rattle.rk_laws_apply.proofs.NextEntry.{dropped_next, nothing_ahead, rest_beside, truth_beside}
 use Rattle.rk_laws_apply.proofs.Applies.{HasApplied, of_one_applied}
 use Rattle.rk_laws_apply.proofs.Passing.{IsStill, Passing}
 use Rattle.rk_laws_apply.proofs.PassingState.{view_passed}
-
--- an entry that has an item is that item
-held_of : (entry : Entry) (item : Held) → Contains (items_in entry) item → entries.Held item ≡ entry
-held_of (entries.Held held) item at =
-    ⊎_elim (λ (is : held ≡ item). ap entries.Held (sym is)) (λ (none : Contains [] item). absurd (none_stands item none))
-    (stands_cases held [] item at)
-held_of (entries.Refused refused) item at = absurd (none_stands item at)
-held_of (entries.Carried carried) item at = absurd (none_stands item at)
-held_of (entries.Joined joined) item at = absurd (none_stands item at)
 
 -- an item of entries stands among them
 item_entry : (list : List Entry) (item : Held) → Contains (items_of list) item → Contains list (entries.Held item)
@@ -304,98 +291,8 @@ module _ (v : View) (master : ℕ) (joined : Joined) (sound : SoundView v) (may 
   own : (row : Row) → ((x : Held) → Contains (named_items row.range (own_place (v.handovers master row.tablet).role) (v.written master)) x → IsFound (v.records master) x)
       → HasApplied row.range (own_place (v.handovers master row.tablet).role) (v.written master) (entries.Joined joined) (v.records master)
   own row found =
-      let range : Range = row.range in
-      let from : ℕ = own_place (v.handovers master row.tablet).role in
-      let w : Written = v.written master in
-      ⊎_elim
-      (λ (ahead : w.applied < from).
-      let same : applied_from range from (record w { applied = w.applied + 1 }) ≡ applied_from range from w =
-      ap (material_of range (side_entries w.sides)) (nothing_ahead w.entries w.applied (entries.Joined joined) may.stands from ahead) in
-      record {
-        still = λ x at. subst (λ (l : List Entry). Contains (items_of l) x) (sym same) at;
-        new = λ counted x at. absurd (none_stands x at);
-        cases = λ x at. inr (inl (subst (λ (l : List Entry). Contains (items_of l) x) same at));
-      })
-      (λ (behind : from ≤ w.applied). named_own row found behind)
-      (cases_lt w.applied from)
-    where
-      named_own : (row : Row) → ((x : Held) → Contains (named_items row.range (own_place (v.handovers master row.tablet).role) (v.written master)) x → IsFound (v.records master) x)
-          → own_place (v.handovers master row.tablet).role ≤ (v.written master).applied
-          → HasApplied row.range (own_place (v.handovers master row.tablet).role) (v.written master) (entries.Joined joined) (v.records master)
-      named_own row found behind =
-          let range : Range = row.range in
-          let from : ℕ = own_place (v.handovers master row.tablet).role in
-          let w : Written = v.written master in
-          let size : length (take w.applied w.entries) ≡ w.applied = length_first w.entries w.applied (entries.Joined joined) may.stands in
-          let old : List Entry = drop from (take w.applied w.entries) in
-          let more = has_block range w.sides old (entries.Joined joined) refl in
-          let is : drop from (take (w.applied + 1) w.entries) ≡ old ++ entries.Joined joined ∷ [] =
-          ap (drop from) (taken_next w.entries w.applied (entries.Joined joined) may.stands)
-          ∙ drop-append-le from (take w.applied w.entries) (entries.Joined joined ∷ []) (omega (arith, behind, size)) in
-          let parts : items_of (applied_from range from (record w { applied = w.applied + 1 })) ≡ items_of (applied_from range from w) ++ items_of more.block =
-          ap items_of (ap (material_of range (side_entries w.sides)) is ∙ more.parts)
-          ∙ flat_map-append items_in (material_of range (side_entries w.sides) old) more.block in
-          record {
-            still = λ x at.
-                subst (λ (l : List Held). Contains l x) (sym parts)
-                (Contains-append_left (items_of (applied_from range from w)) (items_of more.block) x at);
-            new = λ counted x at. absurd (none_stands x at);
-            cases = λ x at.
-                ⊎_elim (λ (was : Contains (items_of (applied_from range from w)) x). inr (inl was))
-                (λ (new : Contains (items_of more.block) x).
-                let told_it = told_from items_in more.block x new in
-                inr (of_side row found behind x told_it.entry told_it.tells (more.from told_it.entry told_it.stands)))
-                (Contains-append_cases (items_of (applied_from range from w)) (items_of more.block) x
-                (subst (λ (l : List Held). Contains l x) parts at));
-          }
-        where
-          of_side : (row : Row) → ((x : Held) → Contains (named_items row.range (own_place (v.handovers master row.tablet).role) (v.written master)) x → IsFound (v.records master) x)
-              → own_place (v.handovers master row.tablet).role ≤ (v.written master).applied → (x : Held) (e : Entry) → Contains (items_in e) x
-              → Contains (counting row.range (flat_map (side_entries (v.written master).sides)
-              (named row.range (drop (own_place (v.handovers master row.tablet).role) (take (v.written master).applied (v.written master).entries) ++ entries.Joined joined ∷ [])))) e
-              → Contains (items_of (applied_from row.range (own_place (v.handovers master row.tablet).role) (v.written master))) x ⊎ IsFound (v.records master) x
-          of_side row found behind x e its at =
-              let range : Range = row.range in
-              let from : ℕ = own_place (v.handovers master row.tablet).role in
-              let w : Written = v.written master in
-              let side : ℕ → List Entry = side_entries w.sides in
-              let old : List Entry = drop from (take w.applied w.entries) in
-              let kept = kept_stands (counts range) (flat_map side (named range (old ++ entries.Joined joined ∷ []))) e at in
-              let there = side_of side (named range (old ++ entries.Joined joined ∷ [])) e kept.0 in
-              let k : ℕ = there.number in
-              let one : Contains (counting range (flat_map side (k ∷ []))) e =
-              stands_kept (counts range) (flat_map side (k ∷ [])) e (Contains-append_left (side k) [] e there.there) kept.1 in
-              ⊎_elim
-              (λ (before : Contains (flat_map (named_by range) old) k).
-              inl
-              (among_all items_in (material_of range side old) e x
-              (Contains-append_right (counting range old) (counting range (flat_map side (named range old))) e
-              (stands_kept (counts range) (flat_map side (named range old)) e
-              (among_all side (named range old) k e (named_has range old k before) there.there) kept.1)) its))
-              (λ (new : Contains (flat_map (named_by range) (entries.Joined joined ∷ [])) k).
-              let all : List Entry = unmarked_from w.marks from w.entries in
-              let told_it = told_from (named_by range) (entries.Joined joined ∷ []) k new in
-              let in_all : Contains (named range all) k =
-              named_has range all k
-              (told_among (named_by range) (entries.Joined joined ∷ []) all
-              (λ y there_y.
-              ⊎_elim
-              (λ (same : entries.Joined joined ≡ y).
-              subst (Contains all) same
-              (unmarked_has w.entries w.applied (entries.Joined joined) may.stands w.marks may.unmarked from behind))
-              (λ (none : Contains [] y). absurd (none_stands y none)) (stands_cases (entries.Joined joined) [] y there_y)) k new) in
-              let item = named_item range w.sides (k ∷ []) (named range all) e
-              (λ n at_n.
-              ⊎_elim (λ (same : k ≡ n). subst (Contains (named range all)) same in_all)
-              (λ (none : Contains [] n). absurd (none_stands n none)) (stands_cases k [] n at_n)) one in
-              let is_x : item.item ≡ x = held_same item.item e x item.is its in
-              inr (found x (subst (Contains (named_items range from w)) is_x item.stands)))
-              (Contains-append_cases (flat_map (named_by range) old) (flat_map (named_by range) (entries.Joined joined ∷ [])) k
-              (subst (λ (l : List ℕ). Contains l k) (flat_map-append (named_by range) old (entries.Joined joined ∷ []))
-              (named_in range (old ++ entries.Joined joined ∷ []) k there.stands)))
-            where
-              held_same : (h : Held) (e : Entry) (x : Held) → entries.Held h ≡ e → Contains (items_in e) x → h ≡ x
-              held_same h e x is its = cc (is ∙ sym (held_of e x its))
+      applied_named row.range (v.written master) joined may.stands may.unmarked (own_place (v.handovers master row.tablet).role)
+      (v.records master) found
 
   abbrev passing : Passing v
   passing = record {

@@ -22,5 +22,6 @@ pub mod PassingState
 pub mod MarkedApplied
 pub mod CarriedApplied
 pub mod NamedSides
+pub mod JoinedOwn
 pub mod JoinedApplied
 pub mod EntryApplied

@@ -36,7 +36,7 @@ use Rattle.rk_sound.specs.Whole.{MessagesOf, ReceivesOf, SoundView, TablesOf}
 use Rattle.rk_laws_parts.proofs.Apart.{key_outside, same_number}
 use Rattle.rk_laws_parts.proofs.Put.{put_by}
 use Rattle.rk_laws_apply.specs.Small.{with_item_of}
-use Rattle.rk_laws_apply.proofs.Applies.{Applies, bare_at, cover_now, logs_now, members_at, named_at, rebuilds, roles_now, says_now}
+use Rattle.rk_laws_apply.proofs.Applies.{Applies, StaysBare, bare_at, cover_now, logs_now, members_at, named_at, rebuilds, roles_now, says_now}
 use Rattle.rk_laws_apply.proofs.ItemPut.{bare_with, order_with, table_apart}
 use Rattle.rk_laws_apply.proofs.Keeps.{items_keep}
 use Rattle.rk_laws_apply.proofs.TargetApplied.{StandsBehind}
@@ -176,7 +176,7 @@ module _ (v : View) (p : Passing v) where
       (beside_or other has))
 
   -- a tablet that the master waits for has none of the item
-  bare_records : (r : ℕ) → is_wanting (v.handovers p.master r).role ≡ true → is_absent (v.handovers p.master r).role ≡ false → (from : ℕ) (w : Written) → IsBare (v.handovers p.master r).range from w (v.records p.master) → IsBare (v.handovers p.master r).range from w (with_item_of p.entry (v.records p.master))
+  bare_records : (r : ℕ) → is_wanting (v.handovers p.master r).role ≡ true → is_absent (v.handovers p.master r).role ≡ false → StaysBare v p.master p.entry r
   bare_records r wants there from w bare =
       let range : Range = (v.handovers p.master r).range in
       ⊎_elim
