@@ -180,13 +180,13 @@ pub record HasApplied (range : Range) (from : ℕ) (w : Written) (entry : Entry)
       (x : Held) → Contains (items_of (applied_from range from (record w { applied = w.applied + 1 }))) x
       → Contains (items_in entry) x ⊎ Contains (items_of (applied_from range from w)) x ⊎ IsFound records x
 
--- whoever has nothing of what a tablet of the master asks for has nothing with the item of an entry
+-- where the master has nothing of the range of a tablet, it has nothing with the item of an entry
 abbrev pub StaysBare : View → ℕ → Entry → ℕ → Type 0
 StaysBare v master entry tablet =
     (from : ℕ) (w : Written) → IsBare (v.handovers master tablet).range from w (v.records master)
     → IsBare (v.handovers master tablet).range from w (with_item_of entry (v.records master))
 
--- an entry is applied, in a sound view, by which masters keep these last ends
+-- the next entry of a master's log is applied, in a sound view: what is asked of it, and the last ends that masters keep then
 pub record Applies (v : View) : Type 0 where
   pub master : ℕ
   pub entry : Entry

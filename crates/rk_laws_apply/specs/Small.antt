@@ -61,13 +61,13 @@ pub record MayApplyCall (v : View) (master : ℕ) (call : Call) : Type 0 where
   pub held : MayApply v master
   pub waits : get (v.calls master) (v.written master).applied ≡ Some call
 
--- or it bears a mark
+-- the next entry of a living master's log may be applied, which bears a mark
 pub record MayApplyMarked (v : View) (master : ℕ) (entry : Entry) : Type 0 where
   pub held : MayApply v master
   pub stands : slice_get (v.written master).entries (v.written master).applied ≡ Some entry
   pub marked : is_marked (v.written master).marks (v.written master).applied ≡ true
 
--- or none
+-- the next entry of a living master's log may be applied, which bears no mark
 pub record MayApplyUnmarked (v : View) (master : ℕ) (entry : Entry) : Type 0 where
   pub held : MayApply v master
   pub stands : slice_get (v.written master).entries (v.written master).applied ≡ Some entry
