@@ -18,3 +18,4 @@ pub mod MarksTaken
 pub mod RebuiltMaterial
 pub mod MarksBeside
 pub mod RebuiltSays
+pub mod RebuiltTaken

@@ -116,7 +116,7 @@ module _ (v : View) (row : Row) (phase : Phase) (handed : NumberMap Handed) (sou
   each_noted : (P : NumberMap Handed → Row → Type 0) → (P v.handed row → P handed new) → ((r : Row) → get handed r.tablet ≡ get v.handed r.tablet → P v.handed r → P handed r) → All (P v.handed) v.rows → All (P handed) now.rows
   each_noted P goes others =
       all_others v.rows row new sound.rows.apart may.has_row refl refl (P v.handed) (P handed) goes
-      (λ r apart. others r (may.others r.tablet apart))
+      (λ r has apart. others r (may.others r.tablet apart))
 
   covered : (table hash : ℕ) → is_covered now.rows table hash ≡ is_covered v.rows table hash
   covered = covered_turned v.rows row.tablet row new found refl

@@ -27,10 +27,10 @@ module _ (rows : List Row) (old new : Row) (apart : IsTabletMap rows) (has : Con
       (cases_Bool (eqb x.tablet old.tablet))
 
   -- what holds of each row goes on to hold as something else does, of the new one and of each other
-  pub all_others : (P Q : Row → Type 0) → (P old → Q new) → ((x : Row) → (x.tablet ≡ old.tablet → ⊥) → P x → Q x) → All P rows → All Q (replaced old.tablet new rows)
+  pub all_others : (P Q : Row → Type 0) → (P old → Q new) → ((x : Row) → Contains rows x → (x.tablet ≡ old.tablet → ⊥) → P x → Q x) → All P rows → All Q (replaced old.tablet new rows)
   all_others P Q goes others all =
       all_by Q (replaced old.tablet new rows)
       (λ x stands.
       ⊎_elim (λ (is : x ≡ new). subst Q (sym is) (goes (All-contains P rows old all has)))
-      (λ (before : Contains rows x × (x.tablet ≡ old.tablet → ⊥)). others x before.1 (All-contains P rows x all before.0))
+      (λ (before : Contains rows x × (x.tablet ≡ old.tablet → ⊥)). others x before.0 before.1 (All-contains P rows x all before.0))
       (stood_apart x stands))

@@ -1,7 +1,7 @@
 -- What counts of the log of a master that rebuilt a tablet, once the marks of the tablet are taken away: its own entries and the piece that
 -- it merged, all of them applied.
 use Rattle.std.proofs.Common.{◌≡◌, ℕ, suc, ◌+◌, ◌-◌, ◌≤◌, ◌<◌, true, false, ◌&&◌, eqb, List, [], ◌∷◌, ◌++◌, Some, None, refl, sym, ap, subst, ◌∙◌, ⊎_elim, arith, inl, inr}
-use Rattle.std.specs.Prelude.{All, IfSome, drop, is_some, nat_le, nat_lt, not, slice_get, take, ◌⊎◌}
+use Rattle.std.specs.Prelude.{All, IfSome, drop, is_some, length, nat_le, nat_lt, not, slice_get, take, ◌⊎◌}
 use Rattle.std.specs.List.{Contains, flat_map, list_any}
 use Rattle.std.proofs.lemmas.Bool.{and_from, cases_Bool, eq-eqb, false_from_ne_true, false≢true, le-leb}
 use Rattle.std.proofs.lemmas.List.Elements.{All-contains, Contains-append_cases, Contains-append_left, Contains-append_right}
@@ -106,7 +106,7 @@ module _ (v : View) (row : Row) (lineage : List Member) (to place : ℕ) (ends :
   range_is = (in_row (λ r. HandoverFits r row.tablet builder) (sound.terms.kept to row.tablet)).exact refl may.term_is
 
   -- nothing of the range stands behind what is applied
-  settled : list_any (touches row.range) (drop w.applied w.entries) ≡ false
+  pub settled : list_any (touches row.range) (drop w.applied w.entries) ≡ false
   settled =
       let missed : All (Misses row.range) (drop (suc at.entry) w.entries) =
       each_misses row.range (drop (suc at.entry) w.entries)
@@ -114,6 +114,26 @@ module _ (v : View) (row : Row) (lineage : List Member) (to place : ℕ) (ends :
       let less : at.entry < w.applied = at.within in
       none_touches row.range (drop w.applied w.entries)
       (later_all (Misses row.range) (suc at.entry) w.applied w.entries (omega (arith, less)) missed)
+
+  -- its place is one of its log, and the piece is applied
+  pub placed_within : place ≤ length w.entries
+  placed_within =
+      let fit =
+      in_phase
+      (λ p. RowIsRebuilt row p (truths v row) v.logs v.written v.stored v.handovers v.completions v.gathers v.merged v.records v.live)
+      (in_row
+      (λ r. RowIsRebuilt r r.phase (truths v r) v.logs v.written v.stored v.handovers v.completions v.gathers v.merged v.records v.live)
+      sound.rebuilds.rebuilt) in
+      in_role (λ r. own_place r ≤ length w.entries) (fit.0 may.term_is).placed
+
+  -- a mark of the tablet covers what is applied alone
+  pub taken_applied : (mark : Mark) → Contains w.marks mark → mark.tablet ≡ row.tablet → mark.past ≤ w.applied
+  taken_applied other stands its =
+      let is : other ≡ piece.mark =
+      All-contains (λ m. m.tablet ≡ row.tablet → m ≡ piece.mark) w.marks other piece.alone stands its in
+      let less : at.entry < w.applied = at.within in
+      let past : other.past ≡ suc at.entry = ap (λ (m : Mark). m.past) is ∙ piece.past_is in
+      omega (arith, less, past)
 
   -- so all of its own is applied
   pub own_done : IsDone v.written row.range own_member

@@ -1,3 +1,4 @@
 pub mod Small
 pub mod Passing
 pub mod Lineages
+pub mod Rebuilt

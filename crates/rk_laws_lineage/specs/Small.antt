@@ -1,6 +1,7 @@
 -- Small changes that give a row another lineage, and what they make of a view.
-use Rattle.std.specs.Prelude.{ℕ, not, filter}
+use Rattle.std.specs.Prelude.{ℕ, not, filter, List, ◌++◌}
 use Rattle.rk_types.specs.NumberMap.{NumberMap}
+use Rattle.rk_types.specs.declared.history.Placed.{Placed}
 use Rattle.rk_tablet_map.specs.Rows.{replaced}
 use Rattle.rk_tablet_map.specs.declared.row.Row.{Row}
 use Rattle.rk_world.specs.Coordinator.{Handed}
@@ -31,3 +32,10 @@ without_marks_of tablet term written =
 -- the marks of a tablet up to a term are taken away
 abbrev pub marks_taken : View → ℕ → ℕ → View
 marks_taken v tablet term = record v { written = λ master. without_marks_of tablet term (v.written master) }
+
+-- a rebuild is taken: a row takes the lineage of the master that rebuilt it, the marks of its tablet are gone, and these records are made
+abbrev pub rebuilt_taken : View → Row → List Placed → View
+rebuilt_taken v row made = record (marks_taken v row.tablet row.term) {
+  rows = replaced row.tablet row v.rows;
+  journal = v.journal ++ made;
+}

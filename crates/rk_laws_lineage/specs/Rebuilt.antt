@@ -1,0 +1,59 @@
+-- Rebuilt: when the master that rebuilt a row may own it, so that records are made of what it told and the marks of the tablet are gone.
+use Rattle.std.specs.Prelude.{◌≡◌, ◌≤◌, ℕ, true, List, ◌++◌, Some, Contains, All, slice_get}
+use Rattle.rk_types.specs.declared.call.Ended.{Ended}
+use Rattle.rk_types.specs.declared.history.Placed.{Placed}
+use Rattle.rk_types.specs.declared.lineage.Member.{Member}
+use Rattle.rk_types.specs.declared.range.Range.{Range}
+use Rattle.rk_model.specs.History.{IsLegal}
+use Rattle.rk_model.specs.Merged.{IsRisingAbove}
+use Rattle.rk_model.specs.Ordered.{AreOneMutation}
+use Rattle.rk_done.specs.Completions.{ends_of}
+use Rattle.rk_tablet_map.specs.Phase.{member as member_at}
+use Rattle.rk_tablet_map.specs.declared.phase.Phase.TheVariants.{Owned}
+use Rattle.rk_tablet_map.specs.declared.row.Row.{Row}
+use Rattle.rk_world.specs.Base.{base_map}
+use Rattle.rk_world.specs.Written.{member_truth}
+use Rattle.rk_sound.specs.View.{View, truths, rests}
+use Rattle.rk_sound.specs.Truth.{IsAfterSeen}
+use Rattle.rk_sound.specs.Calls.{IsKnown, ReachAll, is_record_in}
+use Rattle.rk_sound.specs.Counters.{IsNext}
+use Rattle.rk_sound.specs.Tables.{IsTableOf}
+use Rattle.rk_sound.specs.Whole.{AskedOf}
+use Rattle.rk_sound.specs.Moves.{HasSome, MayTakeRebuilt, row_at}
+use Rattle.rk_laws_lineage.specs.Lineages.{TellHistory}
+use Rattle.rk_laws_lineage.specs.Small.{marks_taken, rebuilt_taken}
+
+-- records that a rebuild makes are of keys of its range and were asked; with them the journal is a lawful history still, in which no
+-- mutation has two records
+pub record MakesRecords (v : View) (range : Range) (made : List Placed) : Type 0 where
+  pub inside : All (λ placed. is_record_in range placed ≡ true) made
+  pub legal : IsLegal (base_map v.base) (v.journal ++ made)
+  pub rising : IsRisingAbove 0 (v.journal ++ made)
+  pub seen : All (λ placed. IsAfterSeen (v.asked placed.call.client) placed) (v.journal ++ made)
+  pub once :
+      (i j : ℕ) (a b : Placed) → slice_get (v.journal ++ made) i ≡ Some a → slice_get (v.journal ++ made) j ≡ Some b
+      → AreOneMutation a.call b.call → i ≡ j
+  pub asked : AskedOf (record v { journal = v.journal ++ made })
+
+-- the master that rebuilt a row may own it, where records are made of what it told: then what counts of its own log tells all of the
+-- row, its records and its ends have all, its counter is above all, and what counts for each other row tells all of that one still
+pub record MayOwnRebuilt (v : View) (row : Row) (lineage : List Member) (to place : ℕ) (ends : List Ended) (made : List Placed) : Type 0 where
+  pub taken : MayTakeRebuilt v row lineage to place ends
+  pub ranges : All (λ other. HasSome other.range) v.rows
+  pub records : MakesRecords v row.range made
+  pub history :
+      TellHistory v.base row.range (truths (marks_taken v row.tablet row.term) (row_at row row.term (Owned to place)))
+      (rests (marks_taken v row.tablet row.term) (row_at row row.term (Owned to place))) (v.journal ++ made) v.asked
+  pub reached : ReachAll row.range (v.journal ++ made) (ends_of (v.completions to row.tablet))
+  pub known : All (IsKnown v.base (v.journal ++ made)) (ends_of (v.completions to row.tablet))
+  pub next :
+      IsNext
+      (truths (marks_taken v row.tablet row.term) (row_at row row.term (Owned to place))
+      ++ rests (marks_taken v row.tablet row.term) (row_at row row.term (Owned to place)))
+      (v.handovers to row.tablet).counter
+  pub full :
+      IsTableOf row.range
+      (member_truth (marks_taken v row.tablet row.term).written row.range (member_at to place)) (v.records to)
+  pub others :
+      (other : Row) → Contains v.rows other → (other.tablet ≡ row.tablet → ⊥)
+      → TellHistory v.base other.range (truths v other) (rests v other) (v.journal ++ made) v.asked
