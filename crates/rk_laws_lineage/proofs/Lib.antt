@@ -19,3 +19,4 @@ pub mod RebuiltMaterial
 pub mod MarksBeside
 pub mod RebuiltSays
 pub mod RebuiltTaken
+pub mod RebuiltWorld

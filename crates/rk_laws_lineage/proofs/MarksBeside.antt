@@ -1,14 +1,13 @@
 -- What the invariant says of another row, of its lineage and of what is rebuilt and marked of it, stays where the marks of a tablet are
 -- taken away.
-use Rattle.std.proofs.Common.{◌≡◌, ℕ, zero, suc, ◌+◌, ◌≤◌, Bool, true, false, cond, ◌&&◌, ◌||◌, eqb, List, [], ◌∷◌, ◌++◌, Option, Some, None, refl, sym, ap, subst, ◌∙◌, ⊎_elim, arith, inl, inr}
-use Rattle.std.specs.Prelude.{All, IfSome, drop, filter, nat_le, nat_lt, not, slice_get, take, ◌⊎◌}
-use Rattle.std.specs.List.{Contains, flat_map, list_any}
+use Rattle.std.proofs.Common.{◌≡◌, ℕ, ◌+◌, ◌≤◌, Bool, true, false, cond, ◌&&◌, eqb, List, [], ◌∷◌, ◌++◌, Option, Some, None, refl, sym, ap, subst, ◌∙◌, ⊎_elim}
+use Rattle.std.specs.Prelude.{All, IfSome, drop, filter, nat_le, nat_lt, not, slice_get, take}
+use Rattle.std.specs.List.{Contains, flat_map}
 use Rattle.std.specs.Option.{option_map}
-use Rattle.std.proofs.lemmas.Bool.{and_parts, cases_Bool, cond_both, eqb-true, false_from_ne_true, false≢true}
+use Rattle.std.proofs.lemmas.Bool.{and_parts, cases_Bool, eqb-true, false_from_ne_true, false≢true}
 use Rattle.std.proofs.lemmas.List.Elements.{All-contains, All-filter, All-weaker}
 use Rattle.std.proofs.lemmas.Option.{IfSome_then}
-use Rattle.rk_types.specs.NumberMap.{NumberMap, get}
-use Rattle.rk_types.specs.declared.call.Ended.{Ended}
+use Rattle.rk_types.specs.NumberMap.{get}
 use Rattle.rk_types.specs.declared.held.Held.{Held}
 use Rattle.rk_types.specs.declared.lineage.Member.{Member}
 use Rattle.rk_types.specs.Range.{meets}
@@ -26,10 +25,8 @@ use Rattle.rk_message.specs.declared.pulling.Pulled.{Pulled}
 use Rattle.rk_message.specs.declared.rebuilding.CopySegment.{CopySegment}
 use Rattle.rk_world.specs.Master.{touches}
 use Rattle.rk_entry.specs.declared.entry.Entry.{Entry}
-use Rattle.rk_log.specs.Known.{Known}
 use Rattle.rk_log.specs.Log.{known_of}
 use Rattle.rk_log.specs.declared.ends.EntryEnd.{EntryEnd}
-use Rattle.rk_done.specs.Completions.{Completions}
 use Rattle.rk_transfer.specs.declared.handover.Handover.{Handover}
 use Rattle.rk_tablet_map.specs.Phase.{lineage_of, member as member_at}
 use Rattle.rk_tablet_map.specs.declared.phase.Phase.{Phase}
@@ -37,22 +34,20 @@ use Rattle.rk_tablet_map.specs.declared.phase.Phase.TheVariants.{Moving, Rebuild
 use Rattle.rk_tablet_map.specs.declared.row.Row.{Row}
 use Rattle.rk_world.specs.declared.work.Mark.{Mark}
 use Rattle.rk_world.specs.declared.work.Merged.{Merged}
-use Rattle.rk_world.specs.Gather.{Gather, Gathered}
-use Rattle.rk_world.specs.Coordinator.{Handed}
 use Rattle.rk_world.specs.Ends.{items_of}
 use Rattle.rk_world.specs.Lineage.{first_of}
 use Rattle.rk_world.specs.Marks.{is_mark_of, is_marked, unmarked, unmarked_from}
 use Rattle.rk_world.specs.Material.{as_entries, counting, counts}
 use Rattle.rk_world.specs.Rebuilds.{own_place}
-use Rattle.rk_world.specs.Written.{Written, member_material, member_rest, member_truth}
-use Rattle.rk_sound.specs.View.{View, truths}
+use Rattle.rk_world.specs.Written.{Written, member_material, member_truth}
+use Rattle.rk_sound.specs.View.{View}
 use Rattle.rk_sound.specs.Handing.{beginning_in, target_truth}
 use Rattle.rk_sound.specs.Logs.{stored_of}
 use Rattle.rk_sound.specs.Rest.{FirstIsDone, IsDone}
 use Rattle.rk_sound.specs.Tables.{HasItems, IsTableOf}
 use Rattle.rk_sound.specs.Messages.{CopyIn, GotAgrees, IsFromSource, PulledAgrees, SaysOf}
 use Rattle.rk_sound.specs.Receives.{IsTarget, MembersFit, NamedFit, scan_items}
-use Rattle.rk_sound.specs.Rebuilds.{AreGathered, HasOwnRange, IsMergedOf, IsNeeded, IsOfRange, IsPieceOf, IsRebuilder, MarkFits, MarkedFit, NeededOf, NeedsEnd, READ_BACKUP, RowIsRebuilt, StandsLast, TellNoMore, TellsMore, given_up_marks, marked_entries, member_given_up, member_marked, member_stored, merged_place, stored_count}
+use Rattle.rk_sound.specs.Rebuilds.{HasOwnRange, IsMergedOf, IsNeeded, IsOfRange, IsPieceOf, IsRebuilder, MarkFits, MarkedFit, NeededOf, NeedsEnd, READ_BACKUP, RowIsRebuilt, StandsLast, TellNoMore, TellsMore, marked_entries, member_given_up, member_marked, member_stored, merged_place, stored_count}
 use Rattle.rk_sound.specs.Whole.{SoundView}
 use Rattle.rk_laws_parts.proofs.Apart.{key_outside}
 use Rattle.rk_laws_parts.proofs.Lists.{all_by}
@@ -60,10 +55,10 @@ use Rattle.rk_laws_parts.proofs.MarkedApart.{apart_either, place_of}
 use Rattle.rk_laws_parts.proofs.Messages.{if_master}
 use Rattle.rk_laws_parts.proofs.Missed.{Misses, none_touches}
 use Rattle.rk_laws_parts.proofs.Needed.{one_weaker, part_weaker}
-use Rattle.rk_laws_parts.proofs.Records.{filter_from, filter_stands}
+use Rattle.rk_laws_parts.proofs.Records.{filter_stands}
 use Rattle.rk_laws_lineage.specs.Small.{marks_taken}
 use Rattle.rk_laws_lineage.proofs.Among.{taken_from}
-use Rattle.rk_laws_lineage.proofs.FewerMarks.{free_counts, marked_counts}
+use Rattle.rk_laws_lineage.proofs.FewerMarks.{free_counts}
 use Rattle.rk_laws_lineage.proofs.Pieces.{unmarked_place, unmarked_stands}
 use Rattle.rk_laws_lineage.proofs.Untouched.{each_misses}
 use Rattle.rk_laws_lineage.proofs.MarksTaken.{apart, fewer, marked_kept, material_kept, named_kept, rest_kept, silent_apart, taken_of, truth_kept}

@@ -1,11 +1,9 @@
 -- Where the marks of a row's tablet are taken away, all that is said of another row by what masters have written stays: what bore them is
 -- of the row's range alone.
-use Rattle.std.proofs.Common.{◌≡◌, ℕ, zero, suc, ◌+◌, ◌-◌, ◌≤◌, Bool, true, false, ◌&&◌, ◌||◌, eqb, List, [], ◌∷◌, ◌++◌, Some, refl, sym, ap, subst, ◌∙◌, ⊎_elim, arith}
-use Rattle.std.specs.Prelude.{drop, filter, fold, max, nat_le, nat_lt, not, slice_get, take}
-use Rattle.std.specs.List.{All, Contains, flat_map, list_any}
+use Rattle.std.proofs.Common.{◌≡◌, ℕ, ◌+◌, ◌≤◌, Bool, true, false, ◌&&◌, ◌||◌, eqb, List, [], ◌∷◌, ◌++◌, Some, refl, sym, ap, subst, ◌∙◌, ⊎_elim, arith}
+use Rattle.std.specs.Prelude.{drop, filter, fold, max, nat_le, nat_lt, not, slice_get}
+use Rattle.std.specs.List.{Contains, flat_map, list_any}
 use Rattle.std.proofs.lemmas.Bool.{and_from, and_parts, cases_Bool, eqb-true, false≢true, le-leb, lt-ltb}
-use Rattle.std.proofs.lemmas.List.Elements.{All-contains}
-use Rattle.std.proofs.lemmas.List.Folds.{Any-from_list_any}
 use Rattle.rk_types.specs.Range.{meets}
 use Rattle.rk_types.specs.declared.lineage.Member.{Member}
 use Rattle.rk_types.specs.declared.range.Range.{Range}
@@ -18,18 +16,18 @@ use Rattle.rk_tablet_map.specs.Rows.{Precedes}
 use Rattle.rk_tablet_map.specs.declared.row.Row.{Row}
 use Rattle.rk_world.specs.declared.work.Mark.{Mark}
 use Rattle.rk_world.specs.Ends.{items_of}
-use Rattle.rk_world.specs.Marks.{is_mark_of, is_marked, unmarked, unmarked_from}
-use Rattle.rk_world.specs.Material.{counting, material_of, named, named_by, side_entries, with_number}
-use Rattle.rk_world.specs.Written.{Written, applied_entries, lineage_rest, lineage_truth, member_material, member_rest, member_truth}
+use Rattle.rk_world.specs.Marks.{is_mark_of, is_marked, unmarked_from}
+use Rattle.rk_world.specs.Material.{counting, material_of, named, side_entries, with_number}
+use Rattle.rk_world.specs.Written.{applied_entries, lineage_rest, lineage_truth, member_material, member_rest, member_truth}
 use Rattle.rk_sound.specs.View.{View, truths, rests}
 use Rattle.rk_sound.specs.Receives.{named_items}
-use Rattle.rk_sound.specs.Rebuilds.{HasOwnRange, IsOfRange, member_marked}
+use Rattle.rk_sound.specs.Rebuilds.{IsOfRange, member_marked}
 use Rattle.rk_sound.specs.Whole.{SoundView}
 use Rattle.rk_laws_parts.proofs.Apart.{one_precedes, same_number}
-use Rattle.rk_laws_parts.proofs.MarkedApart.{apart_either, entry_apart, in_piece, place_of}
+use Rattle.rk_laws_parts.proofs.MarkedApart.{apart_either, entry_apart, place_of}
 use Rattle.rk_laws_parts.proofs.Needed.{any_kept}
 use Rattle.rk_laws_parts.proofs.Records.{filter_stands}
-use Rattle.rk_laws_lineage.specs.Small.{marks_taken, without_marks_of}
+use Rattle.rk_laws_lineage.specs.Small.{marks_taken}
 use Rattle.rk_laws_lineage.proofs.Among.{taken_from}
 use Rattle.rk_laws_lineage.proofs.Pieces.{IsCovered, covered_by, covered_of}
 use Rattle.rk_laws_lineage.proofs.FewerMarks.{AreFewer, IsSilent, free_counts, free_names, marked_counts}

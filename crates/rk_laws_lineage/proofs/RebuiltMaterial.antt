@@ -1,11 +1,10 @@
 -- What counts of the log of a master that rebuilt a tablet, once the marks of the tablet are taken away: its own entries and the piece that
 -- it merged, all of them applied.
-use Rattle.std.proofs.Common.{◌≡◌, ℕ, suc, ◌+◌, ◌-◌, ◌≤◌, ◌<◌, true, false, ◌&&◌, eqb, List, [], ◌∷◌, ◌++◌, Some, None, refl, sym, ap, subst, ◌∙◌, ⊎_elim, arith, inl, inr}
-use Rattle.std.specs.Prelude.{All, IfSome, drop, is_some, length, nat_le, nat_lt, not, slice_get, take, ◌⊎◌}
+use Rattle.std.proofs.Common.{◌≡◌, ℕ, suc, ◌+◌, ◌-◌, ◌≤◌, ◌<◌, true, false, ◌&&◌, eqb, List, [], ◌∷◌, ◌++◌, Some, refl, sym, ap, subst, ◌∙◌, ⊎_elim, arith, inl, inr}
+use Rattle.std.specs.Prelude.{All, IfSome, drop, length, nat_le, nat_lt, not, slice_get, take, ◌⊎◌}
 use Rattle.std.specs.List.{Contains, flat_map, list_any}
 use Rattle.std.proofs.lemmas.Bool.{and_from, cases_Bool, eq-eqb, false_from_ne_true, false≢true, le-leb}
 use Rattle.std.proofs.lemmas.List.Elements.{All-contains, Contains-append_cases, Contains-append_left, Contains-append_right}
-use Rattle.std.proofs.lemmas.List.Folds.{Any-from_list_any}
 use Rattle.rk_types.specs.declared.call.Ended.{Ended}
 use Rattle.rk_types.specs.declared.lineage.Member.{Member}
 use Rattle.rk_types.specs.declared.range.Range.{Range}
@@ -14,7 +13,7 @@ use Rattle.rk_entry.specs.declared.entry.Entry.TheVariants as entries
 use Rattle.rk_transfer.specs.declared.handover.Handover.{Handover}
 use Rattle.rk_transfer.specs.declared.role.Role.{Role}
 use Rattle.rk_transfer.specs.declared.role.Role.TheVariants as roles
-use Rattle.rk_tablet_map.specs.Phase.{lineage_of, member as member_at}
+use Rattle.rk_tablet_map.specs.Phase.{member as member_at}
 use Rattle.rk_tablet_map.specs.declared.phase.Phase.{Phase}
 use Rattle.rk_tablet_map.specs.declared.phase.Phase.TheVariants.{Rebuilding}
 use Rattle.rk_tablet_map.specs.Rows.{Precedes}
@@ -22,11 +21,11 @@ use Rattle.rk_tablet_map.specs.declared.row.Row.{Row}
 use Rattle.rk_overlay.proofs.Members.{none_stands}
 use Rattle.rk_types.specs.Range.{meets}
 use Rattle.rk_world.specs.declared.work.Mark.{Mark}
-use Rattle.rk_world.specs.Marks.{is_mark_of, is_marked, unmarked, unmarked_from}
+use Rattle.rk_world.specs.Marks.{is_mark_of, is_marked, unmarked}
 use Rattle.rk_world.specs.Master.{touches}
-use Rattle.rk_world.specs.Material.{as_entries, counting, counts, material_of, named, named_by, side_entries}
+use Rattle.rk_world.specs.Material.{as_entries, counting, counts, named, named_by, side_entries}
 use Rattle.rk_world.specs.Rebuilds.{own_place}
-use Rattle.rk_world.specs.Written.{Written, applied_entries, member_material, member_rest, member_truth}
+use Rattle.rk_world.specs.Written.{Written, applied_entries, member_material, member_truth}
 use Rattle.rk_sound.specs.View.{View, truths}
 use Rattle.rk_sound.specs.Rest.{IsDone}
 use Rattle.rk_sound.specs.Rebuilds.{HasOwnRange, IsMergedOf, IsOfRange, IsPieceOf, MarkFits, RowIsRebuilt, closing_carried, merged_place}

@@ -1,14 +1,11 @@
 -- What messages say of a row, where the master that rebuilt it owns it; and what each master is to it then.
-use Rattle.std.proofs.Common.{◌≡◌, ℕ, ◌≤◌, ◌<◌, Bool, true, false, ◌||◌, cond, eqb, List, [], ◌∷◌, Option, Some, None, refl, sym, ap, subst, ◌∙◌, ⊎_elim, arith, inl, inr}
-use Rattle.std.specs.Prelude.{All, ◌⊎◌}
-use Rattle.std.specs.List.{Contains}
+use Rattle.std.proofs.Common.{◌≡◌, ℕ, ◌<◌, Bool, true, false, ◌||◌, cond, eqb, List, [], ◌∷◌, Option, Some, refl, sym, ap, subst, ◌∙◌, ⊎_elim, arith, inl}
 use Rattle.std.proofs.lemmas.Bool.{cond_both, eq-eqb, eqb-true, false_from_ne_true, false≢true}
 use Rattle.std.proofs.lemmas.List.Elements.{All-contains}
 use Rattle.rk_types.specs.NumberMap.{get}
 use Rattle.rk_types.specs.declared.call.Ended.{Ended}
 use Rattle.rk_types.specs.declared.node.Node.{Node}
 use Rattle.rk_types.specs.declared.lineage.Member.{Member}
-use Rattle.rk_transfer.specs.declared.handover.Handover.{Handover}
 use Rattle.rk_transfer.specs.declared.role.Role.{Role}
 use Rattle.rk_transfer.specs.declared.role.Role.TheVariants as roles
 use Rattle.rk_tablet_map.specs.Phase.{lineage_of}
@@ -24,13 +21,12 @@ use Rattle.rk_message.specs.declared.rebuilding.Rebuild.{Rebuild}
 use Rattle.rk_message.specs.declared.rebuilding.Rebuilt.{Rebuilt}
 use Rattle.rk_world.specs.Coordinator.{Handed}
 use Rattle.rk_world.specs.Lineage.{is_member}
-use Rattle.rk_world.specs.Written.{Written}
 use Rattle.rk_sound.specs.View.{View}
 use Rattle.rk_sound.specs.Terms.{IsWithinTerm, SentFits}
 use Rattle.rk_sound.specs.Posts.{Bystander, FirstRebuilder, FormerMember, InvitedTarget, LastRebuilder, OnlyRebuilder, OutsideRebuilder, Owner, Post, Holds, StillCounts, bond_of, post_of, rebuilder_post}
 use Rattle.rk_sound.specs.Roles.{RoleFits}
 use Rattle.rk_sound.specs.Handing.{is_wanting}
-use Rattle.rk_sound.specs.Messages.{SaysOf, IsOf, PrepareFits, CloseFits, OwnFits, ReleaseFits, RebuildFits, GrantAgrees, GrantIn, IsClosing, IsOnlyRebuilder, IsOwnedBy, IsOwnedByOther, IsOwner, IsRebuiltBy, MayFollowClose, AskAgrees, PulledAgrees, GotAgrees, ReadyIn, TransferIn, JoinedIn, RebuiltIn, HasRebuilt}
+use Rattle.rk_sound.specs.Messages.{SaysOf, IsOf, PrepareFits, CloseFits, OwnFits, ReleaseFits, RebuildFits, GrantAgrees, GrantIn, IsClosing, IsOnlyRebuilder, IsOwnedBy, IsOwnedByOther, IsOwner, IsRebuiltBy, AskAgrees, PulledAgrees, GotAgrees, ReadyIn, TransferIn, JoinedIn, RebuiltIn, HasRebuilt}
 use Rattle.rk_sound.specs.Whole.{SoundView}
 use Rattle.rk_sound.specs.Moves.{MayTakeRebuilt, row_at}
 use Rattle.rk_laws_parts.proofs.Messages.{by_master, if_master}

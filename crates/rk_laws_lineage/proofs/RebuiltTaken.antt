@@ -1,12 +1,11 @@
 -- A view stays sound when the master that rebuilt a row owns it, where the records that are made of what it told go on lawfully.
-use Rattle.std.proofs.Common.{◌≡◌, ℕ, suc, ◌+◌, ◌≤◌, ◌<◌, Bool, true, false, cond, ◌&&◌, ◌||◌, eqb, List, [], ◌∷◌, ◌++◌, Option, Some, None, refl, sym, ap, subst, ◌∙◌, ⊎_elim, arith, inl, inr}
-use Rattle.std.specs.Prelude.{All, IfSome, drop, is_some, length, max, nat_le, nat_lt, not, slice_get, ◌⊎◌}
+use Rattle.std.proofs.Common.{◌≡◌, ℕ, ◌≤◌, ◌<◌, Bool, true, false, cond, ◌&&◌, ◌||◌, eqb, List, [], ◌∷◌, ◌++◌, Option, Some, None, refl, sym, ap, subst, ◌∙◌, ⊎_elim, arith, inl, inr}
+use Rattle.std.specs.Prelude.{All, IfSome, drop, is_some, length, max, nat_le, nat_lt, not, ◌⊎◌}
 use Rattle.std.specs.List.{Contains, flat_map, list_any}
-use Rattle.std.proofs.lemmas.Bool.{and_from, cases_Bool, cond_both, cond-false, eq-eqb, eqb-true, false_from_ne_true, false≢true, le-leb}
+use Rattle.std.proofs.lemmas.Bool.{and_from, cases_Bool, cond-false, eq-eqb, eqb-true, false_from_ne_true, false≢true, le-leb}
 use Rattle.std.proofs.lemmas.List.Elements.{All-append, All-cons, All-contains, All-filter, All-nil, All-weaker}
 use Rattle.std.proofs.lemmas.Option.{IfSome_then}
 use Rattle.rk_types.specs.Hashing.{hash_of}
-use Rattle.rk_types.specs.NumberMap.{NumberMap, get}
 use Rattle.rk_types.specs.Range.{has, meets}
 use Rattle.rk_types.specs.declared.call.Call.{Call}
 use Rattle.rk_types.specs.declared.call.Ended.{Ended}
@@ -22,28 +21,23 @@ use Rattle.rk_model.specs.Merged.{is_mutation}
 use Rattle.rk_entry.specs.declared.entry.Entry.{Entry}
 use Rattle.rk_entry.specs.declared.entry.Entry.TheVariants as entries
 use Rattle.rk_done.specs.Completions.{ends_of}
-use Rattle.rk_transfer.specs.Handover.{is_serving}
-use Rattle.rk_transfer.specs.declared.handover.Handover.{Handover}
 use Rattle.rk_transfer.specs.declared.role.Role.{Role}
 use Rattle.rk_transfer.specs.declared.role.Role.TheVariants as roles
 use Rattle.rk_tablet_map.proofs.Lawful.{lawful_turned}
 use Rattle.rk_tablet_map.specs.Phase.{lineage_of, member as member_at}
-use Rattle.rk_tablet_map.specs.Rows.{is_covered, replaced, row_of}
+use Rattle.rk_tablet_map.specs.Rows.{changed_rows, is_covered, row_of, turned as changed}
 use Rattle.rk_tablet_map.specs.declared.phase.Phase.{Phase}
 use Rattle.rk_tablet_map.specs.declared.phase.Phase.TheVariants.{Owned, Rebuilding}
 use Rattle.rk_tablet_map.specs.declared.row.Row.{Row}
-use Rattle.rk_message.specs.declared.handover.Grant.{Grant}
 use Rattle.rk_message.specs.declared.message.Body.{Body}
 use Rattle.rk_message.specs.declared.message.Body.TheVariants as bodies
-use Rattle.rk_message.specs.declared.message.Message.{Message}
 use Rattle.rk_world.specs.Ranges.{has_all, has_key}
 use Rattle.rk_world.specs.Ends.{items_of, told}
 use Rattle.rk_world.specs.Base.{base_map}
 use Rattle.rk_world.specs.Coordinator.{Handed}
 use Rattle.rk_world.specs.Lineage.{is_member, last_of}
 use Rattle.rk_world.specs.Marks.{is_mark_of, is_marked}
-use Rattle.rk_world.specs.Material.{joined_from, of_key}
-use Rattle.rk_world.specs.Merge.{floor_of}
+use Rattle.rk_world.specs.Material.{of_key}
 use Rattle.rk_world.specs.RoleTests.{is_idle}
 use Rattle.rk_world.specs.Master.{touches}
 use Rattle.rk_world.specs.Notices.{names}
@@ -56,13 +50,12 @@ use Rattle.rk_sound.specs.Terms.{HandoverFits, SentFits, tenure_in, range_in}
 use Rattle.rk_sound.specs.Cover.{IsWithinRows, IsItemWithin, IsEntryWithin, IsOfWholeRows, HasWholeRows}
 use Rattle.rk_sound.specs.Posts.{Bystander, FormerMember, Owner, Post, Holds, StillCounts, bond_of, post_of, rebuilder_post, speaks}
 use Rattle.rk_sound.specs.Roles.{RoleFits, KeepTerm}
-use Rattle.rk_sound.specs.Logs.{IsLog}
 use Rattle.rk_sound.specs.Truth.{IsTruth}
 use Rattle.rk_sound.specs.Order.{AreAbove}
 use Rattle.rk_sound.specs.Handing.{handed_by, handed_for_grant, target_truth}
 use Rattle.rk_sound.specs.Calls.{AreHandedOver, IsKnown, IsReached, IsStagedEnd, ReachAll, TellAll, is_record_in}
 use Rattle.rk_sound.specs.Counters.{AreAboveMap, IsNext}
-use Rattle.rk_sound.specs.Rest.{EachHasCall, FirstIsDone, HasCall, IsRest, OnlyIsUnnamed, Waits, is_call_entry}
+use Rattle.rk_sound.specs.Rest.{EachHasCall, FirstIsDone, IsRest, OnlyIsUnnamed, Waits}
 use Rattle.rk_sound.specs.Tables.{HasItems, has_all_items}
 use Rattle.rk_sound.specs.Receives.{HandedFits, IsBare, MembersFit, NamedFit, wanted_place}
 use Rattle.rk_sound.specs.Rebuilds.{HasOwnRange, MarkFits, RowIsRebuilt}
@@ -81,10 +74,10 @@ use Rattle.rk_laws_parts.proofs.Rebuilders.{last_member}
 use Rattle.rk_laws_parts.proofs.Records.{filter_from}
 use Rattle.rk_laws_parts.proofs.Rest.{own_touches}
 use Rattle.rk_laws_parts.proofs.Speakers.{quiet_says}
-use Rattle.rk_laws_parts.proofs.TurnedRows.{covered_turned, known_turned, new_stands, none_known, stands_found, stands_still}
+use Rattle.rk_laws_parts.proofs.TurnedRows.{covered_turned, known_turned, none_known, stands_found, stands_still}
 use Rattle.rk_laws_lineage.specs.Lineages.{TellHistory}
 use Rattle.rk_laws_lineage.specs.Rebuilt.{MayOwnRebuilt}
-use Rattle.rk_laws_lineage.specs.Small.{marks_taken, rebuilt_taken, without_marks_of}
+use Rattle.rk_laws_lineage.specs.Small.{rebuilt_taken}
 use Rattle.rk_laws_lineage.proofs.Among.{kept_passes, later_all}
 use Rattle.rk_laws_lineage.proofs.MarksBeside.{done_beside, items_beside, marks_beside, members_beside, named_beside, pieces_beside, rebuilt_beside, says_beside, target_beside}
 use Rattle.rk_laws_lineage.proofs.MarksTaken.{rests_kept, taken_by, truths_kept}
@@ -779,3 +772,7 @@ module _ (v : View) (row : Row) (lineage : List Member) (to place : ℕ) (ends :
     messages = messages;
     asked = may.records.asked;
   }
+
+  -- the rows of a lane after it
+  pub rows_rebuilt : changed_rows v.rows row.tablet row.term owned ≡ now.rows
+  rows_rebuilt = ap (λ (o : Option Row). changed o v.rows row.tablet row.term owned) found

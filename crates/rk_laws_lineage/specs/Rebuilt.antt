@@ -1,5 +1,5 @@
 -- Rebuilt: when the master that rebuilt a row may own it, so that records are made of what it told and the marks of the tablet are gone.
-use Rattle.std.specs.Prelude.{◌≡◌, ◌≤◌, ℕ, true, List, ◌++◌, Some, Contains, All, slice_get}
+use Rattle.std.specs.Prelude.{◌≡◌, ◌==◌, ◌&&◌, ℕ, true, not, if◌then◌else◌, List, [], ◌∷◌, ◌++◌, Option, Some, None, Contains, All, slice_get}
 use Rattle.rk_types.specs.declared.call.Ended.{Ended}
 use Rattle.rk_types.specs.declared.history.Placed.{Placed}
 use Rattle.rk_types.specs.declared.lineage.Member.{Member}
@@ -11,7 +11,12 @@ use Rattle.rk_done.specs.Completions.{ends_of}
 use Rattle.rk_tablet_map.specs.Phase.{member as member_at}
 use Rattle.rk_tablet_map.specs.declared.phase.Phase.TheVariants.{Owned}
 use Rattle.rk_tablet_map.specs.declared.row.Row.{Row}
+use Rattle.rk_world.specs.Ends.{outcome_of}
 use Rattle.rk_world.specs.Base.{base_map}
+use Rattle.rk_world.specs.Journal.{has_record, next_record}
+use Rattle.rk_world.specs.declared.ledger.LastCall.{LastCall}
+use Rattle.rk_world.specs.Ledger.{with_ends, without_marks}
+use Rattle.rk_world.specs.World.{World, with_ledger}
 use Rattle.rk_world.specs.Written.{member_truth}
 use Rattle.rk_sound.specs.View.{View, truths, rests}
 use Rattle.rk_sound.specs.Truth.{IsAfterSeen}
@@ -21,7 +26,27 @@ use Rattle.rk_sound.specs.Tables.{IsTableOf}
 use Rattle.rk_sound.specs.Whole.{AskedOf}
 use Rattle.rk_sound.specs.Moves.{HasSome, MayTakeRebuilt, row_at}
 use Rattle.rk_laws_lineage.specs.Lineages.{TellHistory}
-use Rattle.rk_laws_lineage.specs.Small.{marks_taken, rebuilt_taken}
+use Rattle.rk_laws_lineage.specs.Small.{marks_taken, row_owned_in}
+
+-- the record that an end makes, where it is that of its client's last call and that call has none
+abbrev pub made_by : List Placed → Ended → Option LastCall → List Placed
+made_by journal end None = []
+made_by journal end (Some asked) =
+    if asked.call.seq == end.seq && not (has_record journal end.client end.seq)
+    then next_record journal asked.call (outcome_of end.end) asked.seen ∷ []
+    else []
+
+-- the records that ends make, in their order, behind a journal
+abbrev pub made_of : (ℕ → Option LastCall) → List Placed → List Ended → List Placed
+made_of asked journal [] = []
+made_of asked journal (end ∷ ends) =
+    let made = made_by journal end (asked end.client) in made ++ made_of asked (journal ++ made) ends
+
+-- a rebuild is taken: the row is owned by the master that rebuilt it, the ends that this told make records, and no log has a mark of the
+-- tablet any more
+abbrev pub rebuilt_taken_in : World → Row → ℕ → ℕ → List Ended → World
+rebuilt_taken_in w row to place ends =
+    with_ledger (row_owned_in w row to place) (without_marks (with_ends w.ledger ends) row.tablet row.term)
 
 -- records that a rebuild makes are of keys of its range and were asked; with them the journal is a lawful history still, in which no
 -- mutation has two records
