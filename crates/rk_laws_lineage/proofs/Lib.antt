@@ -20,3 +20,4 @@ pub mod MarksBeside
 pub mod RebuiltSays
 pub mod RebuiltTaken
 pub mod RebuiltWorld
+pub mod MadeRecords
