@@ -76,9 +76,10 @@ use Rattle.rk_laws_parts.proofs.Rest.{own_touches}
 use Rattle.rk_laws_parts.proofs.Speakers.{quiet_says}
 use Rattle.rk_laws_parts.proofs.TurnedRows.{covered_turned, known_turned, none_known, stands_found, stands_still}
 use Rattle.rk_laws_lineage.specs.Lineages.{TellHistory}
-use Rattle.rk_laws_lineage.specs.Rebuilt.{MayOwnRebuilt}
+use Rattle.rk_laws_lineage.specs.Rebuilt.{MayOwnRebuilt, made_of}
 use Rattle.rk_laws_lineage.specs.Small.{rebuilt_taken}
 use Rattle.rk_laws_lineage.proofs.Among.{kept_passes, later_all}
+use Rattle.rk_laws_lineage.proofs.MadeRecords.{made_asked, made_rising, made_seen}
 use Rattle.rk_laws_lineage.proofs.MarksBeside.{done_beside, items_beside, marks_beside, members_beside, named_beside, pieces_beside, rebuilt_beside, says_beside, target_beside}
 use Rattle.rk_laws_lineage.proofs.MarksTaken.{rests_kept, taken_by, truths_kept}
 use Rattle.rk_laws_lineage.proofs.OtherRows.{all_others, stood_apart}
@@ -96,7 +97,11 @@ rebuilt_owns : (role : Role) (place term own applied : ℕ) → HasRebuilt role 
 rebuilt_owns (roles.Rebuilding from (Some entry)) place term own applied rebuilt same = (same, (rebuilt.0, rebuilt.1))
 rebuilt_owns _ place term own applied rebuilt same = absurd rebuilt
 
-module _ (v : View) (row : Row) (lineage : List Member) (to place : ℕ) (ends : List Ended) (made : List Placed) (sound : SoundView v) (may : MayOwnRebuilt v row lineage to place ends made) where
+module _ (v : View) (row : Row) (lineage : List Member) (to place : ℕ) (ends : List Ended) (sound : SoundView v) (may : MayOwnRebuilt v row lineage to place ends) where
+  -- the records that are made
+  abbrev made : List Placed
+  made = made_of v.asked v.journal ends
+
   abbrev taken : MayTakeRebuilt v row lineage to place ends
   taken = may.taken
 
@@ -388,8 +393,8 @@ module _ (v : View) (row : Row) (lineage : List Member) (to place : ℕ) (ends :
   truth : TruthOf now (truths now)
   truth = record {
     legal = may.records.legal;
-    rising = may.records.rising;
-    seen = may.records.seen;
+    rising = made_rising v sound.asked ends sound.truth.rising;
+    seen = made_seen v sound.asked ends sound.truth.seen;
     true =
         each (λ r. IsTruth v.base r.range (truths now r) journal) may.history.leaves (λ r has unlike. (history r has unlike).leaves);
   }
@@ -770,7 +775,7 @@ module _ (v : View) (row : Row) (lineage : List Member) (to place : ℕ) (ends :
     receives = receives;
     rebuilds = rebuilds;
     messages = messages;
-    asked = may.records.asked;
+    asked = made_asked v sound.asked ends;
   }
 
   -- the rows of a lane after it

@@ -57,11 +57,11 @@ kept_either {X} p q (x ∷ xs) = go (p x) (q x) refl refl (kept_either p q xs)
         ap (λ (b : Bool). cond b (x ∷ filter p (filter q xs)) (filter p (filter q xs))) first ∙ later
     go false false first second later = later
 
-pub sound_rebuilt_taken : (w : World) (row : Row) (lineage : List Member) (to place : ℕ) (ends : List Ended) → IsSound w → MayOwnRebuilt (view w) row lineage to place ends (made_of (asked_by w.ledger) w.ledger.journal ends) → IsSound (rebuilt_taken_in w row to place ends)
+pub sound_rebuilt_taken : (w : World) (row : Row) (lineage : List Member) (to place : ℕ) (ends : List Ended) → IsSound w → MayOwnRebuilt (view w) row lineage to place ends → IsSound (rebuilt_taken_in w row to place ends)
 sound_rebuilt_taken w row lineage to place ends sound may =
     let made : List Placed = made_of (asked_by w.ledger) w.ledger.journal ends in
     let stays : Mark → Bool = λ mark. not (is_mark_of row.tablet row.term mark) in
-    let whole : SoundView _ = view_rebuilt_taken (view w) row lineage to place ends made sound may in
+    let whole : SoundView _ = view_rebuilt_taken (view w) row lineage to place ends sound may in
     let with_rows =
     subst
     (λ (rows : List Row). SoundView (record (view w) {
@@ -69,7 +69,7 @@ sound_rebuilt_taken w row lineage to place ends sound may =
       journal = w.ledger.journal ++ made;
       written = λ q. record ((view w).written q) { marks = filter stays (marks_of w.ledger q) };
     }))
-    (sym (rows_rebuilt (view w) row lineage to place ends made sound may)) whole in
+    (sym (rows_rebuilt (view w) row lineage to place ends sound may)) whole in
     let with_marks =
     subst
     (λ (marks : ℕ → List Mark). SoundView (record (view (row_owned_in w row to place)) {

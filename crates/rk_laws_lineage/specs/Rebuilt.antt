@@ -48,29 +48,29 @@ abbrev pub rebuilt_taken_in : World → Row → ℕ → ℕ → List Ended → W
 rebuilt_taken_in w row to place ends =
     with_ledger (row_owned_in w row to place) (without_marks (with_ends w.ledger ends) row.tablet row.term)
 
--- records that a rebuild makes are of keys of its range and were asked; with them the journal is a lawful history still, in which no
--- mutation has two records
-pub record MakesRecords (v : View) (range : Range) (made : List Placed) : Type 0 where
-  pub inside : All (λ placed. is_record_in range placed ≡ true) made
-  pub legal : IsLegal (base_map v.base) (v.journal ++ made)
-  pub rising : IsRisingAbove 0 (v.journal ++ made)
-  pub seen : All (λ placed. IsAfterSeen (v.asked placed.call.client) placed) (v.journal ++ made)
-  pub once :
-      (i j : ℕ) (a b : Placed) → slice_get (v.journal ++ made) i ≡ Some a → slice_get (v.journal ++ made) j ≡ Some b
-      → AreOneMutation a.call b.call → i ≡ j
-  pub asked : AskedOf (record v { journal = v.journal ++ made })
+-- the journal with the records that ends make
+abbrev pub journal_with : View → List Ended → List Placed
+journal_with v ends = v.journal ++ made_of v.asked v.journal ends
 
--- the master that rebuilt a row may own it, where records are made of what it told: then what counts of its own log tells all of the
--- row, its records and its ends have all, its counter is above all, and what counts for each other row tells all of that one still
-pub record MayOwnRebuilt (v : View) (row : Row) (lineage : List Member) (to place : ℕ) (ends : List Ended) (made : List Placed) : Type 0 where
+-- the records that ends make are of keys of a range; with them the journal is a lawful history still, in which no mutation has two records
+pub record MakeRecords (v : View) (range : Range) (ends : List Ended) : Type 0 where
+  pub inside : All (λ placed. is_record_in range placed ≡ true) (made_of v.asked v.journal ends)
+  pub legal : IsLegal (base_map v.base) (journal_with v ends)
+  pub once :
+      (i j : ℕ) (a b : Placed) → slice_get (journal_with v ends) i ≡ Some a → slice_get (journal_with v ends) j ≡ Some b
+      → AreOneMutation a.call b.call → i ≡ j
+
+-- the master that rebuilt a row may own it, where records are made of the ends that it told: then what counts of its own log tells all
+-- of the row, its records and its ends have all, its counter is above all, and what counts for each other row tells all of that one still
+pub record MayOwnRebuilt (v : View) (row : Row) (lineage : List Member) (to place : ℕ) (ends : List Ended) : Type 0 where
   pub taken : MayTakeRebuilt v row lineage to place ends
   pub ranges : All (λ other. HasSome other.range) v.rows
-  pub records : MakesRecords v row.range made
+  pub records : MakeRecords v row.range ends
   pub history :
       TellHistory v.base row.range (truths (marks_taken v row.tablet row.term) (row_at row row.term (Owned to place)))
-      (rests (marks_taken v row.tablet row.term) (row_at row row.term (Owned to place))) (v.journal ++ made) v.asked
-  pub reached : ReachAll row.range (v.journal ++ made) (ends_of (v.completions to row.tablet))
-  pub known : All (IsKnown v.base (v.journal ++ made)) (ends_of (v.completions to row.tablet))
+      (rests (marks_taken v row.tablet row.term) (row_at row row.term (Owned to place))) (journal_with v ends) v.asked
+  pub reached : ReachAll row.range (journal_with v ends) (ends_of (v.completions to row.tablet))
+  pub known : All (IsKnown v.base (journal_with v ends)) (ends_of (v.completions to row.tablet))
   pub next :
       IsNext
       (truths (marks_taken v row.tablet row.term) (row_at row row.term (Owned to place))
@@ -81,4 +81,4 @@ pub record MayOwnRebuilt (v : View) (row : Row) (lineage : List Member) (to plac
       (member_truth (marks_taken v row.tablet row.term).written row.range (member_at to place)) (v.records to)
   pub others :
       (other : Row) → Contains v.rows other → (other.tablet ≡ row.tablet → ⊥)
-      → TellHistory v.base other.range (truths v other) (rests v other) (v.journal ++ made) v.asked
+      → TellHistory v.base other.range (truths v other) (rests v other) (journal_with v ends) v.asked
