@@ -34,7 +34,7 @@ within_from floor bound (entry ∷ list) low each =
     (step_within floor bound entry low (each entry (0, omega arith, refl)))
     (λ other stands. each other (suc stands.0, omega (arith, stands.1), stands.2))
 
-one_within : (floor : ℕ) (list : List Entry) (entry : Entry) → 1 ≤ floor → Contains list entry → floor_by 1 entry ≤ fold floor_by floor list
+pub one_within : (floor : ℕ) (list : List Entry) (entry : Entry) → 1 ≤ floor → Contains list entry → floor_by 1 entry ≤ fold floor_by floor list
 one_within floor [] entry least stands = absurd (omega (arith, stands.1))
 one_within floor (first ∷ list) entry least stands =
     ⊎_elim

@@ -15,9 +15,10 @@ pub mod JoinedTarget
 pub mod JoinedTaken
 pub mod FewerMarks
 pub mod MarksTaken
-pub mod RebuiltMaterial
 pub mod MarksBeside
+pub mod RebuiltMaterial
+pub mod RebuiltCounter
 pub mod RebuiltSays
+pub mod MadeRecords
 pub mod RebuiltTaken
 pub mod RebuiltWorld
-pub mod MadeRecords

@@ -1,17 +1,17 @@
 -- Records that ends make: each is of the last call of its client, with a stamp above all before it and above what the client had seen.
-use Rattle.std.proofs.Common.{◌≡◌, ℕ, ◌<◌, Bool, true, false, cond, ◌&&◌, eqb, List, [], ◌∷◌, ◌++◌, Option, Some, None, refl, sym, ap, subst, ◌∙◌, ⊎_elim, arith, inl, append-nil, append_assoc}
-use Rattle.std.specs.Prelude.{All, IfSome, length, max, not, slice_get}
+use Rattle.std.proofs.Common.{◌≡◌, ℕ, Bool, true, false, cond, ◌&&◌, eqb, List, [], ◌∷◌, ◌++◌, Option, Some, None, refl, sym, ap, subst, ◌∙◌, ⊎_elim, arith, inl, append-nil, append_assoc}
+use Rattle.std.specs.Prelude.{All, IfSome, length, not, slice_get}
 use Rattle.std.proofs.lemmas.Bool.{false≢true}
 use Rattle.std.proofs.lemmas.List.Elements.{All-push, All-weaker}
 use Rattle.rk_types.specs.declared.call.Ended.{Ended}
 use Rattle.rk_types.specs.declared.history.Placed.{Placed}
 use Rattle.rk_model.specs.Merged.{IsRisingAbove, lane_of_key}
 use Rattle.rk_world.specs.Ends.{outcome_of}
-use Rattle.rk_world.specs.Journal.{has_record, last_stamp, next_record}
+use Rattle.rk_world.specs.Journal.{has_record, next_record}
 use Rattle.rk_world.specs.declared.ledger.LastCall.{LastCall}
 use Rattle.rk_sound.specs.View.{View}
 use Rattle.rk_sound.specs.Truth.{IsAfterSeen}
-use Rattle.rk_sound.specs.Asked.{AreOneAccepted, IsLastCall, WasAsked}
+use Rattle.rk_sound.specs.Asked.{IsLastCall, WasAsked}
 use Rattle.rk_sound.specs.Whole.{AskedOf}
 use Rattle.rk_laws_parts.proofs.MoreRecords.{asked_still, got_cases, is_request_still, request_says_still, rising_push}
 use Rattle.rk_laws_lineage.specs.Rebuilt.{made_by, made_of}

@@ -83,6 +83,7 @@ use Rattle.rk_laws_lineage.proofs.MadeRecords.{made_asked, made_rising, made_see
 use Rattle.rk_laws_lineage.proofs.MarksBeside.{done_beside, items_beside, marks_beside, members_beside, named_beside, pieces_beside, rebuilt_beside, says_beside, target_beside}
 use Rattle.rk_laws_lineage.proofs.MarksTaken.{rests_kept, taken_by, truths_kept}
 use Rattle.rk_laws_lineage.proofs.OtherRows.{all_others, stood_apart}
+use Rattle.rk_laws_lineage.proofs.RebuiltCounter.{next_now}
 use Rattle.rk_laws_lineage.proofs.RebuiltMaterial.{placed_within, settled, taken_applied}
 use Rattle.rk_laws_lineage.proofs.RebuiltSays.{member_here, says_owned}
 use Rattle.rk_laws_lineage.proofs.Untouched.{each_misses}
@@ -530,7 +531,8 @@ module _ (v : View) (row : Row) (lineage : List Member) (to place : ℕ) (ends :
         (λ r. StillCounts (v.live q) (v.handovers q r.tablet).term r.term
         → speaks (post_of r.phase q) (v.handovers q r.tablet) r.term ≡ true
         → IsNext (truths now r ++ rests now r) (v.handovers q r.tablet).counter)
-        (λ was counting. owner_says q counting (λ m. IsNext (truths now new ++ rests now new) (v.handovers m row.tablet).counter) may.next)
+        (λ was counting. owner_says q counting (λ m. IsNext (truths now new ++ rests now new) (v.handovers m row.tablet).counter)
+        (next_now v row lineage to place ends sound (some_of row has_row) taken))
         (λ r has unlike was counting says. next_as r has unlike (v.handovers q r.tablet).counter (was counting says))
         (sound.counters.counted q);
     handed_on =

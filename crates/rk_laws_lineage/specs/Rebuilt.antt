@@ -5,7 +5,6 @@ use Rattle.rk_types.specs.declared.history.Placed.{Placed}
 use Rattle.rk_types.specs.declared.lineage.Member.{Member}
 use Rattle.rk_types.specs.declared.range.Range.{Range}
 use Rattle.rk_model.specs.History.{IsLegal}
-use Rattle.rk_model.specs.Merged.{IsRisingAbove}
 use Rattle.rk_model.specs.Ordered.{AreOneMutation}
 use Rattle.rk_done.specs.Completions.{ends_of}
 use Rattle.rk_tablet_map.specs.Phase.{member as member_at}
@@ -19,11 +18,8 @@ use Rattle.rk_world.specs.Ledger.{with_ends, without_marks}
 use Rattle.rk_world.specs.World.{World, with_ledger}
 use Rattle.rk_world.specs.Written.{member_truth}
 use Rattle.rk_sound.specs.View.{View, truths, rests}
-use Rattle.rk_sound.specs.Truth.{IsAfterSeen}
 use Rattle.rk_sound.specs.Calls.{IsKnown, ReachAll, is_record_in}
-use Rattle.rk_sound.specs.Counters.{IsNext}
 use Rattle.rk_sound.specs.Tables.{IsTableOf}
-use Rattle.rk_sound.specs.Whole.{AskedOf}
 use Rattle.rk_sound.specs.Moves.{HasSome, MayTakeRebuilt, row_at}
 use Rattle.rk_laws_lineage.specs.Lineages.{TellHistory}
 use Rattle.rk_laws_lineage.specs.Small.{marks_taken, row_owned_in}
@@ -61,7 +57,7 @@ pub record MakeRecords (v : View) (range : Range) (ends : List Ended) : Type 0 w
       → AreOneMutation a.call b.call → i ≡ j
 
 -- the master that rebuilt a row may own it, where records are made of the ends that it told: then what counts of its own log tells all
--- of the row, its records and its ends have all, its counter is above all, and what counts for each other row tells all of that one still
+-- of the row, its records and its ends have all of it, and what counts for each other row tells all of that one still
 pub record MayOwnRebuilt (v : View) (row : Row) (lineage : List Member) (to place : ℕ) (ends : List Ended) : Type 0 where
   pub taken : MayTakeRebuilt v row lineage to place ends
   pub ranges : All (λ other. HasSome other.range) v.rows
@@ -71,11 +67,6 @@ pub record MayOwnRebuilt (v : View) (row : Row) (lineage : List Member) (to plac
       (rests (marks_taken v row.tablet row.term) (row_at row row.term (Owned to place))) (journal_with v ends) v.asked
   pub reached : ReachAll row.range (journal_with v ends) (ends_of (v.completions to row.tablet))
   pub known : All (IsKnown v.base (journal_with v ends)) (ends_of (v.completions to row.tablet))
-  pub next :
-      IsNext
-      (truths (marks_taken v row.tablet row.term) (row_at row row.term (Owned to place))
-      ++ rests (marks_taken v row.tablet row.term) (row_at row row.term (Owned to place)))
-      (v.handovers to row.tablet).counter
   pub full :
       IsTableOf row.range
       (member_truth (marks_taken v row.tablet row.term).written row.range (member_at to place)) (v.records to)
