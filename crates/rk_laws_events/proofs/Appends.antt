@@ -1,6 +1,6 @@
 -- A sound lane stays sound when a master sends its backups what they are not known to hold.
-use Rattle.std.proofs.Common.{◌≡◌, ◌≤◌, ◌<◌, ◌+◌, ◌++◌, ℕ, zero, suc, List, [], ◌∷◌, All, length, Option, None, Some, sym, subst, arith}
-use Rattle.std.specs.Prelude.{IfSome, map, ⊤}
+use Rattle.std.proofs.Common.{◌≤◌, ◌<◌, ◌+◌, ◌++◌, ℕ, zero, suc, List, [], All, length, Option, None, Some, sym, subst, arith}
+use Rattle.std.specs.Prelude.{IfSome, ⊤}
 use Rattle.std.specs.List.{flat_map, range_with_len}
 use Rattle.std.proofs.lemmas.List.Elements.{All-append, All-cons, All-nil}
 use Rattle.rk_entry.specs.declared.lists.TheConstants.{FIRST_SIDE_SEGMENT}
@@ -11,7 +11,6 @@ use Rattle.rk_log.specs.Log.{IsBackup, bytes_of, known_of, pending}
 use Rattle.rk_log.specs.Piece.{PlacedBytes}
 use Rattle.rk_tablet_map.specs.declared.row.Row.{Row}
 use Rattle.rk_message.specs.declared.message.Body.TheVariants as bodies
-use Rattle.rk_message.specs.declared.message.Message.{Message}
 use Rattle.rk_message.specs.declared.replication.Append.{Append}
 use Rattle.rk_world.specs.MasterTurn.{append_of, appends}
 use Rattle.rk_world.specs.World.{World, log_in, master_at, with_all_sent}

@@ -1,9 +1,9 @@
 -- A sound and well formed lane stays sound when a tablet is added, when one begins to move, and when crashes are noticed.
-use Rattle.std.proofs.Common.{◌≡◌, ◌==◌, ◌≤◌, ◌+◌, ◌&&◌, ◌++◌, ℕ, zero, suc, Bool, true, false, cond, List, [], ◌∷◌, All, Option, Some, None, refl, sym, ap, subst, ◌∙◌, arith}
-use Rattle.std.specs.Prelude.{Contains, IfSome, filter, fold, map, not, unwrap_or, ⊤}
+use Rattle.std.proofs.Common.{◌≡◌, ◌==◌, ◌≤◌, ◌+◌, ◌&&◌, ◌++◌, ℕ, zero, suc, Bool, true, false, cond, List, [], ◌∷◌, All, Option, Some, None, refl, sym, ap, subst, arith}
+use Rattle.std.specs.Prelude.{Contains, IfSome, filter, fold, map, not, unwrap_or}
 use Rattle.std.specs.List.{range_with_len}
 use Rattle.std.specs.Option.{option_map, option_or}
-use Rattle.std.proofs.lemmas.Bool.{eq-eqb, eqb-true}
+use Rattle.std.proofs.lemmas.Bool.{eq-eqb}
 use Rattle.std.proofs.lemmas.List.Elements.{All-append, All-cons, All-filter, All-head, All-map, All-nil, All-tail, All-weaker}
 use Rattle.rk_types.specs.NumberMap.{EachIn, get}
 use Rattle.rk_types.specs.declared.node.Node.{Node}
@@ -11,21 +11,18 @@ use Rattle.rk_types.specs.declared.range.Range.{Range}
 use Rattle.rk_entry.specs.declared.entry.Entry.{Entry}
 use Rattle.rk_entry.specs.declared.entry.Entry.TheVariants as entries
 use Rattle.rk_tablet_map.specs.Rows.{add_fault, row_of}
-use Rattle.rk_tablet_map.specs.declared.error.MapError.{MapError}
 use Rattle.rk_tablet_map.specs.declared.phase.Phase.{Phase}
 use Rattle.rk_tablet_map.specs.declared.phase.Phase.TheVariants.{Moving, Opening, Owned, Rebuilding}
 use Rattle.rk_tablet_map.specs.declared.row.Row.{Row}
 use Rattle.rk_message.specs.declared.message.Body.{Body}
 use Rattle.rk_message.specs.declared.message.Body.TheVariants as bodies
-use Rattle.rk_message.specs.declared.message.Message.{Message}
-use Rattle.rk_world.specs.declared.error.MoveError.{MoveError}
 use Rattle.rk_world.specs.declared.error.MoveError.TheVariants as moves
 use Rattle.rk_world.specs.declared.error.StepError.{StepError}
 use Rattle.rk_world.specs.declared.error.StepError.TheVariants as errors
 use Rattle.rk_world.specs.declared.event.Event.TheVariants as events
 use Rattle.rk_world.specs.Coordinator.{Coordinator, is_noticed, new_row}
 use Rattle.rk_world.specs.Formed.{IsFormedMaster, IsFormedRow, IsWellFormed}
-use Rattle.rk_world.specs.Limits.{IsFormedBody, IsFormedEntry, IsFormedMessage, Limits, limits_of}
+use Rattle.rk_world.specs.Limits.{IsFormedBody, IsFormedEntry, Limits, limits_of}
 use Rattle.rk_world.specs.Master.{Master, new_master, tablet_at}
 use Rattle.rk_world.specs.Migrations.{migrate_fault_by, migrate_fault_of, migrating, row_migrated, tablet_migrated}
 use Rattle.rk_world.specs.Notices.{coordinator_notice, is_named, notice_one, notice_order, phase_noticed, row_noticed}
@@ -35,8 +32,8 @@ use Rattle.rk_world.specs.Tablet.{Tablet, no_tablet}
 use Rattle.rk_world.specs.World.{World, crashed_masters, has_crashed, master_at, with_coordinator}
 use Rattle.rk_sound.specs.View.{view}
 use Rattle.rk_sound.specs.Terms.{range_in}
-use Rattle.rk_sound.specs.Moves.{HasSome, HasSomeIn, MayAdd, MayMigrate, MayNotice}
-use Rattle.rk_sound.specs.Small.{crash_noticed_in, migration_begun_in}
+use Rattle.rk_sound.specs.Moves.{HasSome, HasSomeIn, MayAdd, MayNotice}
+use Rattle.rk_sound.specs.Small.{crash_noticed_in}
 use Rattle.rk_sound.specs.Whole.{IsSound}
 use Rattle.rk_world.specs.Step.{tablet_added}
 use Rattle.rk_laws_parts.proofs.CrashNoticed.{sound_crash_noticed}
@@ -231,7 +228,7 @@ tested P test (m ∷ list) all =
     go false is rest = rest
 
 -- the masters from one on are those of their count
-masters_from : (start count most : ℕ) → 1 ≤ start → start + count ≤ most + 1 → All (IsMaster most) (range_with_len start count)
+pub masters_from : (start count most : ℕ) → 1 ≤ start → start + count ≤ most + 1 → All (IsMaster most) (range_with_len start count)
 masters_from start zero most first last = All-nil _
 masters_from start (suc count) most first last =
     All-cons (IsMaster most) start (range_with_len (start + 1) count) (record { first = first; last = omega (arith, last) })

@@ -5,9 +5,7 @@ use Rattle.std.specs.List.{flat_map}
 use Rattle.std.proofs.lemmas.Bool.{and_parts, eqb-true}
 use Rattle.std.proofs.lemmas.List.Elements.{All-append, All-cons, All-contains, All-nil}
 use Rattle.rk_types.specs.NumberMap.{get, get_or}
-use Rattle.rk_types.specs.declared.lineage.Member.{Member}
 use Rattle.rk_types.specs.declared.node.Node.TheVariants as nodes
-use Rattle.rk_done.specs.Completions.{ends_of}
 use Rattle.rk_transfer.specs.declared.handover.Handover.{Handover}
 use Rattle.rk_tablet_map.specs.Phase.{lineage_of}
 use Rattle.rk_tablet_map.specs.declared.phase.Phase.{Phase}
@@ -15,8 +13,7 @@ use Rattle.rk_tablet_map.specs.declared.phase.Phase.TheVariants.{Moving, Opening
 use Rattle.rk_tablet_map.specs.declared.row.Row.{Row}
 use Rattle.rk_message.specs.declared.handover.Grant.{Grant}
 use Rattle.rk_message.specs.declared.message.Body.TheVariants as bodies
-use Rattle.rk_message.specs.declared.message.Message.{Message}
-use Rattle.rk_world.specs.Coordinator.{Coordinator, Handed, row_tenure}
+use Rattle.rk_world.specs.Coordinator.{Handed, row_tenure}
 use Rattle.rk_world.specs.CoordinatorStep.{coordinator_turn, row_duty}
 use Rattle.rk_world.specs.Step.{with_sends}
 use Rattle.rk_world.specs.World.{World}

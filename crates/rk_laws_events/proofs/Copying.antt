@@ -1,16 +1,14 @@
 -- A sound lane stays sound when a backup takes a Read: what it copies is all that it stores of the segment, so all that is to be read.
-use Rattle.std.proofs.Common.{◌≡◌, ◌≤◌, ◌==◌, ◌++◌, ◌&&◌, ℕ, Bool, true, false, cond, List, [], ◌∷◌, length, Option, None, Some, refl, sym, ap, subst, ◌∙◌, ⊎_elim, arith}
-use Rattle.std.specs.Prelude.{All, Contains, IfSome, is_some, nat_le, unwrap_or}
+use Rattle.std.proofs.Common.{◌≡◌, ◌≤◌, ◌++◌, ℕ, Bool, true, cond, List, [], ◌∷◌, length, Option, None, Some, refl, sym, ap, subst, ◌∙◌, ⊎_elim, arith}
+use Rattle.std.specs.Prelude.{Contains, IfSome, nat_le, unwrap_or}
 use Rattle.std.proofs.lemmas.Bool.{and_parts, cases_eq, eq-eqb, leb-true}
 use Rattle.std.proofs.lemmas.List.Elements.{All-contains, All-weaker}
 use Rattle.rk_types.proofs.NumberMaps.{get_other, get_same}
 use Rattle.rk_types.specs.NumberMap.{get, insert}
 use Rattle.rk_types.specs.declared.lineage.Member.{Member}
-use Rattle.rk_types.specs.declared.node.Node.{Node}
 use Rattle.rk_types.specs.declared.node.Node.TheVariants as nodes
 use Rattle.rk_log.specs.Log.{IsBackup, known_of}
 use Rattle.rk_outside.specs.Segments.{Segments, bytes_of}
-use Rattle.rk_tablet_map.specs.Rows.{row_of}
 use Rattle.rk_tablet_map.specs.declared.phase.Phase.{Phase}
 use Rattle.rk_tablet_map.specs.declared.phase.Phase.TheVariants.{Moving, Opening, Owned, Rebuilding}
 use Rattle.rk_tablet_map.specs.declared.row.Row.{Row}
@@ -18,7 +16,7 @@ use Rattle.rk_message.specs.declared.message.Body.TheVariants as bodies
 use Rattle.rk_message.specs.declared.message.Message.{Message}
 use Rattle.rk_message.specs.declared.rebuilding.CopySegment.{CopySegment}
 use Rattle.rk_message.specs.declared.rebuilding.ReadSegment.{ReadSegment}
-use Rattle.rk_world.specs.Backup.{Called, Failed, Gave, common_front, copied, no_segments, read_called, read_step}
+use Rattle.rk_world.specs.Backup.{common_front, copied, no_segments, read_called, read_step}
 use Rattle.rk_world.specs.Premises.{IsMaster}
 use Rattle.rk_world.specs.Step.{Stepped, backed_at, log_bytes_of, quietly, to_backup}
 use Rattle.rk_world.specs.World.{World, backup_at, is_backup, log_in, with_stored_by}
@@ -28,7 +26,7 @@ use Rattle.rk_sound.specs.Handing.{handed_by}
 use Rattle.rk_sound.specs.Calls.{AreHandedOver}
 use Rattle.rk_sound.specs.Counters.{IsNext}
 use Rattle.rk_sound.specs.Logs.{IsFirstPart, stored_of}
-use Rattle.rk_sound.specs.Messages.{CopyIn, IsOf, ReadIn, SaysOf}
+use Rattle.rk_sound.specs.Messages.{CopyIn, ReadIn, SaysOf}
 use Rattle.rk_sound.specs.Rebuilds.{IsReadPart, MarkedFit, NeededOf, READ_BACKUP, RowIsRebuilt}
 use Rattle.rk_sound.specs.Changes.{MaySend}
 use Rattle.rk_sound.specs.Whole.{IsSound, SoundView}

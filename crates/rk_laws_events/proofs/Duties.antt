@@ -1,9 +1,8 @@
 -- What a living master may send on its turn for a tablet: it asks its source for what it lacks, reads the next segment of a rebuild, and tells the
 -- coordinator that it has joined or rebuilt the tablet.
-use Rattle.std.proofs.Common.{◌≡◌, ◌==◌, ◌≤◌, ◌<◌, ◌++◌, ℕ, Bool, true, false, cond, List, [], ◌∷◌, All, Option, Some, None, refl, sym, ap, subst, ◌∙◌, inl}
+use Rattle.std.proofs.Common.{◌≡◌, ◌≤◌, ◌<◌, ◌++◌, ℕ, true, false, List, [], ◌∷◌, Some, refl, sym, ap, subst, ◌∙◌, inl}
 use Rattle.std.specs.Prelude.{Contains, IfSome, is_some}
-use Rattle.std.proofs.lemmas.List.Elements.{All-contains, All-weaker}
-use Rattle.rk_types.specs.NumberMap.{get}
+use Rattle.std.proofs.lemmas.List.Elements.{All-contains}
 use Rattle.rk_types.specs.declared.held.Token.{Token}
 use Rattle.rk_types.specs.declared.lineage.Member.{Member}
 use Rattle.rk_types.specs.declared.node.Node.{Node}
@@ -13,21 +12,18 @@ use Rattle.rk_transfer.specs.declared.role.Role.{Role}
 use Rattle.rk_transfer.specs.declared.role.Role.TheVariants as roles
 use Rattle.rk_tablet_map.specs.Phase.{lineage_of}
 use Rattle.rk_tablet_map.specs.Rows.{row_of}
-use Rattle.rk_tablet_map.specs.declared.phase.Phase.{Phase}
 use Rattle.rk_tablet_map.specs.declared.row.Row.{Row}
 use Rattle.rk_message.specs.declared.handover.Tenure.{Tenure}
-use Rattle.rk_message.specs.declared.message.Body.{Body}
 use Rattle.rk_message.specs.declared.message.Body.TheVariants as bodies
-use Rattle.rk_message.specs.declared.rebuilding.ReadSegment.{ReadSegment}
 use Rattle.rk_message.specs.declared.rebuilding.Rebuilt.{Rebuilt}
 use Rattle.rk_world.specs.RoleTests.{is_absent}
 use Rattle.rk_sound.specs.View.{View, rests, truths}
-use Rattle.rk_sound.specs.Terms.{HandoverFits, SentFits, tenure_in}
+use Rattle.rk_sound.specs.Terms.{HandoverFits, SentFits}
 use Rattle.rk_sound.specs.Handing.{handed_by}
 use Rattle.rk_sound.specs.Calls.{AreHandedOver}
 use Rattle.rk_sound.specs.Counters.{IsNext}
 use Rattle.rk_sound.specs.Messages.{AskAgrees, IsMovingOrOwned, IsOf, JoinedIn, RebuiltIn, SaysOf}
-use Rattle.rk_sound.specs.Posts.{StillCounts, bond_of, Holds, post_of}
+use Rattle.rk_sound.specs.Posts.{StillCounts, post_of}
 use Rattle.rk_sound.specs.Receives.{MembersFit, is_granted}
 use Rattle.rk_sound.specs.Roles.{RoleFits}
 use Rattle.rk_sound.specs.Changes.{MaySend}

@@ -14,3 +14,4 @@ pub mod Coordinating
 pub mod PostsOf
 pub mod Duties
 pub mod Reading
+pub mod Crashing

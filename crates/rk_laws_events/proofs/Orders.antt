@@ -1,35 +1,28 @@
 -- What the coordinator may order on its turn: each row's duty says just what its receiver may follow.
-use Rattle.std.proofs.Common.{◌≡◌, ◌==◌, ◌≤◌, ◌<◌, ◌&&◌, ◌||◌, ◌++◌, ℕ, Bool, true, false, cond, List, [], ◌∷◌, All, Option, Some, None, refl, sym, ap, subst, ◌∙◌, ⊎_elim, inl, inr, arith, ◌⊎◌}
-use Rattle.std.specs.Prelude.{Contains, IfSome, is_some, unwrap_or, ◌≢◌}
-use Rattle.std.proofs.lemmas.Bool.{and_parts, cases_eq, eq-eqb, eqb-true, ne_eqb}
+use Rattle.std.proofs.Common.{◌≡◌, ◌==◌, ◌||◌, ◌++◌, ℕ, Bool, true, false, cond, List, Some, None, refl, sym, ap, subst, ◌∙◌, ⊎_elim, inl}
+use Rattle.std.specs.Prelude.{Contains, IfSome, is_some, ◌≢◌}
+use Rattle.std.proofs.lemmas.Bool.{cases_eq, eq-eqb, eqb-true, ne_eqb}
 use Rattle.std.proofs.lemmas.List.Elements.{All-contains}
-use Rattle.rk_types.specs.NumberMap.{get, get_or}
 use Rattle.rk_types.specs.declared.lineage.Member.{Member}
 use Rattle.rk_types.specs.declared.node.Node.TheVariants as nodes
 use Rattle.rk_types.specs.Range.{meets}
-use Rattle.rk_done.specs.Completions.{ends_of}
-use Rattle.rk_transfer.specs.declared.handover.Handover.{Handover}
 use Rattle.rk_tablet_map.specs.Phase.{lineage_of}
 use Rattle.rk_tablet_map.specs.Rows.{row_of}
 use Rattle.rk_tablet_map.specs.declared.phase.Phase.{Phase}
-use Rattle.rk_tablet_map.specs.declared.phase.Phase.TheVariants.{Moving, Opening, Owned, Rebuilding}
+use Rattle.rk_tablet_map.specs.declared.phase.Phase.TheVariants.{Opening, Rebuilding}
 use Rattle.rk_tablet_map.specs.declared.row.Row.{Row}
-use Rattle.rk_message.specs.declared.handover.Grant.{Grant}
 use Rattle.rk_message.specs.declared.handover.Prepare.{Prepare}
 use Rattle.rk_message.specs.declared.message.Body.TheVariants as bodies
-use Rattle.rk_message.specs.declared.rebuilding.Rebuild.{Rebuild}
-use Rattle.rk_world.specs.Coordinator.{Handed, row_tenure}
-use Rattle.rk_world.specs.Lineage.{is_member, second_of}
+use Rattle.rk_world.specs.Coordinator.{row_tenure}
+use Rattle.rk_world.specs.Lineage.{is_member}
 use Rattle.rk_sound.specs.View.{View, rests, truths}
 use Rattle.rk_sound.specs.Rows.{IsFormed}
 use Rattle.rk_sound.specs.Terms.{SentFits}
-use Rattle.rk_sound.specs.Handing.{handed_by, handed_for_grant, is_waiting, is_waiting_at, is_wanting, second_has}
+use Rattle.rk_sound.specs.Handing.{handed_by}
 use Rattle.rk_sound.specs.Calls.{AreHandedOver}
 use Rattle.rk_sound.specs.Counters.{IsNext}
-use Rattle.rk_sound.specs.Messages.{AsksFor, CloseFits, GrantAgrees, GrantIn, HasLineage, HasSource, IsClosing, IsMovingOrOwned, IsOf, IsRebuiltBy, PrepareFits, RebuildFits, SaysOf}
+use Rattle.rk_sound.specs.Messages.{AsksFor, HasLineage, HasSource, IsClosing, IsRebuiltBy, SaysOf}
 use Rattle.rk_sound.specs.Posts.{Bystander, InvitedTarget, OpeningSource, post_of}
-use Rattle.rk_sound.specs.Receives.{HandedFits}
-use Rattle.rk_sound.specs.Roles.{KeepTerm}
 use Rattle.rk_sound.specs.Changes.{MaySend}
 use Rattle.rk_sound.specs.Whole.{SoundView}
 use Rattle.rk_laws_parts.proofs.Lists.{all_by}

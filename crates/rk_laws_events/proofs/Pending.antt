@@ -13,7 +13,7 @@ use Rattle.rk_log.specs.Known.{Known, is_whole, known_length}
 use Rattle.rk_log.specs.Log.{Log, bytes_of, known_of, missing, numbered, pending, side_segments}
 use Rattle.rk_segment.specs.Segment.{NumberedBytes}
 use Rattle.rk_log.specs.Piece.{PlacedBytes}
-use Rattle.rk_sound.specs.Logs.{IsFromLog, IsKnownBefore, is_main}
+use Rattle.rk_sound.specs.Logs.{IsFromLog, IsKnownBefore}
 use Rattle.rk_laws_parts.proofs.Segments.{bytes_in, bytes_main, bytes_side, bytes_zero, numbered_at}
 
 -- ---- the first segment that is not known to be held whole

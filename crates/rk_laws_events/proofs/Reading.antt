@@ -1,7 +1,6 @@
 -- What a master that rebuilds a tablet may read on its turn: the next segment of a member that it gathers, which is dead.
 use Rattle.std.proofs.Common.{◌≡◌, ◌==◌, ◌++◌, ℕ, Bool, true, false, cond, List, [], ◌∷◌, All, Option, Some, None, refl, sym, ap, subst, ◌∙◌, ⊎_elim, inl}
 use Rattle.std.specs.Prelude.{Contains, IfSome, filter, map, not}
-use Rattle.std.specs.List.{list_any}
 use Rattle.std.specs.Option.{option_map, option_or}
 use Rattle.std.proofs.lemmas.Bool.{cases_Bool, eq-eqb}
 use Rattle.std.proofs.lemmas.List.Elements.{All-cons, All-contains, All-head, All-nil, All-tail}
@@ -17,7 +16,6 @@ use Rattle.rk_message.specs.declared.message.Body.TheVariants as bodies
 use Rattle.rk_message.specs.declared.rebuilding.ReadSegment.{ReadSegment}
 use Rattle.rk_world.specs.declared.work.Reading.{Reading}
 use Rattle.rk_world.specs.Gather.{Gathered, next_of, next_reading, next_segment, reading_of}
-use Rattle.rk_world.specs.Lineage.{is_member}
 use Rattle.rk_sound.specs.View.{View, rests, truths}
 use Rattle.rk_sound.specs.Terms.{SentFits}
 use Rattle.rk_sound.specs.Handing.{handed_by}
@@ -25,7 +23,7 @@ use Rattle.rk_sound.specs.Calls.{AreHandedOver}
 use Rattle.rk_sound.specs.Counters.{IsNext}
 use Rattle.rk_sound.specs.Messages.{IsOf, ReadIn, SaysOf}
 use Rattle.rk_sound.specs.Posts.{StillCounts, post_of}
-use Rattle.rk_sound.specs.Rebuilds.{IsGatherOf, READ_BACKUP, RowIsRebuilt}
+use Rattle.rk_sound.specs.Rebuilds.{READ_BACKUP, RowIsRebuilt}
 use Rattle.rk_sound.specs.Roles.{RoleFits}
 use Rattle.rk_sound.specs.Changes.{MaySend}
 use Rattle.rk_sound.specs.Whole.{SoundView}

@@ -20,6 +20,8 @@ ghost use Rattle.rk_world.specs.Backup.{Called, append_called, read_called};
 ghost use Rattle.rk_world.specs.MasterTurn.{appends};
 ghost use Rattle.rk_world.specs.Client.{Session};
 ghost use Rattle.rk_world.specs.Premises.{IsAfterStart, IsMaster, MayAct, MayHappen};
+ghost use Rattle.rk_world.specs.Room.{HasRoom};
+ghost use Rattle.rk_world.specs.Runs.{lives_another};
 ghost use Rattle.rk_world.specs.Runs as runs;
 ghost use Rattle.rk_world.specs.Step.{happened, to_backup, to_coordinator};
 ghost use Rattle.rk_world.specs.World.{World, is_backup, log_in, master_at, with_all_sent};
@@ -76,8 +78,8 @@ pub fn coordinator_turns_keep_lanes_sound()
         → IsSound w → IsSound (happened w (events.Turn nodes.Coordinator) called).world }
 {}
 
-/// A sound and well formed lane stays sound when a tablet is added, when one begins to move, and when crashes are noticed, each where the
-/// event may happen and is not refused.
+/// A sound and well formed lane stays sound when a tablet is added, when one begins to move, when a master crashes while another one
+/// lives, and when crashes are noticed, each where the event may happen and is not refused; for a crash the lane has room.
 pub fn administration_keeps_lanes_sound()
     ensures added { (w : World) (tablet : ℕ) (range : Range) (master : ℕ) (called : Called)
         → IsSound w → IsWellFormed w → MayHappen w (events.AddTablet tablet range master)
@@ -86,6 +88,9 @@ pub fn administration_keeps_lanes_sound()
     ensures migrated { (w : World) (tablet to : ℕ) (called : Called)
         → IsSound w → MayHappen w (events.Migrate tablet to) → refusal w (events.Migrate tablet to) ≡ None
         → IsSound (happened w (events.Migrate tablet to) called).world }
+    ensures crashed { (w : World) (master : ℕ) (called : Called)
+        → IsSound w → IsWellFormed w → HasRoom w → lives_another w master ≡ true
+        → IsSound (happened w (events.Crash master) called).world }
     ensures noticed { (w : World) (master : ℕ) (called : Called)
         → IsSound w → IsWellFormed w → IsSound (happened w (events.Notice master) called).world }
 {}
