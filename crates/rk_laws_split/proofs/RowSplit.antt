@@ -2,7 +2,7 @@
 use Rattle.std.proofs.Common.{◌≡◌, ℕ, ◌+◌, ◌≤◌, ◌<◌, Bool, true, false, cond, ◌&&◌, ◌||◌, List, [], ◌∷◌, ◌++◌, Option, Some, None, eqb, leb, refl, sym, ap, subst, ◌∙◌, ⊎_elim, arith, ◌⊎◌, inl, inr}
 use Rattle.std.specs.Prelude.{⊤, ◌-◌, IfSome, drop, filter, is_some, max}
 use Rattle.std.specs.List.{All, Contains, flat_map, list_any}
-use Rattle.std.proofs.lemmas.Bool.{and_parts, cases_Bool, cases_eq, cases_lt, eq-eqb, eqb-true, false≢true, ne_eqb, or_from, or_left, or_parts, or_right}
+use Rattle.std.proofs.lemmas.Bool.{and_parts, cases_Bool, cases_eq, cases_lt, cond_both, eq-eqb, eqb-true, false≢true, ne_eqb, or_from, or_left, or_parts, or_right}
 use Rattle.std.proofs.lemmas.Bool.Decides.{nat_tests}
 use Rattle.std.proofs.lemmas.List.{append-nil}
 use Rattle.std.proofs.lemmas.List.Elements.{All-contains, All-nil, All-cons, All-weaker}
@@ -73,9 +73,9 @@ use Rattle.rk_sound.specs.Calls.{AreHandedOver, Calls, IsKnown, IsReached, IsSta
 use Rattle.rk_sound.specs.Counters.{AreAboveMap, Counters, IsNext}
 use Rattle.rk_sound.specs.Rest.{FirstIsDone, IsRest, OnlyIsUnnamed, Rest, Waits}
 use Rattle.rk_sound.specs.Tables.{HasItems, IsTableOf, Tables, has_all_items}
-use Rattle.rk_sound.specs.Receives.{HandedFits, IsHandedBy, MembersFit, NamedFit, is_granted}
-use Rattle.rk_sound.specs.Rebuilds.{HasOwnRange, MarkFits, RowIsRebuilt}
-use Rattle.rk_sound.specs.Messages.{SaysOf, PrepareFits, ReadyIn, CloseFits, TransferIn, GrantAgrees, AskAgrees, PulledAgrees, GotAgrees, ByMaster, IfMaster, IsOfTarget, JoinedIn, OwnFits, ReleaseFits, RebuildFits, RebuiltIn, IsOf}
+use Rattle.rk_sound.specs.Receives.{HandedFits, IsHandedBy, MembersFit, NamedFit, Receives, is_granted}
+use Rattle.rk_sound.specs.Rebuilds.{HasOwnRange, MarkFits, Rebuilds, RowIsRebuilt}
+use Rattle.rk_sound.specs.Messages.{AsksFor, IsOnlyRebuilder, IsOwner, Messages, SaysOf, PrepareFits, ReadyIn, CloseFits, TransferIn, GrantAgrees, AskAgrees, PulledAgrees, GotAgrees, ByMaster, IfMaster, IsOfTarget, JoinedIn, OwnFits, ReleaseFits, RebuildFits, RebuiltIn, IsOf}
 use Rattle.rk_sound.specs.Whole.{IsSound, SoundView, NodesOf, RowsOf, TermsOf, CoverOf, RolesOf, TruthOf, OrderOf, CallsOf, CountersOf, RestOf, TablesOf, ReceivesOf, RebuildsOf, MessagesOf}
 use Rattle.rk_sound.specs.Moves.{HasSome, HasSomeIn, MayAdd}
 use Rattle.rk_sound.specs.Small.{added, as_added, put2}
@@ -971,3 +971,199 @@ module _ (v : View) (tablet : ℕ) (range : Range) (term owner from at new : ℕ
             (All-contains (λ r. IfSome (handed_by r v.handovers m.body) (λ h. AreHandedOver v.base r.range v.journal h.ends)) v.rows x (sound.calls.sent n m there) has));
         known = known_all;
       }
+
+      -- ---- targets
+
+      members : (x : Row) → Contains v.rows x → (x.tablet ≡ tablet → ⊥) → (l : List Member) → MembersFit x v.written v.handovers v.pullings v.records v.handed l → MembersFit x v.written handovers' pullings' v.records v.handed l
+      members x has unlike [] fit = tt
+      members x has unlike (only ∷ []) fit = tt
+      members x has unlike (source ∷ target ∷ []) fit =
+          let q : ℕ = target.master in
+          subst
+          (λ (p : Pulling). is_granted (handovers' q x.tablet).role ≡ true → IsTargetIn v.written x source target (handovers' q x.tablet) p (get v.handed x.tablet) (v.records q))
+          (sym (pullings_away q x.tablet (apart_of x has unlike q)))
+          (by_row x has unlike q
+          (λ h. is_granted h.role ≡ true → IsTargetIn v.written x source target h (v.pullings q x.tablet) (get v.handed x.tablet) (v.records q)) fit)
+      members x has unlike (source ∷ target ∷ third ∷ more) fit = tt
+
+      as_kept : (x : Row) → Contains v.rows x → (x.tablet ≡ tablet → ⊥) → ◌≡◌ {A = ℕ → Handover × Completions} (λ q. (v.handovers q x.tablet, v.completions q x.tablet)) (λ q. (handovers' q x.tablet, completions' q x.tablet))
+      as_kept x has unlike i q = (of_row x has unlike q i, sym (completions_away q x.tablet (apart_of x has unlike q)) i)
+
+      told_fit : (x : Row) → Contains v.rows x → (x.tablet ≡ tablet → ⊥) → (l : List Member) → HandedFits x v.handovers v.completions v.handed l → HandedFits x handovers' completions' v.handed l
+      told_fit x has unlike [] fit = tt
+      told_fit x has unlike (only ∷ []) fit = tt
+      told_fit x has unlike (source ∷ target ∷ []) fit =
+          subst
+          (λ (of : ℕ → Handover × Completions). (of target.master).0.term ≡ (of source.master).0.term → IsHandedBy (get v.handed x.tablet) (of source.master).0 (of source.master).1)
+          (as_kept x has unlike) fit
+      told_fit x has unlike (source ∷ target ∷ third ∷ more) fit = tt
+
+      receives : Receives rows' v.written handovers' completions' pullings' v.records v.handed
+      receives = record {
+        targets =
+            each (λ r. MembersFit r v.written handovers' pullings' v.records v.handed (lineage_of r.phase)) tt tt
+            (λ x has unlike.
+            members x has unlike (lineage_of x.phase) (All-contains (λ r. MembersFit r v.written v.handovers v.pullings v.records v.handed (lineage_of r.phase)) v.rows x sound.receives.targets has));
+        handed_on =
+            each (λ r. HandedFits r handovers' completions' v.handed (lineage_of r.phase)) tt tt
+            (λ x has unlike.
+            told_fit x has unlike (lineage_of x.phase) (All-contains (λ r. HandedFits r v.handovers v.completions v.handed (lineage_of r.phase)) v.rows x sound.receives.handed_on has));
+        bare = λ q n. by (λ h. IsBareOf h (v.written q) (v.records q)) q n (λ _. sound.receives.bare q n) (λ _ _. tt) (λ _ _. tt);
+        named = kept (λ r. NamedFit v.written r.range (lineage_of r.phase)) tt tt sound.receives.named;
+      }
+
+      -- ---- rebuilds
+
+      row_rebuilt : (x : Row) → Contains v.rows x → (x.tablet ≡ tablet → ⊥) → (phase : Phase) → RowIsRebuilt x phase (truths v x) v.logs v.written v.stored v.handovers v.completions v.gathers v.merged v.records v.live → RowIsRebuilt x phase (truths v x) v.logs v.written v.stored handovers' completions' gathers' merged' v.records v.live
+      row_rebuilt x has unlike (Rebuilding lineage to) fit =
+          let away = apart_of x has unlike to in (
+            subst
+                (λ (p : Completions × Gather × List Ended). (handovers' to x.tablet).term ≡ x.term
+                → IsRebuilderIn v.logs v.written v.stored x lineage to (truths v x) (handovers' to x.tablet) p.0 p.1 p.2 (v.records to))
+                (λ i. (sym (completions_away to x.tablet away) i, sym (gathers_away to x.tablet away) i, sym (merged_away to x.tablet away) i))
+                (by_row x has unlike to
+                (λ h. h.term ≡ x.term → IsRebuilderIn v.logs v.written v.stored x lineage to (truths v x) h (v.completions to x.tablet) (v.gathers to x.tablet) (v.merged to x.tablet) (v.records to))
+                fit.0),
+            fit.1,
+          )
+      row_rebuilt x has unlike (Owned owner from) fit = tt
+      row_rebuilt x has unlike (Opening source sfrom target dfrom) fit = tt
+      row_rebuilt x has unlike (Moving source sfrom target dfrom) fit = tt
+
+      -- neither half has a mark
+      no_mark : (Q : Mark → Type 0) (q n : ℕ) → (n ≡ tablet) ⊎ (n ≡ new) → All (λ mark. mark.tablet ≡ n → Q mark) (v.written q).marks
+      no_mark Q q n its =
+          all_by (λ mark. mark.tablet ≡ n → Q mark) (v.written q).marks
+          (λ mark there is.
+          ⊎_elim
+          (λ (e : n ≡ tablet).
+          let fits : MarkFits row q (v.handovers q tablet) (v.live q) (v.written q) mark =
+          All-contains (λ (m : Mark). m.tablet ≡ tablet → MarkFits row q (v.handovers q tablet) (v.live q) (v.written q) m) (v.written q).marks mark
+          (in_row (λ r. All (λ m. m.tablet ≡ r.tablet → MarkFits r q (v.handovers q r.tablet) (v.live q) (v.written q) m) (v.written q).marks) (sound.rebuilds.marks q))
+          there (is ∙ e) in
+          let clash : Owned owner from ≡ Rebuilding fits.rebuilt.0 fits.rebuilt.1 = fits.rebuilt.2 in
+          absurd (cc clash))
+          (λ (e : n ≡ new).
+          absurd (unknown_new mark.tablet (All-contains (λ (m : Mark). is_some (row_of v.rows m.tablet) ≡ true) (v.written q).marks mark (sound.cover.marks q) there) (is ∙ e)))
+          its)
+
+      rebuilds : Rebuilds rows' (truths v) v.logs v.written v.stored handovers' completions' gathers' merged' v.records v.live
+      rebuilds = record {
+        rebuilt =
+            each (λ r. RowIsRebuilt r r.phase (truths v r) v.logs v.written v.stored handovers' completions' gathers' merged' v.records v.live) tt tt
+            (λ x has unlike.
+            row_rebuilt x has unlike x.phase
+            (All-contains (λ r. RowIsRebuilt r r.phase (truths v r) v.logs v.written v.stored v.handovers v.completions v.gathers v.merged v.records v.live) v.rows x sound.rebuilds.rebuilt has));
+        marks = λ q.
+            each (λ r. All (λ mark. mark.tablet ≡ r.tablet → MarkFits r q (handovers' q r.tablet) (v.live q) (v.written q) mark) (v.written q).marks)
+            (no_mark (MarkFits low q (handovers' q tablet) (v.live q) (v.written q)) q tablet (inl refl))
+            (no_mark (MarkFits high q (handovers' q new) (v.live q) (v.written q)) q new (inr refl))
+            (λ x has unlike.
+            by_row x has unlike q (λ h. All (λ mark. mark.tablet ≡ x.tablet → MarkFits x q h (v.live q) (v.written q) mark) (v.written q).marks)
+            (All-contains (λ r. All (λ mark. mark.tablet ≡ r.tablet → MarkFits r q (v.handovers q r.tablet) (v.live q) (v.written q) mark) (v.written q).marks) v.rows x (sound.rebuilds.marks q) has));
+        pieces = λ q.
+            kept (λ r. All (λ mark. mark.tablet ≡ r.tablet → HasOwnRange r.range (v.written q).entries mark) (v.written q).marks)
+            (no_mark (HasOwnRange low.range (v.written q).entries) q tablet (inl refl)) (no_mark (HasOwnRange high.range (v.written q).entries) q new (inr refl)) (sound.rebuilds.pieces q);
+      }
+
+      -- ---- messages
+
+      abbrev SaysNow : Row → Node → Node → Body → Type 0
+      SaysNow x = SaysOf x v.logs v.written v.stored handovers' completions' merged' v.live v.handed
+
+      abbrev SaysBefore : Row → Node → Node → Body → Type 0
+      SaysBefore x = SaysOf x v.logs v.written v.stored v.handovers v.completions v.merged v.live v.handed
+
+      module _ (x : Row) (has : Contains v.rows x) (unlike : x.tablet ≡ tablet → ⊥) where
+        ask_on : (l : List Member) (q : ℕ) (to : Node) (tenure : Tenure) → AskAgrees x v.handovers l q to tenure → AskAgrees x handovers' l q to tenure
+        ask_on [] q to tenure agrees = tt
+        ask_on (only ∷ []) q to tenure agrees = tt
+        ask_on (source ∷ target ∷ []) q to tenure agrees =
+            by_row x has unlike q (λ h. target.master ≡ q → IsOfTarget x h tenure → to ≡ nodes.Master source.master) agrees
+        ask_on (source ∷ target ∷ third ∷ more) q to tenure agrees = tt
+
+        of_target : (q : ℕ) (tenure : Tenure) → IsOfTarget x (handovers' q x.tablet) tenure → IsOfTarget x (v.handovers q x.tablet) tenure
+        of_target q tenure = subst (λ (h : Handover). IsOfTarget x h tenure) (sym (of_row x has unlike q))
+
+        pulled_on : (l : List Member) (from : Node) (q : ℕ) (pulled : Pulled) → PulledAgrees x v.written v.handovers v.live l from q pulled → PulledAgrees x v.written handovers' v.live l from q pulled
+        pulled_on [] from q pulled agrees = tt
+        pulled_on (only ∷ []) from q pulled agrees = tt
+        pulled_on (source ∷ target ∷ []) from q pulled agrees = λ here lives is. agrees here lives (of_target q pulled.tenure is)
+        pulled_on (source ∷ target ∷ third ∷ more) from q pulled agrees = tt
+
+        got_on : (l : List Member) (from : Node) (q : ℕ) (got : Got) → GotAgrees x v.written v.handovers v.live l from q got → GotAgrees x v.written handovers' v.live l from q got
+        got_on [] from q got agrees = tt
+        got_on (only ∷ []) from q got agrees = tt
+        got_on (source ∷ target ∷ []) from q got agrees = λ here lives is. agrees here lives (of_target q got.tenure is)
+        got_on (source ∷ target ∷ third ∷ more) from q got agrees = tt
+
+        to_on : (to : Node) (P : ℕ → Handover → Type 0) → IfMaster to (λ q. P q (v.handovers q x.tablet)) → IfMaster to (λ q. P q (handovers' q x.tablet))
+        to_on to P = if_master to (λ q. P q (v.handovers q x.tablet)) (λ q. P q (handovers' q x.tablet)) (λ q. by_row x has unlike q (P q))
+
+        from_on : (to : Node) (P : ℕ → Handover → Type 0) → ByMaster to (λ q. P q (v.handovers q x.tablet)) → ByMaster to (λ q. P q (handovers' q x.tablet))
+        from_on to P = by_master to (λ q. P q (v.handovers q x.tablet)) (λ q. P q (handovers' q x.tablet)) (λ q. by_row x has unlike q (P q))
+
+        says_on : (from to : Node) (body : Body) → SaysBefore x from to body → SaysNow x from to body
+        says_on from to (bodies.Prepare prepare) says = to_on to (λ q h. PrepareFits x h (v.live q) q prepare) says
+        says_on from to (bodies.Ready ready) says = from_on from (λ q h. IsOf x ready.tenure → ReadyIn x.phase h x.term q ready.place) says
+        says_on from to (bodies.Close tenure) says = to_on to (λ q h. CloseFits x h (v.live q) q tenure) says
+        says_on from to (bodies.Transfer transfer) says =
+            by_master from (λ q. IsOf x transfer.tenure → TransferIn x.phase (v.handovers q x.tablet) (v.completions q x.tablet) x.term q transfer)
+            (λ q. IsOf x transfer.tenure → TransferIn x.phase (handovers' q x.tablet) (completions' q x.tablet) x.term q transfer)
+            (λ q said.
+            subst (λ (c : Completions). IsOf x transfer.tenure → TransferIn x.phase (handovers' q x.tablet) c x.term q transfer)
+            (sym (completions_away q x.tablet (apart_of x has unlike q)))
+            (by_row x has unlike q (λ h. IsOf x transfer.tenure → TransferIn x.phase h (v.completions q x.tablet) x.term q transfer) said))
+            says
+        says_on from to (bodies.Grant grant) says = (says.0, to_on to (λ q h. GrantAgrees x h (v.live q) (get v.handed x.tablet) q grant) says.1)
+        says_on from to (bodies.Pull pull) says = (says.0, by_master from _ _ (λ q. ask_on (lineage_of x.phase) q to pull.tenure) says.1)
+        says_on from to (bodies.Pulled pulled) says = (says.0, if_master to _ _ (λ q. pulled_on (lineage_of x.phase) from q pulled) says.1)
+        says_on from to (bodies.Want want) says = (says.0, by_master from _ _ (λ q. ask_on (lineage_of x.phase) q to want.tenure) says.1)
+        says_on from to (bodies.Got got) says = (says.0, if_master to _ _ (λ q. got_on (lineage_of x.phase) from q got) says.1)
+        says_on from to (bodies.Joined tenure) says = from_on from (λ q h. IsOf x tenure → JoinedIn x.phase h (v.written q).applied x.term q) says
+        says_on from to (bodies.Own tenure) says = to_on to (λ q h. OwnFits x h (v.live q) q tenure) says
+        says_on from to (bodies.Release tenure) says = to_on to (λ q h. ReleaseFits x h (v.live q) q tenure) says
+        says_on from to (bodies.Rebuild rebuild) says = to_on to (λ q h. RebuildFits x h (v.live q) q rebuild) says
+        says_on from to (bodies.Rebuilt rebuilt) says =
+            by_master from (λ q. IsOf x rebuilt.tenure → RebuiltIn x.phase (v.handovers q x.tablet) (v.merged q x.tablet) (v.written q).applied x.term q rebuilt)
+            (λ q. IsOf x rebuilt.tenure → RebuiltIn x.phase (handovers' q x.tablet) (merged' q x.tablet) (v.written q).applied x.term q rebuilt)
+            (λ q said.
+            subst (λ (ends : List Ended). IsOf x rebuilt.tenure → RebuiltIn x.phase (handovers' q x.tablet) ends (v.written q).applied x.term q rebuilt)
+            (sym (merged_away q x.tablet (apart_of x has unlike q)))
+            (by_row x has unlike q (λ h. IsOf x rebuilt.tenure → RebuiltIn x.phase h (v.merged q x.tablet) (v.written q).applied x.term q rebuilt) said))
+            says
+        says_on from to body says = says
+
+      -- a half by its number and its range
+      module _ (n : ℕ) (r : Range) (is_half : IsHalf range r) where
+        abbrev half : Row
+        half = record { tablet = n; range = r; term = term + 1; phase = Owned owner from }
+
+        -- what speaks of the half's number spoke of the row, at most at its term
+        abbrev SpokeOf : Tenure → Type 0
+        SpokeOf tenure = tenure.tablet ≡ n → (tenure.tablet ≡ tablet) × (n ≡ tablet) × (tenure.term ≤ term)
+
+        gone : (tenure : Tenure) → SpokeOf tenure → IsOf half tenure → ⊥
+        gone tenure spoke is = let few = (spoke is.tablet).2 in let at_it = is.term in omega (arith, few, at_it)
+
+        rises : (q : ℕ) → n ≡ tablet → (v.handovers q tablet).term ≤ (handovers' q n).term
+        rises q its =
+            by (λ h. (v.handovers q tablet).term ≤ h.term) q n
+            (λ _. let same = ap (λ (m : ℕ). (v.handovers q m).term) its in omega (arith, same))
+            (λ _ _. let few = at_most_row q in omega (arith, few)) (λ _ too. absurd (new_apart (sym too ∙ its)))
+
+        kept_old : (q : ℕ) → n ≡ tablet → (handovers' q n).term ≤ term → handovers' q n ≡ v.handovers q tablet
+        kept_old q its =
+            by (λ h. h.term ≤ term → h ≡ v.handovers q tablet) q n (λ _ few. ap (v.handovers q) its) (λ _ _ few. absurd (omega (arith, few)))
+            (λ _ too few. absurd (new_apart (sym too ∙ its)))
+
+        no_heir : (q own t : ℕ) → IsOnlyRebuilder (cond (eqb owner q) (Owner from) Bystander) → ⊥
+        no_heir q own t = cond_both (eqb owner q) (Owner from) Bystander (λ post. IsOnlyRebuilder post → ⊥) (λ e it. it) (λ e it. it)
+
+        owner_still : (q own t t' : ℕ) → IsOwner (cond (eqb owner q) (Owner from) Bystander) own t → IsOwner (cond (eqb owner q) (Owner from) Bystander) own t'
+        owner_still q own t t' =
+            cond_both (eqb owner q) (Owner from) Bystander (λ post. IsOwner post own t → IsOwner post own t') (λ e it. tt) (λ e it. absurd it)
+
+        any_master : (to : Node) (P : ℕ → Type 0) → ((q : ℕ) → P q) → IfMaster to P
+        any_master (nodes.Master q) P all = all q
+        any_master _ P all = tt
