@@ -36,6 +36,9 @@ use Rattle.rk_tablet_map.specs.Rows.{IsTabletMap, Precedes, is_covered, is_split
 use Rattle.rk_tablet_map.specs.declared.phase.Phase.{Phase}
 use Rattle.rk_tablet_map.specs.declared.phase.Phase.TheVariants.{Owned, Opening, Moving, Rebuilding}
 use Rattle.rk_tablet_map.specs.declared.row.Row.{Row}
+use Rattle.rk_message.specs.declared.handover.Grant.{Grant}
+use Rattle.rk_message.specs.declared.handover.Prepare.{Prepare}
+use Rattle.rk_message.specs.declared.rebuilding.Rebuild.{Rebuild}
 use Rattle.rk_message.specs.declared.handover.Tenure.{Tenure}
 use Rattle.rk_message.specs.declared.pulling.Got.{Got}
 use Rattle.rk_message.specs.declared.pulling.Pulled.{Pulled}
@@ -68,7 +71,7 @@ use Rattle.rk_sound.specs.Posts.{Bystander, Owner, Post, Holds, StillCounts, bon
 use Rattle.rk_sound.specs.Roles.{KeepTerm, RoleFits, Roles}
 use Rattle.rk_sound.specs.Truth.{IsTruth, Truth}
 use Rattle.rk_sound.specs.Order.{AreAbove, Order}
-use Rattle.rk_sound.specs.Handing.{handed_by, handed_for_grant, is_waiting, is_waiting_at, second_has, target_truth}
+use Rattle.rk_sound.specs.Handing.{handed_by, handed_for_grant, is_waiting, is_wanting, is_waiting_at, second_has, target_truth}
 use Rattle.rk_sound.specs.Calls.{AreHandedOver, Calls, IsKnown, IsReached, IsStagedEnd, ReachAll, TellAll, is_record_in}
 use Rattle.rk_sound.specs.Counters.{AreAboveMap, Counters, IsNext}
 use Rattle.rk_sound.specs.Rest.{FirstIsDone, IsRest, OnlyIsUnnamed, Rest, Waits}
@@ -127,16 +130,16 @@ owner_present roles.Absent place term own applied holds = absurd holds
 owner_present role place term own applied holds = refl
 
 module _ (v : View) (tablet : ℕ) (range : Range) (term owner from at new : ℕ) (sound : SoundView v) (has_row : Contains v.rows (record { tablet = tablet; range = range; term = term; phase = Owned owner from })) (free : is_some (row_of v.rows new) ≡ false) (splits : is_split range at ≡ true) where
-  abbrev row : Row
+  abbrev pub row : Row
   row = record { tablet = tablet; range = range; term = term; phase = Owned owner from }
 
-  abbrev low : Row
+  abbrev pub low : Row
   low = lower_row row at
 
-  abbrev high : Row
+  abbrev pub high : Row
   high = upper_row row at new
 
-  abbrev rows' : List Row
+  abbrev pub rows' : List Row
   rows' = rows_halved v.rows row at new
 
   map : IsTabletMap v.rows
@@ -208,18 +211,18 @@ module _ (v : View) (tablet : ℕ) (range : Range) (term owner from at new : ℕ
       (cases_Bool (is_absent (v.handovers q new).role))
 
   -- the halves that a living owner has
-  abbrev low_half_of : ℕ → Handover
+  abbrev pub low_half_of : ℕ → Handover
   low_half_of q = as_half (v.handovers q tablet) low.range (term + 1)
 
-  abbrev high_half_of : ℕ → Handover
+  abbrev pub high_half_of : ℕ → Handover
   high_half_of q = as_half (v.handovers q tablet) high.range (term + 1)
 
   -- the tablet is the owner's that lives
-  abbrev Serves : ℕ → Type 0
+  abbrev pub Serves : ℕ → Type 0
   Serves q = (v.live q ≡ true) × (q ≡ owner)
 
   -- what a master has of a tablet: a living owner the halves, and else what it had
-  data Has (q n : ℕ) (h : Handover) : Type 0 where
+  pub data Has (q n : ℕ) (h : Handover) : Type 0 where
     Old : h ≡ v.handovers q n → (Serves q → (n ≡ tablet → ⊥) × (n ≡ new → ⊥)) → Has q n h
     Low : Serves q → n ≡ tablet → h ≡ low_half_of q → Has q n h
     High : Serves q → n ≡ new → h ≡ high_half_of q → Has q n h
@@ -846,7 +849,7 @@ module _ (v : View) (tablet : ℕ) (range : Range) (term owner from at new : ℕ
     -- ---- what else masters have of tablets
 
     -- another one than the halves has what it had
-    abbrev IsAway : {X : Type 0} → (ℕ → ℕ → X) → (ℕ → ℕ → X) → Type 0
+    abbrev pub IsAway : {X : Type 0} → (ℕ → ℕ → X) → (ℕ → ℕ → X) → Type 0
     IsAway was is = (q n : ℕ) → (Serves q → (n ≡ tablet → ⊥) × (n ≡ new → ⊥)) → is q n ≡ was q n
 
     module _ (completions' : ℕ → ℕ → Completions) (pullings' : ℕ → ℕ → Pulling) (gathers' : ℕ → ℕ → Gather) (merged' : ℕ → ℕ → List Ended) (completions_away : IsAway v.completions completions') (pullings_away : IsAway v.pullings pullings') (gathers_away : IsAway v.gathers gathers') (merged_away : IsAway v.merged merged') (ends_stay : (q n : ℕ) → Serves q → (n ≡ tablet) ⊎ (n ≡ new) → completions' q n ≡ v.completions q tablet) where
@@ -1135,7 +1138,7 @@ module _ (v : View) (tablet : ℕ) (range : Range) (term owner from at new : ℕ
         says_on from to body says = says
 
       -- a half by its number and its range
-      module _ (n : ℕ) (r : Range) (is_half : IsHalf range r) where
+      module _ (n : ℕ) (r : Range) (is_half : IsHalf range r) (which : (n ≡ tablet) ⊎ (n ≡ new)) where
         abbrev half : Row
         half = record { tablet = n; range = r; term = term + 1; phase = Owned owner from }
 
@@ -1167,3 +1170,166 @@ module _ (v : View) (tablet : ℕ) (range : Range) (term owner from at new : ℕ
         any_master : (to : Node) (P : ℕ → Type 0) → ((q : ℕ) → P q) → IfMaster to P
         any_master (nodes.Master q) P all = all q
         any_master _ P all = tt
+
+        only_owner : (q : ℕ) → is_member (record { master = owner; from = from } ∷ []) q ≡ true → owner ≡ q
+        only_owner q inside =
+            ⊎_elim (λ (same : owner ≡ q). same) (λ (apart : owner ≡ q → ⊥). absurd (no_owner q (ne_eqb owner q apart) inside)) (cases_eq owner q)
+
+        -- a living owner has the half
+        at_half : (P : Handover → Type 0) (q : ℕ) → Serves q → (n ≡ tablet → P (low_half_of q)) → (n ≡ new → P (high_half_of q)) → P (handovers' q n)
+        at_half P q serves first second =
+            by P q n (λ unlike. absurd (⊎_elim (unlike serves).0 (unlike serves).1 which)) (λ _ its. first its) (λ _ its. second its)
+
+        prepare_half : (q : ℕ) (prepare : Prepare) → SpokeOf prepare.tenure → PrepareFits row (v.handovers q tablet) (v.live q) q prepare → PrepareFits half (handovers' q n) (v.live q) q prepare
+        prepare_half q prepare spoke fits = record {
+          range = λ is. absurd (gone prepare.tenure spoke is);
+          invited = λ is. absurd (gone prepare.tenure spoke is);
+          members = λ asks lives inside.
+              let asked : AsksFor prepare row =
+              ⊎_elim (λ (e : prepare.tenure.tablet ≡ n). inl (spoke e).0) (λ (met : meets r prepare.range ≡ true). inr (half_met r prepare.range is_half met)) asks in
+              let was = fits.members asked lives inside in
+              let few = at_most_row q in
+              at_half (λ h. prepare.tenure.term ≤ h.term) q (lives, sym (only_owner q inside)) (λ _. omega (arith, was, few)) (λ _. omega (arith, was, few));
+        }
+
+        close_half : (q : ℕ) (tenure : Tenure) → SpokeOf tenure → CloseFits row (v.handovers q tablet) (v.live q) q tenure → CloseFits half (handovers' q n) (v.live q) q tenure
+        close_half q tenure spoke fits = record {
+          source = λ is. absurd (gone tenure spoke is);
+          may_follow = λ its lives less.
+              let of = spoke its in
+              let few = of.2 in
+              let same = kept_old q of.1 (omega (arith, less, few)) in
+              let follows = fits.may_follow of.0 lives (subst (λ (h : Handover). h.term < tenure.term) same less) in
+              absurd (⊎_elim (λ (now : (tenure.term ≡ term) × ⊥). now.1)
+              (λ (heir : (tenure.term < term) × IsOnlyRebuilder (cond (eqb owner q) (Owner from) Bystander)). no_heir q 0 0 heir.1) follows);
+        }
+
+        own_half : (q : ℕ) (tenure : Tenure) → SpokeOf tenure → OwnFits row (v.handovers q tablet) (v.live q) q tenure → OwnFits half (handovers' q n) (v.live q) q tenure
+        own_half q tenure spoke fits = record {
+          owned = λ is. absurd (gone tenure spoke is);
+          reached = λ its lives.
+              let of = spoke its in let was = fits.reached of.0 lives in let more = rises q of.1 in omega (arith, was, more);
+          owner = λ its lives is.
+              let of = spoke its in
+              let few = of.2 in
+              let same = kept_old q of.1 (omega (arith, is, few)) in
+              subst (λ (h : Handover). IsOwner (cond (eqb owner q) (Owner from) Bystander) h.term (term + 1)) (sym same)
+              (owner_still q (v.handovers q tablet).term term (term + 1) (fits.owner of.0 lives (sym (ap (λ (h : Handover). h.term) same) ∙ is)));
+        }
+
+        release_half : (q : ℕ) (tenure : Tenure) → SpokeOf tenure → ReleaseFits row (v.handovers q tablet) (v.live q) q tenure → ReleaseFits half (handovers' q n) (v.live q) q tenure
+        release_half q tenure spoke fits = record {
+          owned = λ is. absurd (gone tenure spoke is);
+          outside = λ its lives less.
+              let of = spoke its in
+              let few = of.2 in
+              let same = kept_old q of.1 (omega (arith, less, few)) in
+              fits.outside of.0 lives (subst (λ (h : Handover). h.term ≤ tenure.term) same less);
+        }
+
+        rebuild_half : (q : ℕ) (rebuild : Rebuild) → SpokeOf rebuild.tenure → RebuildFits row (v.handovers q tablet) (v.live q) q rebuild → RebuildFits half (handovers' q n) (v.live q) q rebuild
+        rebuild_half q rebuild spoke fits = record {
+          range = λ is. absurd (gone rebuild.tenure spoke is);
+          lineage = λ is. absurd (gone rebuild.tenure spoke is);
+          ordered = λ its lives less.
+              let of = spoke its in
+              let few = of.2 in
+              let same = kept_old q of.1 (omega (arith, less, few)) in
+              let ordered = fits.ordered of.0 lives (subst (λ (h : Handover). h.term < rebuild.tenure.term) same less) in
+              absurd (ordered.1);
+        }
+
+        grant_half : (q : ℕ) (grant : Grant) → SpokeOf grant.tenure → GrantAgrees row (v.handovers q tablet) (v.live q) (get v.handed tablet) q grant → GrantAgrees half (handovers' q n) (v.live q) (get v.handed n) q grant
+        grant_half q grant spoke fits = record {
+          reached = λ its lives.
+              let of = spoke its in let was = fits.reached of.0 lives in let more = rises q of.1 in omega (arith, was, more);
+          told = λ its lives is wants.
+              let of = spoke its in
+              let few = of.2 in
+              let same = kept_old q of.1 (omega (arith, is, few)) in
+              fits.told of.0 lives (is ∙ ap (λ (h : Handover). h.term) same) (sym (ap (λ (h : Handover). is_wanting h.role) same) ∙ wants);
+        }
+
+        says_half : (src to : Node) (body : Body) → IfSome (tenure_in body) SpokeOf → SaysBefore row src to body → SaysNow half src to body
+        says_half src to (bodies.Prepare prepare) spoke says =
+            if_master to (λ q. PrepareFits row (v.handovers q tablet) (v.live q) q prepare) (λ q. PrepareFits half (handovers' q n) (v.live q) q prepare)
+            (λ q. prepare_half q prepare spoke) says
+        says_half src to (bodies.Ready ready) spoke says = by_master src _ _ (λ q said is. absurd (gone ready.tenure spoke is)) says
+        says_half src to (bodies.Close tenure) spoke says =
+            if_master to (λ q. CloseFits row (v.handovers q tablet) (v.live q) q tenure) (λ q. CloseFits half (handovers' q n) (v.live q) q tenure)
+            (λ q. close_half q tenure spoke) says
+        says_half src to (bodies.Transfer transfer) spoke says = by_master src _ _ (λ q said is. absurd (gone transfer.tenure spoke is)) says
+        says_half src to (bodies.Grant grant) spoke says = (
+          λ is. tt,
+          if_master to (λ q. GrantAgrees row (v.handovers q tablet) (v.live q) (get v.handed tablet) q grant)
+              (λ q. GrantAgrees half (handovers' q n) (v.live q) (get v.handed n) q grant) (λ q. grant_half q grant spoke) says.1,
+        )
+        says_half src to (bodies.Pull pull) spoke says = (λ is. tt, by_master src _ (λ q. ⊤) (λ q said. tt) says.1)
+        says_half src to (bodies.Pulled pulled) spoke says = (λ is. tt, any_master to (λ q. ⊤) (λ q. tt))
+        says_half src to (bodies.Want want) spoke says = (λ is. tt, by_master src _ (λ q. ⊤) (λ q said. tt) says.1)
+        says_half src to (bodies.Got got) spoke says = (λ is. tt, any_master to (λ q. ⊤) (λ q. tt))
+        says_half src to (bodies.Joined tenure) spoke says = by_master src _ _ (λ q said is. absurd (gone tenure spoke is)) says
+        says_half src to (bodies.Own tenure) spoke says =
+            if_master to (λ q. OwnFits row (v.handovers q tablet) (v.live q) q tenure) (λ q. OwnFits half (handovers' q n) (v.live q) q tenure)
+            (λ q. own_half q tenure spoke) says
+        says_half src to (bodies.Release tenure) spoke says =
+            if_master to (λ q. ReleaseFits row (v.handovers q tablet) (v.live q) q tenure) (λ q. ReleaseFits half (handovers' q n) (v.live q) q tenure)
+            (λ q. release_half q tenure spoke) says
+        says_half src to (bodies.Rebuild rebuild) spoke says =
+            if_master to (λ q. RebuildFits row (v.handovers q tablet) (v.live q) q rebuild) (λ q. RebuildFits half (handovers' q n) (v.live q) q rebuild)
+            (λ q. rebuild_half q rebuild spoke) says
+        says_half src to (bodies.Read read) spoke says = λ is. tt
+        says_half src to (bodies.Copy copy) spoke says = λ is. tt
+        says_half src to (bodies.Rebuilt rebuilt) spoke says = by_master src _ _ (λ q said is. absurd (gone rebuilt.tenure spoke is)) says
+        says_half src to _ spoke says = tt
+
+      messages : Messages rows' v.logs v.written v.stored handovers' completions' merged' v.live v.handed v.journal v.wire
+      messages = record {
+        of_rows = λ i m there.
+            let was : (x : Row) → Contains v.rows x → SaysBefore x m.from m.to m.body = λ x has. All-contains (λ r. SaysBefore r m.from m.to m.body) v.rows x (sound.messages.of_rows i m there) has in
+            let fits : SentFits row m.body = in_row (λ r. SentFits r m.body) (sound.terms.sent i m there) in
+            each (λ r. SaysNow r m.from m.to m.body)
+            (says_half tablet low.range low_half (inl refl) m.from m.to m.body
+            (IfSome_then (tenure_in m.body) fits.within (λ tenure few its. (its, refl, few (sym its)))) (was row has_row))
+            (says_half new high.range high_half (inr refl) m.from m.to m.body
+            (IfSome_then (tenure_in m.body) (sound.cover.sent i m there) (λ tenure known its. absurd (unknown_new tenure.tablet known its))) (was row has_row))
+            (λ x has unlike. says_on x has unlike m.from m.to m.body (was x has));
+        others = sound.messages.others;
+      }
+
+      abbrev pub now : View
+      now = record v {
+        rows = rows';
+        handovers = handovers';
+        completions = completions';
+        pullings = pullings';
+        gathers = gathers';
+        merged = merged';
+      }
+
+      pub view_row_split : SoundView now
+      view_row_split = record {
+        nodes = record {
+            numbered = sound.nodes.numbered;
+            backed = sound.nodes.backed;
+            known = sound.nodes.known;
+            named = named_of;
+            crashed = sound.nodes.crashed;
+            left = sound.nodes.left;
+          };
+        rows = rows_split;
+        terms = terms;
+        cover = cover;
+        roles = roles_fit;
+        logs = sound.logs;
+        truth = truth;
+        order = order;
+        calls = calls;
+        counters = counters;
+        rest = rest;
+        records = tables;
+        receives = receives;
+        rebuilds = rebuilds;
+        messages = messages;
+        asked = sound.asked;
+      }
