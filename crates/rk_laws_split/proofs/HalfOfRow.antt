@@ -1,11 +1,9 @@
 -- What is said of an owned row by its truth and its rest is said of each row of its phase whose range is a half of its own.
-use Rattle.std.proofs.Common.{◌≡◌, ℕ, ◌≤◌, Bool, true, false, List, [], ◌∷◌, ◌++◌, Option, Some, refl, sym, ap, subst, ◌∙◌}
-use Rattle.std.specs.Prelude.{IfSome, max}
+use Rattle.std.proofs.Common.{◌≡◌, ℕ, true, List, [], ◌∷◌, ◌++◌, sym, ap, subst, ◌∙◌}
 use Rattle.std.specs.List.{All, Contains, flat_map}
 use Rattle.std.proofs.lemmas.Bool.{cond_both}
 use Rattle.std.proofs.lemmas.List.{append-nil}
-use Rattle.std.proofs.lemmas.List.Concat.{flat_map-append}
-use Rattle.std.proofs.lemmas.List.Elements.{All-append, All-contains, All-filter, All-weaker, Contains-append_left, Contains-append_right, filter-append, filter_passes}
+use Rattle.std.proofs.lemmas.List.Elements.{All-append, All-contains, All-weaker, Contains-append_left, Contains-append_right, filter-append, filter_passes}
 use Rattle.rk_types.specs.Range.{meets}
 use Rattle.rk_types.specs.declared.call.Ended.{Ended}
 use Rattle.rk_types.specs.declared.held.Held.{Held}
@@ -22,7 +20,7 @@ use Rattle.rk_tablet_map.specs.declared.row.Row.{Row}
 use Rattle.rk_world.specs.Base.{base_map}
 use Rattle.rk_world.specs.Ends.{items_of, told, told_by}
 use Rattle.rk_world.specs.Marks.{unmarked_from}
-use Rattle.rk_world.specs.Material.{counting, counts, material_of, named, side_entries}
+use Rattle.rk_world.specs.Material.{counting, counts, named, side_entries}
 use Rattle.rk_world.specs.Ranges.{has_all}
 use Rattle.rk_world.specs.Written.{Written, applied_entries, lineage_rest, lineage_truth, member_rest, member_truth}
 use Rattle.rk_tablet_map.specs.Phase.{lineage_of}

@@ -5,3 +5,4 @@ pub mod HalfRests
 pub mod HalfOfRow
 pub mod SplitRows
 pub mod RowSplit
+pub mod Split

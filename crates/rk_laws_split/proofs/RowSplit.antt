@@ -2,35 +2,27 @@
 use Rattle.std.proofs.Common.{◌≡◌, ℕ, ◌+◌, ◌≤◌, ◌<◌, Bool, true, false, cond, ◌&&◌, ◌||◌, List, [], ◌∷◌, ◌++◌, Option, Some, None, eqb, leb, refl, sym, ap, subst, ◌∙◌, ⊎_elim, arith, ◌⊎◌, inl, inr}
 use Rattle.std.specs.Prelude.{⊤, ◌-◌, IfSome, drop, filter, is_some, max}
 use Rattle.std.specs.List.{All, Contains, flat_map, list_any}
-use Rattle.std.proofs.lemmas.Bool.{and_parts, cases_Bool, cases_eq, cases_lt, cond_both, eq-eqb, eqb-true, false≢true, ne_eqb, or_from, or_left, or_parts, or_right}
+use Rattle.std.proofs.lemmas.Bool.{cases_Bool, cases_eq, cases_lt, cond_both, eq-eqb, false≢true, ne_eqb, or_from, or_left, or_parts, or_right}
 use Rattle.std.proofs.lemmas.Bool.Decides.{nat_tests}
-use Rattle.std.proofs.lemmas.List.{append-nil}
-use Rattle.std.proofs.lemmas.List.Elements.{All-contains, All-nil, All-cons, All-weaker}
+use Rattle.std.proofs.lemmas.List.Elements.{All-contains, All-weaker}
 use Rattle.std.proofs.lemmas.Option.{IfSome_then}
-use Rattle.std.specs.Cmp.Lexicographic.{bytes_decides}
 use Rattle.rk_types.specs.Hashing.{hash_of}
 use Rattle.rk_types.specs.NumberMap.{get}
 use Rattle.rk_types.specs.Range.{has, meets}
 use Rattle.rk_types.specs.declared.call.Call.{Call}
 use Rattle.rk_types.specs.declared.call.Ended.{Ended}
 use Rattle.rk_types.specs.declared.held.Held.{Held}
-use Rattle.rk_types.specs.declared.history.Placed.{Placed}
 use Rattle.rk_types.specs.declared.lineage.Member.{Member}
 use Rattle.rk_types.specs.declared.node.Node.{Node}
 use Rattle.rk_types.specs.declared.range.Range.{Range}
-use Rattle.rk_model.proofs.Keys.{is_at_parts}
-use Rattle.rk_model.specs.History.{IsLegal, is_at, live_after, map_after, record_of}
-use Rattle.rk_model.specs.Machine.{last_version, never}
+use Rattle.rk_model.specs.History.{map_after}
 use Rattle.rk_model.specs.Merged.{is_mutation}
 use Rattle.rk_entry.specs.declared.entry.Entry.{Entry}
 use Rattle.rk_entry.specs.declared.entry.Entry.TheVariants as entries
-use Rattle.rk_overlay.proofs.Bridges.{newest_none}
-use Rattle.rk_overlay.specs.Newest.{is_of}
 use Rattle.rk_transfer.specs.declared.handover.Handover.{Handover}
 use Rattle.rk_transfer.specs.Handover.{is_serving}
 use Rattle.rk_transfer.specs.declared.role.Role.{Role}
 use Rattle.rk_transfer.specs.declared.role.Role.TheVariants as roles
-use Rattle.rk_tablet_map.proofs.Lawful.{lawful_placed}
 use Rattle.rk_tablet_map.specs.Phase.{lineage_of}
 use Rattle.rk_tablet_map.specs.Rows.{IsTabletMap, Precedes, is_covered, is_split, row_of}
 use Rattle.rk_tablet_map.specs.declared.phase.Phase.{Phase}
@@ -45,25 +37,22 @@ use Rattle.rk_message.specs.declared.pulling.Pulled.{Pulled}
 use Rattle.rk_types.specs.declared.node.Node.TheVariants as nodes
 use Rattle.rk_message.specs.declared.message.Body.{Body}
 use Rattle.rk_message.specs.declared.message.Body.TheVariants as bodies
-use Rattle.rk_world.specs.Base.{newest_entry, base_map}
-use Rattle.rk_world.specs.Coordinator.{Handed, new_row}
+use Rattle.rk_world.specs.Base.{base_map}
+use Rattle.rk_world.specs.Coordinator.{Handed}
 use Rattle.rk_world.specs.Ends.{items_of, told}
 use Rattle.rk_world.specs.Lineage.{is_member, last_of, second_of}
-use Rattle.rk_world.specs.Marks.{unmarked_from}
 use Rattle.rk_world.specs.Master.{touches}
-use Rattle.rk_world.specs.Material.{is_joined_in, of_key, side_entries}
+use Rattle.rk_world.specs.Material.{is_joined_in}
 use Rattle.rk_world.specs.Notices.{names}
 use Rattle.rk_world.specs.Premises.{IsMaster}
-use Rattle.rk_world.specs.Ranges.{has_all, has_key}
+use Rattle.rk_world.specs.Ranges.{has_all}
 use Rattle.rk_world.specs.RoleTests.{is_absent, is_idle, may_have_staged}
-use Rattle.rk_world.specs.Step.{tablet_added, with_added}
-use Rattle.rk_world.specs.World.{World, master_at, tablet_in, with_master}
-use Rattle.rk_world.specs.Written.{Written, member_truth, applied_entries}
+use Rattle.rk_world.specs.Written.{Written, member_truth}
 use Rattle.rk_world.specs.declared.work.Mark.{Mark}
 use Rattle.rk_done.specs.Completions.{Completions, ends_of}
 use Rattle.rk_world.specs.Gather.{Gather}
 use Rattle.rk_world.specs.Tablet.{Pulling}
-use Rattle.rk_sound.specs.View.{View, view, truths, rests}
+use Rattle.rk_sound.specs.View.{View, truths, rests}
 use Rattle.rk_sound.specs.Rows.{IsFormed, IsPlaced, Rows}
 use Rattle.rk_sound.specs.Terms.{HandoverFits, SentFits, Terms, range_in, tenure_in}
 use Rattle.rk_sound.specs.Cover.{Cover, HasWholeRows, IsEntryWithin, IsItemWithin, IsOfWholeRows, IsWithinRows}
@@ -79,23 +68,17 @@ use Rattle.rk_sound.specs.Tables.{HasItems, IsTableOf, Tables, has_all_items}
 use Rattle.rk_sound.specs.Receives.{HandedFits, IsHandedBy, MembersFit, NamedFit, Receives, is_granted}
 use Rattle.rk_sound.specs.Rebuilds.{HasOwnRange, MarkFits, Rebuilds, RowIsRebuilt}
 use Rattle.rk_sound.specs.Messages.{AsksFor, IsOnlyRebuilder, IsOwner, Messages, SaysOf, PrepareFits, ReadyIn, CloseFits, TransferIn, GrantAgrees, AskAgrees, PulledAgrees, GotAgrees, ByMaster, IfMaster, IsOfTarget, JoinedIn, OwnFits, ReleaseFits, RebuildFits, RebuiltIn, IsOf}
-use Rattle.rk_sound.specs.Whole.{IsSound, SoundView, NodesOf, RowsOf, TermsOf, CoverOf, RolesOf, TruthOf, OrderOf, CallsOf, CountersOf, RestOf, TablesOf, ReceivesOf, RebuildsOf, MessagesOf}
-use Rattle.rk_sound.specs.Moves.{HasSome, HasSomeIn, MayAdd}
-use Rattle.rk_sound.specs.Small.{added, as_added, put2}
-use Rattle.rk_laws_parts.proofs.AddedRows.{all_with, covered_still, known_placed, known_still, new_placed, row_apart, stands_placed, uncovered}
+use Rattle.rk_sound.specs.Whole.{SoundView}
 use Rattle.rk_laws_parts.proofs.Cover.{covered_by}
 use Rattle.rk_laws_parts.proofs.Lists.{all_by}
 use Rattle.rk_laws_parts.proofs.Messages.{by_master, if_master}
-use Rattle.rk_laws_parts.proofs.Missed.{Misses, counting_none, drop_missed, from_missed, joined_none, map_elsewhere, material_none, none_touches, take_missed}
-use Rattle.rk_laws_parts.proofs.Put.{put2_by, put2_here, put2_other, put2_same}
 use Rattle.rk_laws_parts.proofs.Receives.{IsBareOf, IsTargetIn}
 use Rattle.rk_laws_parts.proofs.Rebuilds.{IsRebuilderIn}
 use Rattle.rk_laws_parts.proofs.Apart.{one_precedes, same_number}
 use Rattle.rk_laws_parts.proofs.Serving.{meets_either}
 use Rattle.rk_laws_parts.proofs.TurnedRows.{stands_found}
-use Rattle.rk_laws_parts.proofs.Views.{view_kept}
 use Rattle.rk_laws_parts.proofs.BeforeTurn.{at_most}
-use Rattle.rk_laws_split.specs.Halves.{IsHalf, IsOfWhole}
+use Rattle.rk_laws_split.specs.Halves.{IsHalf}
 use Rattle.rk_laws_split.specs.Small.{as_half, lower_row, rows_halved, upper_row}
 use Rattle.rk_laws_split.proofs.HalfCounts.{filter_finer}
 use Rattle.rk_laws_split.proofs.HalfOfRow.{low_of_half, next_of_half, order_of_half, reached_of_half, recorded_of_half, rest_of_half, table_of_half, truth_of_half}
@@ -343,7 +326,7 @@ module _ (v : View) (tablet : ℕ) (range : Range) (term owner from at new : ℕ
         (eq-eqb owner q (sym serves.1))
         (in_row (λ r. StillCounts (v.live q) (v.handovers q r.tablet).term r.term → RoleFits r q (v.handovers q r.tablet) (v.written q).applied) (sound.roles.fitting q) (inl serves.0))
 
-    owner_range : (q : ℕ) → Serves q → (v.handovers q tablet).range ≡ range
+    pub owner_range : (q : ℕ) → Serves q → (v.handovers q tablet).range ≡ range
     owner_range q serves =
         in_row (λ r. StillCounts (v.live q) (v.handovers q r.tablet).term r.term → is_member (lineage_of r.phase) q ≡ true → (v.handovers q r.tablet).range ≡ r.range) (sound.roles.ranged q)
         (inl serves.0) (or_left (eqb owner q) false (eq-eqb owner q (sym serves.1)))
@@ -1310,13 +1293,13 @@ module _ (v : View) (tablet : ℕ) (range : Range) (term owner from at new : ℕ
       pub view_row_split : SoundView now
       view_row_split = record {
         nodes = record {
-            numbered = sound.nodes.numbered;
-            backed = sound.nodes.backed;
-            known = sound.nodes.known;
-            named = named_of;
-            crashed = sound.nodes.crashed;
-            left = sound.nodes.left;
-          };
+          numbered = sound.nodes.numbered;
+          backed = sound.nodes.backed;
+          known = sound.nodes.known;
+          named = named_of;
+          crashed = sound.nodes.crashed;
+          left = sound.nodes.left;
+        };
         rows = rows_split;
         terms = terms;
         cover = cover;

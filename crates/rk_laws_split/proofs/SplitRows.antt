@@ -1,13 +1,12 @@
 -- Rows where one is split in two.
-use Rattle.std.proofs.Common.{◌≡◌, ℕ, ◌+◌, ◌<◌, ◌≤◌, ◌⊎◌, Bool, true, false, ◌||◌, ◌&&◌, eqb, leb, cond, List, [], ◌∷◌, Option, Some, None, is_some, refl, sym, ap, subst, ◌∙◌, ⊎_elim, inl, inr, arith}
+use Rattle.std.proofs.Common.{◌≡◌, ℕ, ◌<◌, ◌≤◌, Bool, true, false, ◌||◌, ◌&&◌, eqb, leb, List, Some, is_some, refl, sym, ap, subst, ◌∙◌, ⊎_elim, arith}
 use Rattle.std.specs.Prelude.{nat_le, nat_lt, ◌-◌}
 use Rattle.std.specs.List.{All, Contains}
-use Rattle.std.proofs.lemmas.Bool.{and_parts, cases_eq, eq-eqb, eqb-true, false≢true, leb-true, ltb-true, or_left}
+use Rattle.std.proofs.lemmas.Bool.{and_parts, cases_eq, false≢true, leb-true, ltb-true}
 use Rattle.std.proofs.lemmas.Bool.Decides.{nat_tests}
 use Rattle.rk_types.specs.Range.{meets}
-use Rattle.rk_types.specs.declared.range.Range.{Range}
 use Rattle.rk_tablet_map.proofs.Lawful.{covered_split, lawful_split, lawful_turned}
-use Rattle.rk_tablet_map.specs.Rows.{IsTabletMap, is_covered, is_split, lower_part, placed, replaced, row_of, split_fault, upper_part}
+use Rattle.rk_tablet_map.specs.Rows.{IsTabletMap, is_covered, is_split, lower_part, placed, replaced, row_of, upper_part}
 use Rattle.rk_tablet_map.specs.declared.row.Row.{Row}
 use Rattle.rk_laws_parts.proofs.AddedRows.{known_placed, new_placed, stands_placed, stood_placed}
 use Rattle.rk_laws_parts.proofs.Apart.{same_number}
@@ -36,7 +35,7 @@ module _ (rows : List Row) (row : Row) (at new : ℕ) (apart : IsTabletMap rows)
   abbrev all : List Row
   all = rows_halved rows row at new
 
-  found : row_of rows row.tablet ≡ Some row
+  pub found : row_of rows row.tablet ≡ Some row
   found = stands_found rows row apart has
 
   -- no row has the new number
@@ -52,7 +51,7 @@ module _ (rows : List Row) (row : Row) (at new : ℕ) (apart : IsTabletMap rows)
   lower_in : Contains divided (lower_part row at)
   lower_in = stands_placed (upper_part row at new) (lower_part row at) shrunk (new_stands rows row.tablet row (lower_part row at) found)
 
-  lower_found : row_of divided row.tablet ≡ Some (lower_part row at)
+  pub lower_found : row_of divided row.tablet ≡ Some (lower_part row at)
   lower_found = stands_found divided (lower_part row at) divided_apart lower_in
 
   risen_apart : IsTabletMap risen
@@ -68,7 +67,7 @@ module _ (rows : List Row) (row : Row) (at new : ℕ) (apart : IsTabletMap rows)
       (λ (there : Contains risen (upper_part row at new)). there)
       (stands_still divided row.tablet (lower_part row at) lower (upper_part row at new) lower_found (new_placed (upper_part row at new) shrunk))
 
-  upper_found : row_of risen new ≡ Some (upper_part row at new)
+  pub upper_found : row_of risen new ≡ Some (upper_part row at new)
   upper_found = stands_found risen (upper_part row at new) risen_apart upper_in
 
   pub halved_apart : IsTabletMap all

@@ -1,15 +1,21 @@
-// The headline law of halves. The function does nothing: its contract is the law.
+// The headline laws of halves and of a row that is split. The functions do nothing: their contracts are the laws.
 ghost use Rattle.std.specs.Prelude.{◌≡◌, ℕ, All, List, Option};
 ghost use Rattle.rk_entry.specs.declared.entry.Entry.{Entry};
 ghost use Rattle.rk_laws_split.specs.Halves.{IsHalf, IsOfWhole};
+ghost use Rattle.rk_laws_split.specs.Small.{row_split_in};
+ghost use Rattle.rk_sound.specs.Moves.{MaySplit};
 ghost use Rattle.rk_sound.specs.Rest.{IsRest};
 ghost use Rattle.rk_sound.specs.Truth.{IsTruth};
+ghost use Rattle.rk_sound.specs.View.{view};
+ghost use Rattle.rk_sound.specs.Whole.{IsSound};
+ghost use Rattle.rk_tablet_map.specs.declared.row.Row.{Row};
 ghost use Rattle.rk_types.specs.declared.history.Placed.{Placed};
 ghost use Rattle.rk_types.specs.declared.lineage.Member.{Member};
 ghost use Rattle.rk_types.specs.declared.range.Range.{Range};
 ghost use Rattle.rk_world.specs.Base.{Base};
 ghost use Rattle.rk_world.specs.declared.ledger.LastCall.{LastCall};
 ghost use Rattle.rk_world.specs.Material.{counting};
+ghost use Rattle.rk_world.specs.World.{World};
 ghost use Rattle.rk_world.specs.Written.{Written, member_rest, member_truth};
 
 /// What counts of a log for a half of a range is what counts for the half of what counts for the whole, where each Carried and each
@@ -26,4 +32,11 @@ pub fn halves_of_rows_go_on()
     ensures goes_on { (whole half : Range) (base : Base) (truth rest : List Entry) (journal : List Placed)
         (asked : ℕ → Option LastCall) → IsHalf whole half → IsRest base whole truth rest journal asked
         → IsRest base half (counting half truth) (counting half rest) journal asked }
+{}
+
+/// A sound lane stays sound when the coordinator splits an owned row in two at the next term, and its owner, if it lives, serves both
+/// halves.
+pub fn a_split_keeps_lanes_sound()
+    ensures split { (w : World) (row : Row) (at new : ℕ)
+        → IsSound w → MaySplit (view w) row at new → IsSound (row_split_in w row at new) }
 {}
