@@ -14,7 +14,7 @@ use Rattle.rk_world.specs.Ledger.{marks_of}
 use Rattle.rk_world.specs.Lineage.{is_member}
 use Rattle.rk_world.specs.Master.{Master, tablet_at, with_tablet}
 use Rattle.rk_world.specs.Ranges.{range_below, range_from}
-use Rattle.rk_world.specs.Splits.{has_parts, owner_split, with_half, with_halves, with_rows_split, with_split}
+use Rattle.rk_world.specs.Splits.{has_parts, owner_split, row_split, rows_split_of, tablet_split, with_half, with_halves, with_rows_split, with_split}
 use Rattle.rk_world.specs.Tablet.{Tablet}
 use Rattle.rk_world.specs.World.{World, has_crashed, lives, master_at, tablet_in, with_coordinator, with_master}
 use Rattle.rk_world.specs.Written.{written_by}
@@ -222,8 +222,9 @@ module _ (w : World) (tablet : ℕ) (range : Range) (term owner from at new : �
       ⊎_elim (λ (crashed : has_crashed w owner ≡ true). dead_sound crashed) (λ (alive : has_crashed w owner ≡ false). live_sound (ap not alive))
       (cases_Bool (has_crashed w owner))
 
-pub sound_split : (w : World) (row : Row) (at new : ℕ) → IsSound w → MaySplit (view w) row at new → IsSound (row_split_in w row at new)
-sound_split w row at new sound may =
+-- one of the rows is split
+row_sound : (w : World) (row : Row) (at new : ℕ) → IsSound w → MaySplit (view w) row at new → IsSound (row_split_in w row at new)
+row_sound w row at new sound may =
     let rows : List Row = w.coordinator.rows in
     let row_is : record { tablet = row.tablet; range = row.range; term = row.term; phase = Owned may.owner may.from } ≡ row =
     λ i. record row { phase = sym may.phase_is i } in
@@ -232,3 +233,8 @@ sound_split w row at new sound may =
     let cut = may_cut row (row_of rows new) at new fault in
     subst (λ (r : Row). IsSound (row_split_in w r at new)) row_is
     (split_sound w row.tablet row.range row.term may.owner may.from at new sound (subst (Contains rows) (sym row_is) may.has_row) cut.0 cut.1)
+
+pub sound_split : (w : World) (row : Row) (at new : ℕ) → IsSound w → MaySplit (view w) row at new → IsSound (tablet_split w row.tablet at new)
+sound_split w row at new sound may =
+    subst (λ (f : Option Row). IsSound (with_coordinator (row_split w f at new) (rows_split_of w.coordinator f at new)))
+    (sym (stands_found w.coordinator.rows row sound.rows.apart may.has_row)) (row_sound w row at new sound may)

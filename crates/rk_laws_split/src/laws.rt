@@ -2,7 +2,6 @@
 ghost use Rattle.std.specs.Prelude.{◌≡◌, ℕ, All, List, Option};
 ghost use Rattle.rk_entry.specs.declared.entry.Entry.{Entry};
 ghost use Rattle.rk_laws_split.specs.Halves.{IsHalf, IsOfWhole};
-ghost use Rattle.rk_laws_split.specs.Small.{row_split_in};
 ghost use Rattle.rk_sound.specs.Moves.{MaySplit};
 ghost use Rattle.rk_sound.specs.Rest.{IsRest};
 ghost use Rattle.rk_sound.specs.Truth.{IsTruth};
@@ -15,6 +14,7 @@ ghost use Rattle.rk_types.specs.declared.range.Range.{Range};
 ghost use Rattle.rk_world.specs.Base.{Base};
 ghost use Rattle.rk_world.specs.declared.ledger.LastCall.{LastCall};
 ghost use Rattle.rk_world.specs.Material.{counting};
+ghost use Rattle.rk_world.specs.Splits.{tablet_split};
 ghost use Rattle.rk_world.specs.World.{World};
 ghost use Rattle.rk_world.specs.Written.{Written, member_rest, member_truth};
 
@@ -38,5 +38,5 @@ pub fn halves_of_rows_go_on()
 /// halves.
 pub fn a_split_keeps_lanes_sound()
     ensures split { (w : World) (row : Row) (at new : ℕ)
-        → IsSound w → MaySplit (view w) row at new → IsSound (row_split_in w row at new) }
+        → IsSound w → MaySplit (view w) row at new → IsSound (tablet_split w row.tablet at new) }
 {}
