@@ -44,15 +44,15 @@ use Rattle.rk_laws_parts.proofs.Serving.{found_stands}
 -- ---- what is refused
 
 -- of two causes there is none
-record NoCause {X : Type 0} (a b : Option X) : Type 0 where
-  first : a ≡ None
-  second : b ≡ None
+pub record NoCause {X : Type 0} (a b : Option X) : Type 0 where
+  pub first : a ≡ None
+  pub second : b ≡ None
 
-no_cause : {X : Type 0} (a b : Option X) → option_or a b ≡ None → NoCause a b
+pub no_cause : {X : Type 0} (a b : Option X) → option_or a b ≡ None → NoCause a b
 no_cause None b is = record { first = refl; second = is }
 no_cause (Some x) b is = absurd (cc is)
 
-no_mapped : {X Y : Type 0} (f : X → Y) (a : Option X) → option_map f a ≡ None → a ≡ None
+pub no_mapped : {X Y : Type 0} (f : X → Y) (a : Option X) → option_map f a ≡ None → a ≡ None
 no_mapped f None is = refl
 no_mapped f (Some x) is = absurd (cc is)
 

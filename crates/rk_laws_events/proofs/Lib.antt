@@ -15,3 +15,4 @@ pub mod PostsOf
 pub mod Duties
 pub mod Reading
 pub mod Crashing
+pub mod Splitting

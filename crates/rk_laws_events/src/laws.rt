@@ -78,8 +78,9 @@ pub fn coordinator_turns_keep_lanes_sound()
         → IsSound w → IsSound (happened w (events.Turn nodes.Coordinator) called).world }
 {}
 
-/// A sound and well formed lane stays sound when a tablet is added, when one begins to move, when a master crashes while another one
-/// lives, and when crashes are noticed, each where the event may happen and is not refused; for a crash the lane has room.
+/// A sound and well formed lane stays sound when a tablet is added, when one begins to move, when one is split, when a master crashes
+/// while another one lives, and when crashes are noticed, each where the event may happen and is not refused; for a crash the lane has
+/// room.
 pub fn administration_keeps_lanes_sound()
     ensures added { (w : World) (tablet : ℕ) (range : Range) (master : ℕ) (called : Called)
         → IsSound w → IsWellFormed w → MayHappen w (events.AddTablet tablet range master)
@@ -88,6 +89,9 @@ pub fn administration_keeps_lanes_sound()
     ensures migrated { (w : World) (tablet to : ℕ) (called : Called)
         → IsSound w → MayHappen w (events.Migrate tablet to) → refusal w (events.Migrate tablet to) ≡ None
         → IsSound (happened w (events.Migrate tablet to) called).world }
+    ensures split { (w : World) (tablet at new : ℕ) (called : Called)
+        → IsSound w → refusal w (events.Split tablet at new) ≡ None
+        → IsSound (happened w (events.Split tablet at new) called).world }
     ensures crashed { (w : World) (master : ℕ) (called : Called)
         → IsSound w → IsWellFormed w → HasRoom w → lives_another w master ≡ true
         → IsSound (happened w (events.Crash master) called).world }
