@@ -1,0 +1,4 @@
+pub mod OwnerOrders
+pub mod Taken
+pub mod Waiting
+pub mod Reported
