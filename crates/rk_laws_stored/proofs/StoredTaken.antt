@@ -1,0 +1,135 @@
+-- A lane stays sound when a master takes a Stored: the length is told, what every backup holds by then is applied, and the clients of the
+-- calls that end with that are told.
+use Rattle.std.proofs.Common.{◌≡◌, ℕ, Bool, true, false, cond, not, List, [], ◌∷◌, ◌++◌, map, Option, Some, None, refl, sym, ap, ◌∙◌, subst, arith}
+use Rattle.std.specs.List.{All}
+use Rattle.std.proofs.lemmas.List.Elements.{All-nil}
+use Rattle.rk_types.specs.NumberMap.{get}
+use Rattle.rk_types.specs.declared.node.Node.TheVariants as nodes
+use Rattle.rk_log.specs.Log.{IsBackup, committed, overreach}
+use Rattle.rk_log.specs.declared.overreach.Overreach.{Overreach}
+use Rattle.rk_message.specs.declared.message.Body.TheVariants as bodies
+use Rattle.rk_message.specs.declared.message.Message.{Message}
+use Rattle.rk_message.specs.declared.replication.Stored.{Stored}
+use Rattle.rk_world.specs.declared.work.Mark.{Mark}
+use Rattle.rk_world.specs.declared.work.Served.{Served}
+use Rattle.rk_world.specs.Commits.{apply_entries, newly_held, stored_taken, told_length}
+use Rattle.rk_world.specs.Ledger.{Ledger, with_all_served, with_marks}
+use Rattle.rk_world.specs.Master.{Master, with_known}
+use Rattle.rk_world.specs.Replies.{filled}
+use Rattle.rk_world.specs.Step.{losing, to_master, worked_at}
+use Rattle.rk_world.specs.Waiting.{all_going_on}
+use Rattle.rk_world.specs.Worked.{Worked, changed}
+use Rattle.rk_world.specs.World.{World, has_crashed, lives, log_in, master_at, tablet_in, with_all_sent, with_master}
+use Rattle.rk_sound.specs.Changes.{MaySend, MayTell}
+use Rattle.rk_sound.specs.View.{view}
+use Rattle.rk_sound.specs.Whole.{IsSound, SoundView}
+use Rattle.rk_laws_parts.proofs.LengthTold.{sound_told}
+use Rattle.rk_laws_parts.proofs.Put.{put2_same, put_same}
+use Rattle.rk_laws_parts.proofs.Shares.{append_nil}
+use Rattle.rk_laws_parts.proofs.Views.{view_master}
+use Rattle.rk_laws_events.proofs.AllSent.{sound_all_sent}
+use Rattle.rk_laws_stored.specs.Small.{NoneGoesOn, told_and_applied, with_work}
+use Rattle.rk_laws_stored.proofs.AllApplied.{HasFirst, IsWorked, sound_all_applied}
+use Rattle.rk_laws_stored.proofs.Replies.{may_tell_ends}
+use Rattle.rk_laws_stored.proofs.Work.{IsTold, all_told, reply_to}
+
+-- ---- a master has worked
+
+-- where a master has worked and all that it served has its record, it may tell its clients
+module _ (w : World) (master number : ℕ) (worked : Worked) where
+  abbrev after : Ledger
+  after = with_all_served 0 w.ledger worked.served
+
+  pub sound_worked : worked.marked ≡ [] → worked.sends ≡ map (reply_to number) worked.served → IsWorked w master w.ledger worked
+      → IsSound (worked_at w master 0 worked).world
+  sound_worked unmarked sends is =
+      let u : World = with_work w master worked.master (with_all_served 0 w.ledger worked.served) in
+      let same : with_marks after worked.marked ≡ after =
+      ap (with_marks after) unmarked ∙ (λ i. record after { marks = append_nil after.marks i }) in
+      subst (λ (l : Ledger). IsSound (with_all_sent (with_work w master worked.master l) (map (filled l.journal worked.served) worked.sends)))
+      (sym same)
+      (subst (λ (messages : List Message). IsSound (with_all_sent u (map (filled u.ledger.journal worked.served) messages))) (sym sends)
+      (sound_all_sent u (map (filled u.ledger.journal worked.served) (map (reply_to number) worked.served)) is.sound
+      (may_tell_ends (view u) number worked.served is.have)))
+
+-- a master that is put as it was
+sound_as_it_was : (w : World) (master : ℕ) → IsSound w → IsSound (with_master w master (master_at w master))
+sound_as_it_was w master sound =
+    subst SoundView
+    (sym
+    (view_master w master (master_at w master) 0 (tablet_in w master 0) refl refl (λ r apart. refl)
+    ∙ (λ i. record (view w) {
+      logs = put_same (view w).logs master i;
+      written = put_same (view w).written master i;
+      records = put_same (view w).records master i;
+      calls = put_same (view w).calls master i;
+      handovers = put2_same (view w).handovers master 0 i;
+      completions = put2_same (view w).completions master 0 i;
+      pullings = put2_same (view w).pullings master 0 i;
+      gathers = put2_same (view w).gathers master 0 i;
+      merged = put2_same (view w).merged master 0 i;
+    })))
+    sound
+
+-- ---- a Stored
+
+module _ (w : World) (number master backup : ℕ) (stored : Stored) (sound : IsSound w) (there : IsBackup (log_in w master) backup) (sent : get w.wire.messages number ≡ Some (record { from = nodes.Backup backup; to = nodes.Master master; body = bodies.Stored stored })) where
+  abbrev known : Master
+  known = with_known (master_at w master) backup stored.segment stored.length
+
+  abbrev applied : Worked
+  applied = apply_entries (with_known (master_at w master) backup stored.segment stored.length) (newly_held (with_known (master_at w master) backup stored.segment stored.length))
+
+  -- the length may be told, and then the entries be applied
+  pub all_applied : lives w master ≡ true → IsWorked w master w.ledger (apply_entries (with_known (master_at w master) backup stored.segment stored.length) (newly_held (with_known (master_at w master) backup stored.segment stored.length)))
+  all_applied alive =
+      sound_all_applied w master alive (newly_held known) known w.ledger (committed known.log)
+      (sound_told w master backup stored.segment stored.length sound
+      (record { lives = alive; there = there; is_stored = sound.logs.sent number _ sent }))
+      (omega arith) refl
+
+  -- what waited for that goes on
+  abbrev GoesOn : Type 0
+  GoesOn =
+      IsSound (with_work w master applied.master (with_all_served 0 w.ledger applied.served))
+      → IsSound (with_work w master (all_going_on applied.master applied.master.tablets) (with_all_served 0 w.ledger applied.served))
+
+  told_sound : lives w master ≡ true → GoesOn → IsSound (worked_at w master 0 (told_length (master_at w master) backup stored)).world
+  told_sound alive goes =
+      let is = all_applied alive in
+      let told = all_told (newly_held known) known in
+      let same : applied.served ++ [] ≡ applied.served = append_nil applied.served in
+      sound_worked w master known.number (told_length (master_at w master) backup stored)
+      (append_nil applied.marked ∙ told.marked)
+      (append_nil applied.sends ∙ told.sends ∙ ap (map (reply_to known.number)) (sym same))
+      (record {
+        sound =
+            subst (λ (served : List Served). IsSound (with_work w master (all_going_on applied.master applied.master.tablets) (with_all_served 0 w.ledger served)))
+            (sym same) (goes is.sound);
+        have =
+            subst (λ (served : List Served). All (HasFirst (with_all_served 0 w.ledger served).journal) served) (sym same) is.have;
+      })
+
+  -- a length beyond that of the segment is ignored
+  ignored_sound : IsSound (worked_at w master 0 (changed (master_at w master))).world
+  ignored_sound =
+      sound_worked w master 0 (changed (master_at w master)) refl refl
+      (record { sound = sound_as_it_was w master sound; have = All-nil (HasFirst w.ledger.journal) })
+
+  pub sound_stored : GoesOn → IsSound (to_master w master (record { from = nodes.Backup backup; to = nodes.Master master; body = bodies.Stored stored })).world
+  sound_stored goes = by (has_crashed w master) refl
+    where
+      by_reach : lives w master ≡ true → (beyond : Option Overreach) → IsSound (worked_at w master 0 (stored_taken (master_at w master) backup stored beyond)).world
+      by_reach alive None = told_sound alive goes
+      by_reach alive (Some beyond) = ignored_sound
+
+      by : (crashed : Bool) → has_crashed w master ≡ crashed
+          → IsSound (cond crashed (losing w) (worked_at w master 0 (stored_taken (master_at w master) backup stored (overreach (log_in w master) stored.segment stored.length)))).world
+      by true is = sound
+      by false is = by_reach (ap not is) (overreach (log_in w master) stored.segment stored.length)
+
+  -- where no tablet waits for it, all stays so
+  pub sound_settled : NoneGoesOn (master_at w master) backup stored → IsSound (to_master w master (record { from = nodes.Backup backup; to = nodes.Master master; body = bodies.Stored stored })).world
+  sound_settled none =
+      sound_stored
+      (λ is. subst (λ (now : Master). IsSound (with_work w master now (with_all_served 0 w.ledger applied.served))) (sym none) is)

@@ -1,0 +1,91 @@
+-- What a master makes of its next entry: its number and its log stay, one more entry is applied, and each call that it served is told.
+use Rattle.std.proofs.Common.{◌≡◌, ℕ, ◌+◌, List, [], ◌∷◌, ◌++◌, map, Option, Some, None, refl, sym, ap, ◌∙◌, subst}
+use Rattle.std.proofs.lemmas.List.{map-append}
+use Rattle.rk_types.specs.NumberMap.{IsInOrder, get}
+use Rattle.rk_types.specs.declared.call.Answer.TheVariants as answers
+use Rattle.rk_types.specs.declared.call.Call.{Call}
+use Rattle.rk_types.specs.declared.call.Ended.{Ended}
+use Rattle.rk_types.specs.declared.node.Node.TheVariants as nodes
+use Rattle.rk_entry.specs.declared.entry.Entry.{Entry}
+use Rattle.rk_message.specs.declared.message.Body.TheVariants as bodies
+use Rattle.rk_message.specs.declared.message.Message.{Message}
+use Rattle.rk_types.proofs.NumberMaps.{in_order_changed}
+use Rattle.rk_world.specs.Commits.{apply_entries, apply_entry, noting, with_applied, with_ended}
+use Rattle.rk_world.specs.Ends.{told_by}
+use Rattle.rk_world.specs.Master.{Master}
+use Rattle.rk_world.specs.Worked.{Worked}
+use Rattle.rk_world.specs.declared.work.Served.{Served}
+use Rattle.rk_laws_apply.specs.Small.{with_item_of}
+use Rattle.rk_laws_apply.proofs.EntryPassed.{item_put}
+
+-- the reply to a call that was served
+abbrev pub reply_to : ℕ → Served → Message
+reply_to master one = record {
+  from = nodes.Master master;
+  to = nodes.Client one.call.client;
+  body = bodies.Reply (record { seq = one.call.seq; stamp = 0; place = 0; answer = answers.Done one.outcome });
+}
+
+-- work that tells the clients of all that it served, and leaves number and log as they were
+pub record IsTold (master : Master) (worked : Worked) : Type 0 where
+  pub number : worked.master.number ≡ master.number
+  pub log : worked.master.log ≡ master.log
+  pub sends : worked.sends ≡ map (reply_to master.number) worked.served
+  pub marked : worked.marked ≡ []
+  pub order : IsInOrder master.tablets → IsInOrder worked.master.tablets
+
+-- a master that has applied one more entry
+abbrev pub passed : Master → Entry → Master
+passed master entry = record master { records = with_item_of entry master.records; applied = master.applied + 1 }
+
+pub apply_is : (master : Master) (entry : Entry) → apply_entry master entry ≡ with_ended (passed master entry) master.applied (get master.calls master.applied) (told_by entry)
+apply_is master entry =
+    λ i. with_ended (with_applied (item_put master entry i)) master.applied (get master.calls master.applied) (told_by entry)
+
+ended_told : (master : Master) (place : ℕ) (waits : Option Call) (ends : List Ended) → IsTold master (with_ended master place waits ends)
+ended_told master place None ends = record { number = refl; log = refl; sends = refl; marked = refl; order = λ order. order }
+ended_told master place (Some call) [] = record { number = refl; log = refl; sends = refl; marked = refl; order = λ order. order }
+ended_told master place (Some call) (end ∷ ends) = record {
+  number = refl;
+  log = refl;
+  sends = refl;
+  marked = refl;
+  order = λ order. in_order_changed (λ number tablet. noting call end tablet) master.tablets order;
+}
+
+ended_applied : (master : Master) (place : ℕ) (waits : Option Call) (ends : List Ended) → (with_ended master place waits ends).master.applied ≡ master.applied
+ended_applied master place None ends = refl
+ended_applied master place (Some call) [] = refl
+ended_applied master place (Some call) (end ∷ ends) = refl
+
+pub entry_told : (master : Master) (entry : Entry) → IsTold master (apply_entry master entry)
+entry_told master entry =
+    as_of
+    (subst (IsTold (passed master entry)) (sym (apply_is master entry))
+    (ended_told (passed master entry) master.applied (get master.calls master.applied) (told_by entry)))
+  where
+    as_of : IsTold (passed master entry) (apply_entry master entry) → IsTold master (apply_entry master entry)
+    as_of told = record { number = told.number; log = told.log; sends = told.sends; marked = told.marked; order = told.order }
+
+pub entry_applied_next : (master : Master) (entry : Entry) → (apply_entry master entry).master.applied ≡ master.applied + 1
+entry_applied_next master entry =
+    ap (λ (worked : Worked). worked.master.applied) (apply_is master entry)
+    ∙ ended_applied (passed master entry) master.applied (get master.calls master.applied) (told_by entry)
+
+-- so is it of entries that are applied one after the other
+pub all_told : (entries : List Entry) (master : Master) → IsTold master (apply_entries master entries)
+all_told [] master = record { number = refl; log = refl; sends = refl; marked = refl; order = λ order. order }
+all_told (entry ∷ entries) master =
+    let first = entry_told master entry in
+    let now = (apply_entry master entry).master in
+    let later = all_told entries now in
+    record {
+      number = later.number ∙ first.number;
+      log = later.log ∙ first.log;
+      sends =
+          (λ i. first.sends i ++ later.sends i)
+          ∙ ap (λ (n : ℕ). map (reply_to master.number) (apply_entry master entry).served ++ map (reply_to n) (apply_entries now entries).served) first.number
+          ∙ sym (map-append (reply_to master.number) (apply_entry master entry).served (apply_entries now entries).served);
+      marked = (λ i. first.marked i ++ later.marked i);
+      order = λ order. later.order (first.order order);
+    }

@@ -1,0 +1,34 @@
+// The headline laws of a Stored. Each function does nothing: its contract is the law.
+ghost use Rattle.std.specs.Prelude.{◌≡◌, ◌≤◌, ℕ, true, List, Some, take, drop};
+ghost use Rattle.rk_entry.specs.declared.entry.Entry.{Entry};
+ghost use Rattle.rk_log.specs.Log.{IsBackup, committed};
+ghost use Rattle.rk_message.specs.declared.message.Body.TheVariants as bodies;
+ghost use Rattle.rk_message.specs.declared.replication.Stored.{Stored};
+ghost use Rattle.rk_sound.specs.Whole.{IsSound};
+ghost use Rattle.rk_types.specs.NumberMap.{get};
+ghost use Rattle.rk_types.specs.declared.node.Node.TheVariants as nodes;
+ghost use Rattle.rk_laws_stored.specs.Small.{NoneGoesOn, with_work};
+ghost use Rattle.rk_world.specs.Commits.{apply_entries};
+ghost use Rattle.rk_world.specs.Ledger.{Ledger, with_all_served};
+ghost use Rattle.rk_world.specs.Master.{Master};
+ghost use Rattle.rk_world.specs.Step.{to_master};
+ghost use Rattle.rk_world.specs.World.{World, lives, log_in, master_at};
+
+/// A sound lane stays sound when a living master applies the entries that come next in its log, one after the other, as far as every
+/// backup is known to hold them, and then each call that it served gets its record.
+pub fn entries_in_a_row_keep_lanes_sound()
+    ensures applied { (w : World) (master : ℕ) (now : Master) (ledger : Ledger) (entries : List Entry) (count : ℕ)
+        → IsSound (with_work w master now ledger) → lives w master ≡ true
+        → count ≤ committed now.log → drop now.applied (take count now.log.entries) ≡ entries
+        → IsSound (with_work w master (apply_entries now entries).master (with_all_served 0 ledger (apply_entries now entries).served)) }
+{}
+
+/// A sound lane stays sound when a master takes a Stored that stands on the wire, from one of its backups, where no tablet of the master
+/// waits for what is applied then.
+pub fn stored_keeps_lanes_sound()
+    ensures settled { (w : World) (number master backup : ℕ) (stored : Stored)
+        → IsSound w → IsBackup (log_in w master) backup
+        → get w.wire.messages number ≡ Some (record { from = nodes.Backup backup; to = nodes.Master master; body = bodies.Stored stored })
+        → NoneGoesOn (master_at w master) backup stored
+        → IsSound (to_master w master (record { from = nodes.Backup backup; to = nodes.Master master; body = bodies.Stored stored })).world }
+{}
