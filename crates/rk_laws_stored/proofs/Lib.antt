@@ -4,4 +4,6 @@ pub mod NextEntries
 pub mod Work
 pub mod AllApplied
 pub mod Replies
+pub mod OrderedTablets
+pub mod GoingOn
 pub mod StoredTaken

@@ -1,5 +1,5 @@
--- A lane stays sound when a master takes a Stored: the length is told, what every backup holds by then is applied, and the clients of the
--- calls that end with that are told.
+-- A lane stays sound when a master takes a Stored: the length is told, what every backup holds by then is applied, the tablets
+-- that waited for that go on, and the clients of the calls that end with it are told.
 use Rattle.std.proofs.Common.{◌≡◌, ℕ, Bool, true, false, cond, not, List, [], ◌∷◌, ◌++◌, map, Option, Some, None, refl, sym, ap, ◌∙◌, subst, arith}
 use Rattle.std.specs.List.{All}
 use Rattle.std.proofs.lemmas.List.Elements.{All-nil}
@@ -28,8 +28,9 @@ use Rattle.rk_laws_parts.proofs.Put.{put2_same, put_same}
 use Rattle.rk_laws_parts.proofs.Shares.{append_nil}
 use Rattle.rk_laws_parts.proofs.Views.{view_master}
 use Rattle.rk_laws_events.proofs.AllSent.{sound_all_sent}
-use Rattle.rk_laws_stored.specs.Small.{NoneGoesOn, told_and_applied, with_work}
+use Rattle.rk_laws_stored.specs.Small.{MayGoOn, with_work}
 use Rattle.rk_laws_stored.proofs.AllApplied.{HasFirst, IsWorked, sound_all_applied}
+use Rattle.rk_laws_stored.proofs.GoingOn.{sound_going_on}
 use Rattle.rk_laws_stored.proofs.Replies.{may_tell_ends}
 use Rattle.rk_laws_stored.proofs.Work.{IsTold, all_told, reply_to}
 
@@ -73,7 +74,7 @@ sound_as_it_was w master sound =
 
 -- ---- a Stored
 
-module _ (w : World) (number master backup : ℕ) (stored : Stored) (sound : IsSound w) (there : IsBackup (log_in w master) backup) (sent : get w.wire.messages number ≡ Some (record { from = nodes.Backup backup; to = nodes.Master master; body = bodies.Stored stored })) where
+module _ (w : World) (number master backup : ℕ) (stored : Stored) (sound : IsSound w) (there : IsBackup (log_in w master) backup) (sent : get w.wire.messages number ≡ Some (record { from = nodes.Backup backup; to = nodes.Master master; body = bodies.Stored stored })) (may : MayGoOn (log_in w master) (master_at w master).tablets) where
   abbrev known : Master
   known = with_known (master_at w master) backup stored.segment stored.length
 
@@ -88,14 +89,8 @@ module _ (w : World) (number master backup : ℕ) (stored : Stored) (sound : IsS
       (record { lives = alive; there = there; is_stored = sound.logs.sent number _ sent }))
       (omega arith) refl
 
-  -- what waited for that goes on
-  abbrev GoesOn : Type 0
-  GoesOn =
-      IsSound (with_work w master applied.master (with_all_served 0 w.ledger applied.served))
-      → IsSound (with_work w master (all_going_on applied.master applied.master.tablets) (with_all_served 0 w.ledger applied.served))
-
-  told_sound : lives w master ≡ true → GoesOn → IsSound (worked_at w master 0 (told_length (master_at w master) backup stored)).world
-  told_sound alive goes =
+  told_sound : lives w master ≡ true → IsSound (worked_at w master 0 (told_length (master_at w master) backup stored)).world
+  told_sound alive =
       let is = all_applied alive in
       let told = all_told (newly_held known) known in
       let same : applied.served ++ [] ≡ applied.served = append_nil applied.served in
@@ -105,7 +100,9 @@ module _ (w : World) (number master backup : ℕ) (stored : Stored) (sound : IsS
       (record {
         sound =
             subst (λ (served : List Served). IsSound (with_work w master (all_going_on applied.master applied.master.tablets) (with_all_served 0 w.ledger served)))
-            (sym same) (goes is.sound);
+            (sym same)
+            (sound_going_on w master alive (with_all_served 0 w.ledger applied.served) applied.master
+            (told.goes_on (record { order = may.order; some = may.some; room = may.room })) is.sound);
         have =
             subst (λ (served : List Served). All (HasFirst (with_all_served 0 w.ledger served).journal) served) (sym same) is.have;
       })
@@ -116,20 +113,14 @@ module _ (w : World) (number master backup : ℕ) (stored : Stored) (sound : IsS
       sound_worked w master 0 (changed (master_at w master)) refl refl
       (record { sound = sound_as_it_was w master sound; have = All-nil (HasFirst w.ledger.journal) })
 
-  pub sound_stored : GoesOn → IsSound (to_master w master (record { from = nodes.Backup backup; to = nodes.Master master; body = bodies.Stored stored })).world
-  sound_stored goes = by (has_crashed w master) refl
+  pub sound_stored : IsSound (to_master w master (record { from = nodes.Backup backup; to = nodes.Master master; body = bodies.Stored stored })).world
+  sound_stored = by (has_crashed w master) refl
     where
       by_reach : lives w master ≡ true → (beyond : Option Overreach) → IsSound (worked_at w master 0 (stored_taken (master_at w master) backup stored beyond)).world
-      by_reach alive None = told_sound alive goes
+      by_reach alive None = told_sound alive
       by_reach alive (Some beyond) = ignored_sound
 
       by : (crashed : Bool) → has_crashed w master ≡ crashed
           → IsSound (cond crashed (losing w) (worked_at w master 0 (stored_taken (master_at w master) backup stored (overreach (log_in w master) stored.segment stored.length)))).world
       by true is = sound
       by false is = by_reach (ap not is) (overreach (log_in w master) stored.segment stored.length)
-
-  -- where no tablet waits for it, all stays so
-  pub sound_settled : NoneGoesOn (master_at w master) backup stored → IsSound (to_master w master (record { from = nodes.Backup backup; to = nodes.Master master; body = bodies.Stored stored })).world
-  sound_settled none =
-      sound_stored
-      (λ is. subst (λ (now : Master). IsSound (with_work w master now (with_all_served 0 w.ledger applied.served))) (sym none) is)

@@ -8,7 +8,7 @@ use Rattle.std.specs.FinMap.Entries.{by_order}
 use Rattle.rk_types.specs.NumberMap.{NumberMap, insert}
 
 -- a number ties with itself
-ties : (number : ℕ) → nat_cmp number number ≡ Equal
+pub ties : (number : ℕ) → nat_cmp number number ≡ Equal
 ties number = sym (nat_cmp_is number number Equal refl)
 
 module _ {X : Type 0} (number : ℕ) (first last : X) where

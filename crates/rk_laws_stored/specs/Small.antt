@@ -1,23 +1,23 @@
--- A world where one master has worked so far, and a Stored that lets no tablet go on.
-use Rattle.std.specs.Prelude.{◌≡◌, ℕ}
-use Rattle.rk_message.specs.declared.replication.Stored.{Stored}
-use Rattle.rk_world.specs.Commits.{apply_entries, newly_held}
+-- A world where one master has worked so far, and what it has when it lets its tablets go on.
+use Rattle.std.specs.Prelude.{◌≡◌, ◌<◌, ◌+◌, ℕ, true, All, length}
+use Rattle.rk_types.specs.NumberMap.{IsInOrder, NumberMap}
+use Rattle.rk_types.specs.Range.{meets}
+use Rattle.rk_entry.specs.declared.lists.TheConstants.{FIRST_SIDE_SEGMENT}
+use Rattle.rk_log.specs.Cut.{cut}
+use Rattle.rk_log.specs.Log.{Log}
+use Rattle.rk_world.specs.Formed.{side_waits}
 use Rattle.rk_world.specs.Ledger.{Ledger}
-use Rattle.rk_world.specs.Master.{Master, with_known}
-use Rattle.rk_world.specs.Waiting.{all_going_on}
+use Rattle.rk_world.specs.Master.{Master}
+use Rattle.rk_world.specs.Tablet.{Tablet}
 use Rattle.rk_world.specs.World.{World, with_ledger, with_master}
 
 -- a world where a master and the ledger are so
 abbrev pub with_work : World → ℕ → Master → Ledger → World
 with_work w master now ledger = with_ledger (with_master w master now) ledger
 
--- a master once a backup told that it holds so much of a segment, and what every backup holds by then is applied
-abbrev pub told_and_applied : Master → ℕ → Stored → Master
-told_and_applied master backup stored =
-    let known = with_known master backup stored.segment stored.length in (apply_entries known (newly_held known)).master
-
--- no tablet of it waits for that
-abbrev pub NoneGoesOn : Master → ℕ → Stored → Type 0
-NoneGoesOn master backup stored =
-    all_going_on (told_and_applied master backup stored) (told_and_applied master backup stored).tablets
-    ≡ told_and_applied master backup stored
+-- what a master has when it lets its tablets go on: they are in order, no range is empty, and the log has room for the entries that close
+-- roles, fewer than the side segments that its targets wait for
+pub record MayGoOn (log : Log) (tablets : NumberMap Tablet) : Type 0 where
+  pub order : IsInOrder tablets
+  pub some : All (λ entry. meets entry.1.handover.range entry.1.handover.range ≡ true) tablets
+  pub room : length (cut log.entries) + side_waits tablets < FIRST_SIDE_SEGMENT

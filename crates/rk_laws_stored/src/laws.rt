@@ -7,11 +7,12 @@ ghost use Rattle.rk_message.specs.declared.replication.Stored.{Stored};
 ghost use Rattle.rk_sound.specs.Whole.{IsSound};
 ghost use Rattle.rk_types.specs.NumberMap.{get};
 ghost use Rattle.rk_types.specs.declared.node.Node.TheVariants as nodes;
-ghost use Rattle.rk_laws_stored.specs.Small.{NoneGoesOn, with_work};
+ghost use Rattle.rk_laws_stored.specs.Small.{MayGoOn, with_work};
 ghost use Rattle.rk_world.specs.Commits.{apply_entries};
 ghost use Rattle.rk_world.specs.Ledger.{Ledger, with_all_served};
 ghost use Rattle.rk_world.specs.Master.{Master};
 ghost use Rattle.rk_world.specs.Step.{to_master};
+ghost use Rattle.rk_world.specs.Waiting.{all_going_on};
 ghost use Rattle.rk_world.specs.World.{World, lives, log_in, master_at};
 
 /// A sound lane stays sound when a living master applies the entries that come next in its log, one after the other, as far as every
@@ -23,12 +24,19 @@ pub fn entries_in_a_row_keep_lanes_sound()
         → IsSound (with_work w master (apply_entries now entries).master (with_all_served 0 ledger (apply_entries now entries).served)) }
 {}
 
-/// A sound lane stays sound when a master takes a Stored that stands on the wire, from one of its backups, where no tablet of the master
-/// waits for what is applied then.
+/// A sound lane stays sound when a living master lets its tablets go on, one after the other: one that closes freezes where nothing of it
+/// is staged, and a target whose side segments every backup is known to hold appends its closing entry.
+pub fn tablets_that_go_on_keep_lanes_sound()
+    ensures went_on { (w : World) (master : ℕ) (now : Master) (ledger : Ledger)
+        → IsSound (with_work w master now ledger) → lives w master ≡ true → MayGoOn now.log now.tablets
+        → IsSound (with_work w master (all_going_on now now.tablets) ledger) }
+{}
+
+/// A sound lane stays sound when a master takes a Stored that stands on the wire, from one of its backups: what every backup is known to
+/// hold by then is applied, what waited for that goes on, and the clients of the calls that end with it are told, with stamp and place.
 pub fn stored_keeps_lanes_sound()
-    ensures settled { (w : World) (number master backup : ℕ) (stored : Stored)
-        → IsSound w → IsBackup (log_in w master) backup
+    ensures taken { (w : World) (number master backup : ℕ) (stored : Stored)
+        → IsSound w → IsBackup (log_in w master) backup → MayGoOn (log_in w master) (master_at w master).tablets
         → get w.wire.messages number ≡ Some (record { from = nodes.Backup backup; to = nodes.Master master; body = bodies.Stored stored })
-        → NoneGoesOn (master_at w master) backup stored
         → IsSound (to_master w master (record { from = nodes.Backup backup; to = nodes.Master master; body = bodies.Stored stored })).world }
 {}

@@ -1,5 +1,5 @@
-use Rattle.rk_laws_stored.proofs.StoredTaken.{sound_settled}
+use Rattle.rk_laws_stored.proofs.StoredTaken.{sound_stored}
 use Rattle.rk_laws_stored.proofs.laws.stored_keeps_lanes_sound.Goals as goal
 
 pub returns : goal.returns
-returns c = record { settled = λ w number master backup stored sound there sent none. sound_settled w number master backup stored sound there sent none }
+returns c = record { taken = λ w number master backup stored sound there may sent. sound_stored w number master backup stored sound there sent may }
