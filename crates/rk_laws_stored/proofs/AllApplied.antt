@@ -1,13 +1,13 @@
 -- A lane stays sound when a living master applies the entries that every backup is known to hold, one after the other, and each call that
 -- ends with one of them has its record then.
-use Rattle.std.proofs.Common.{◌≡◌, ℕ, ◌+◌, ◌<◌, ◌≤◌, Bool, true, false, cond, ◌&&◌, List, [], ◌∷◌, ◌++◌, length, Option, Some, None, refl, sym, ap, ◌∙◌, subst, arith, take, drop}
-use Rattle.std.specs.Prelude.{◌==◌, fold, slice_get}
-use Rattle.std.specs.List.{All, list_any}
+use Rattle.std.proofs.Common.{◌≡◌, ℕ, ◌<◌, ◌≤◌, Bool, true, false, cond, List, [], ◌∷◌, ◌++◌, Option, Some, None, refl, sym, ap, ◌∙◌, subst, arith, take, drop}
+use Rattle.std.specs.Prelude.{slice_get}
+use Rattle.std.specs.List.{All}
 use Rattle.std.proofs.lemmas.Bool.{cond-false, cond-true}
 use Rattle.std.proofs.lemmas.List.{append_assoc}
 use Rattle.std.proofs.lemmas.List.Elements.{All-append, All-cons, All-nil, All-weaker}
 use Rattle.std.proofs.lemmas.List.Sums.{fold-append}
-use Rattle.rk_types.specs.NumberMap.{NumberMap, get}
+use Rattle.rk_types.specs.NumberMap.{get}
 use Rattle.rk_types.specs.declared.call.Call.{Call}
 use Rattle.rk_types.specs.declared.call.Ended.{Ended}
 use Rattle.rk_types.specs.declared.history.Placed.{Placed}
@@ -16,17 +16,17 @@ use Rattle.rk_entry.specs.declared.entry.Entry.{Entry}
 use Rattle.rk_log.specs.Log.{committed}
 use Rattle.rk_world.specs.Commits.{apply_entries, apply_entry, with_ended}
 use Rattle.rk_world.specs.Ends.{outcome_of, told_by}
-use Rattle.rk_world.specs.Journal.{has_record, is_of_mutation, next_record}
+use Rattle.rk_world.specs.Journal.{has_record, next_record}
 use Rattle.rk_world.specs.Ledger.{Ledger, asked_by, seen_of, with_all_served, with_mutation, with_record, with_served}
 use Rattle.rk_world.specs.Master.{Master}
 use Rattle.rk_world.specs.Worked.{Worked}
 use Rattle.rk_world.specs.declared.work.Served.{Served}
-use Rattle.rk_world.specs.World.{World, lives, log_in, master_at, with_master}
+use Rattle.rk_world.specs.World.{World, lives, master_at}
 use Rattle.rk_sound.specs.Changes.{MayApply}
 use Rattle.rk_sound.specs.View.{view}
 use Rattle.rk_sound.specs.Whole.{IsSound}
 use Rattle.rk_laws_parts.proofs.Masters.{master_same}
-use Rattle.rk_laws_apply.specs.Small.{MayApplyCall, entry_applied_in, worked_in}
+use Rattle.rk_laws_apply.specs.Small.{entry_applied_in, worked_in}
 use Rattle.rk_laws_apply.proofs.Applying.{Applying, applying, its_last, mutation}
 use Rattle.rk_laws_apply.proofs.EntryApplied.{sound_applied}
 use Rattle.rk_laws_stored.specs.Small.{with_work}

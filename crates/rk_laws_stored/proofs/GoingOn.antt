@@ -1,14 +1,13 @@
 -- A lane stays sound when what a living master waited for goes on at its tablets, one after the other: a tablet that closes freezes once
 -- nothing of it is staged, and a target whose side segments are stored appends its closing entry.
-use Rattle.std.proofs.Common.{◌≡◌, ◌≤◌, ◌<◌, ℕ, ◌+◌, Bool, true, false, cond, not, List, [], ◌∷◌, ◌++◌, length, Option, Some, None, refl, sym, ap, ◌∙◌, subst, drop, arith}
-use Rattle.std.specs.Prelude.{◌==◌, fold, max, unwrap_or}
-use Rattle.std.specs.List.{All, list_all, list_any, sum_by}
+use Rattle.std.proofs.Common.{◌≡◌, ◌≤◌, ◌<◌, ℕ, ◌+◌, Bool, true, false, cond, not, [], ◌∷◌, length, Option, Some, None, refl, sym, ap, ◌∙◌, subst, arith}
+use Rattle.std.specs.Prelude.{◌==◌, unwrap_or}
+use Rattle.std.specs.List.{All, list_any}
 use Rattle.std.proofs.lemmas.List.Sums.{sum_by-cons}
 use Rattle.std.proofs.lemmas.Bool.{cond-true, eq-eqb}
 use Rattle.std.proofs.lemmas.List.Elements.{All-contains, All-head, All-tail, All-weaker}
-use Rattle.rk_types.specs.NumberMap.{IsInOrder, NumberMap, get}
+use Rattle.rk_types.specs.NumberMap.{NumberMap, get}
 use Rattle.rk_types.specs.Range.{meets}
-use Rattle.rk_types.specs.declared.range.Range.{Range}
 use Rattle.rk_entry.specs.Spelling.{spelled}
 use Rattle.rk_entry.specs.declared.lists.TheConstants.{FIRST_SIDE_SEGMENT}
 use Rattle.rk_log.proofs.Cuts.{cut_push}
@@ -23,10 +22,8 @@ use Rattle.rk_world.specs.Ledger.{Ledger}
 use Rattle.rk_world.specs.Master.{Master, is_settled, staged, tablet_at, touches, with_tablet}
 use Rattle.rk_world.specs.Tablet.{Tablet, no_tablet, with_handover}
 use Rattle.rk_world.specs.Waiting.{all_going_on, closing_appended, closing_entry, freezing, going_on_in, is_sealed_stored, joined_entry, tablet_frozen}
-use Rattle.rk_world.specs.World.{World, lives, master_at, with_ledger, with_master}
-use Rattle.rk_sound.specs.Moves.{MayFreeze, MayJoin}
-use Rattle.rk_sound.specs.Small.{as_closed, as_frozen, closing_appended_in, tablet_frozen_in}
-use Rattle.rk_sound.specs.View.{view}
+use Rattle.rk_world.specs.World.{World, lives, master_at, with_master}
+use Rattle.rk_sound.specs.Small.{as_closed, as_frozen}
 use Rattle.rk_sound.specs.Whole.{IsSound}
 use Rattle.rk_laws_parts.proofs.ClosingAppended.{sound_closing}
 use Rattle.rk_laws_parts.proofs.Frozen.{sound_frozen}

@@ -7,3 +7,4 @@ pub mod Replies
 pub mod OrderedTablets
 pub mod GoingOn
 pub mod StoredTaken
+pub mod StoredDelivered

@@ -1,6 +1,6 @@
 -- A lane stays sound when a master takes a Stored: the length is told, what every backup holds by then is applied, the tablets
 -- that waited for that go on, and the clients of the calls that end with it are told.
-use Rattle.std.proofs.Common.{◌≡◌, ℕ, Bool, true, false, cond, not, List, [], ◌∷◌, ◌++◌, map, Option, Some, None, refl, sym, ap, ◌∙◌, subst, arith}
+use Rattle.std.proofs.Common.{◌≡◌, ℕ, Bool, true, false, cond, not, List, [], ◌++◌, map, Option, Some, None, refl, sym, ap, ◌∙◌, subst, arith}
 use Rattle.std.specs.List.{All}
 use Rattle.std.proofs.lemmas.List.Elements.{All-nil}
 use Rattle.rk_types.specs.NumberMap.{get}
@@ -10,7 +10,6 @@ use Rattle.rk_log.specs.declared.overreach.Overreach.{Overreach}
 use Rattle.rk_message.specs.declared.message.Body.TheVariants as bodies
 use Rattle.rk_message.specs.declared.message.Message.{Message}
 use Rattle.rk_message.specs.declared.replication.Stored.{Stored}
-use Rattle.rk_world.specs.declared.work.Mark.{Mark}
 use Rattle.rk_world.specs.declared.work.Served.{Served}
 use Rattle.rk_world.specs.Commits.{apply_entries, newly_held, stored_taken, told_length}
 use Rattle.rk_world.specs.Ledger.{Ledger, with_all_served, with_marks}
@@ -20,7 +19,6 @@ use Rattle.rk_world.specs.Step.{losing, to_master, worked_at}
 use Rattle.rk_world.specs.Waiting.{all_going_on}
 use Rattle.rk_world.specs.Worked.{Worked, changed}
 use Rattle.rk_world.specs.World.{World, has_crashed, lives, log_in, master_at, tablet_in, with_all_sent, with_master}
-use Rattle.rk_sound.specs.Changes.{MaySend, MayTell}
 use Rattle.rk_sound.specs.View.{view}
 use Rattle.rk_sound.specs.Whole.{IsSound, SoundView}
 use Rattle.rk_laws_parts.proofs.LengthTold.{sound_told}
@@ -32,7 +30,7 @@ use Rattle.rk_laws_stored.specs.Small.{MayGoOn, with_work}
 use Rattle.rk_laws_stored.proofs.AllApplied.{HasFirst, IsWorked, sound_all_applied}
 use Rattle.rk_laws_stored.proofs.GoingOn.{sound_going_on}
 use Rattle.rk_laws_stored.proofs.Replies.{may_tell_ends}
-use Rattle.rk_laws_stored.proofs.Work.{IsTold, all_told, reply_to}
+use Rattle.rk_laws_stored.proofs.Work.{all_told, reply_to}
 
 -- ---- a master has worked
 

@@ -9,9 +9,13 @@ ghost use Rattle.rk_types.specs.NumberMap.{get};
 ghost use Rattle.rk_types.specs.declared.node.Node.TheVariants as nodes;
 ghost use Rattle.rk_laws_stored.specs.Small.{MayGoOn, with_work};
 ghost use Rattle.rk_world.specs.Commits.{apply_entries};
+ghost use Rattle.rk_world.specs.Backup.{Called};
+ghost use Rattle.rk_world.specs.Formed.{IsWellFormed};
 ghost use Rattle.rk_world.specs.Ledger.{Ledger, with_all_served};
 ghost use Rattle.rk_world.specs.Master.{Master};
-ghost use Rattle.rk_world.specs.Step.{to_master};
+ghost use Rattle.rk_world.specs.Room.{HasRoom};
+ghost use Rattle.rk_world.specs.declared.event.Event.TheVariants as events;
+ghost use Rattle.rk_world.specs.Step.{happened, to_master};
 ghost use Rattle.rk_world.specs.Waiting.{all_going_on};
 ghost use Rattle.rk_world.specs.World.{World, lives, log_in, master_at};
 
@@ -33,10 +37,15 @@ pub fn tablets_that_go_on_keep_lanes_sound()
 {}
 
 /// A sound lane stays sound when a master takes a Stored that stands on the wire, from one of its backups: what every backup is known to
-/// hold by then is applied, what waited for that goes on, and the clients of the calls that end with it are told, with stamp and place.
+/// hold by then is applied, what waited for that goes on, and the clients of the calls that end with it are told, with stamp and place. A
+/// well formed lane with room has all that this needs.
 pub fn stored_keeps_lanes_sound()
     ensures taken { (w : World) (number master backup : ℕ) (stored : Stored)
         → IsSound w → IsBackup (log_in w master) backup → MayGoOn (log_in w master) (master_at w master).tablets
         → get w.wire.messages number ≡ Some (record { from = nodes.Backup backup; to = nodes.Master master; body = bodies.Stored stored })
         → IsSound (to_master w master (record { from = nodes.Backup backup; to = nodes.Master master; body = bodies.Stored stored })).world }
+    ensures delivered { (w : World) (number master backup : ℕ) (stored : Stored) (called : Called)
+        → IsSound w → IsWellFormed w → HasRoom w
+        → get w.wire.messages number ≡ Some (record { from = nodes.Backup backup; to = nodes.Master master; body = bodies.Stored stored })
+        → IsSound (happened w (events.Deliver number) called).world }
 {}

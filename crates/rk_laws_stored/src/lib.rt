@@ -5,6 +5,9 @@
 //! laws are the contracts of functions that do nothing.
 #![tactic(auto)]
 
-pub use laws::{entries_in_a_row_keep_lanes_sound, stored_keeps_lanes_sound, tablets_that_go_on_keep_lanes_sound};
+pub use laws::{
+    entries_in_a_row_keep_lanes_sound, stored_keeps_lanes_sound,
+    tablets_that_go_on_keep_lanes_sound,
+};
 
 mod laws;
