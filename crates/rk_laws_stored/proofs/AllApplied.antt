@@ -76,14 +76,8 @@ all_still (next ∷ later) ledger one has = all_still later (with_served 0 ledge
 -- ---- one entry
 
 module _ (w : World) (master : ℕ) (now : Master) (ledger : Ledger) where
-  abbrev at : World
-  at = with_work w master now ledger
-
   here : master_at (with_work w master now ledger) master ≡ now
   here = master_same w master now master refl
-
-  abbrev ledger_after : Worked → Ledger
-  ledger_after worked = with_all_served 0 ledger worked.served
 
   step_is : (entry : Entry) → entry_applied_in (with_work w master now ledger) master entry ≡ with_work w master (apply_entry now entry).master (with_all_served 0 ledger (apply_entry now entry).served)
   step_is entry =

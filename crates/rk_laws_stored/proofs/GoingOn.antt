@@ -43,14 +43,16 @@ record HasGoneOn (w : World) (master : ℕ) (ledger : Ledger) (was now : Master)
   few : length (cut now.log.entries) ≤ length (cut was.log.entries) + waited
 
 module _ (w : World) (master : ℕ) (alive : lives w master ≡ true) (ledger : Ledger) (m : Master) (number : ℕ) (tablet : Tablet) (kept : tablet_at m number ≡ tablet) (sound : IsSound (with_work w master m ledger)) where
-  abbrev here : World
-  here = with_work w master m ledger
-
   m_here : m ≡ master_at (with_work w master m ledger) master
   m_here = sym (master_same w master m master refl)
 
-  -- the master that it becomes is put in the place of the one before
-  put_again : (change : Master → Tablet → Master) → with_master (with_work w master m ledger) master (change (master_at (with_work w master m ledger) master) (tablet_at (master_at (with_work w master m ledger) master) number)) ≡ with_work w master (change m tablet) ledger
+  -- the master with its tablet changed, as it stands in the lane
+  abbrev changed_there : (Master → Tablet → Master) → Master
+  changed_there change =
+      change (master_at (with_work w master m ledger) master) (tablet_at (master_at (with_work w master m ledger) master) number)
+
+  -- it is put in the place of the one before
+  put_again : (change : Master → Tablet → Master) → with_master (with_work w master m ledger) master (changed_there change) ≡ with_work w master (change m tablet) ledger
   put_again change =
       ap (λ (n : Master). with_master (with_work w master m ledger) master (change n (tablet_at n number))) (sym m_here)
       ∙ ap (λ (t : Tablet). with_master (with_work w master m ledger) master (change m t)) kept

@@ -4,6 +4,7 @@ use Rattle.std.specs.Prelude.{slice_get}
 use Rattle.std.proofs.lemmas.List.{length-take, take-append-drop}
 use Rattle.std.proofs.lemmas.Option.{slice_get_within}
 use Rattle.std.proofs.Math.Numerals.{add-one}
+use Rattle.rk_model.proofs.Places.{slice_get_front}
 
 module _ {X : Type 0} where
   first_of : (list : List X) (place : ℕ) (x : X) (more : List X) → drop place list ≡ x ∷ more → slice_get list place ≡ Some x
@@ -18,16 +19,11 @@ module _ {X : Type 0} where
   behind_first (first ∷ list) zero x more is = cc is
   behind_first (first ∷ list) (suc place) x more is = behind_first list place x more is
 
-  stands_still : (front more : List X) (place : ℕ) (x : X) → slice_get front place ≡ Some x → slice_get (front ++ more) place ≡ Some x
-  stands_still [] more place x at = absurd (cc at)
-  stands_still (first ∷ front) more zero x at = at
-  stands_still (first ∷ front) more (suc place) x at = stands_still front more place x at
-
   module _ (list : List X) (count place : ℕ) (x : X) (more : List X) (next : drop place (take count list) ≡ x ∷ more) where
     pub next_stands : slice_get list place ≡ Some x
     next_stands =
         subst (λ (l : List X). slice_get l place ≡ Some x) (take-append-drop count list)
-        (stands_still (take count list) (drop count list) place x (first_of (take count list) place x more next))
+        (slice_get_front (take count list) (drop count list) place x (first_of (take count list) place x more next))
 
     pub next_within : place < count
     next_within =

@@ -28,7 +28,7 @@ use Rattle.rk_world.specs.Step.{delivered, happened}
 use Rattle.rk_world.specs.Tablet.{Tablet}
 use Rattle.rk_world.specs.World.{World, log_in, master_at}
 use Rattle.rk_sound.specs.Whole.{IsSound}
-use Rattle.rk_laws_stored.specs.Small.{MayGoOn}
+use Rattle.rk_laws_stored.specs.Small.{MayGoOn, stored_message}
 use Rattle.rk_laws_stored.proofs.OrderedTablets.{each_found}
 use Rattle.rk_laws_stored.proofs.StoredTaken.{sound_stored}
 
@@ -88,7 +88,7 @@ module _ (w : World) (formed : IsWellFormed w) (room : HasRoom w) where
           (omega (arith, room.bytes, bytes_among w.masters master m is, sum-map (λ (entry : ℕ × Master). log_bytes entry.1) w.masters))
 
   pub sound_delivered : (number master backup : ℕ) (stored : Stored) (called : Called) → IsSound w
-      → get w.wire.messages number ≡ Some (record { from = nodes.Backup backup; to = nodes.Master master; body = bodies.Stored stored })
+      → get w.wire.messages number ≡ Some (stored_message backup master stored)
       → IsSound (happened w (events.Deliver number) called).world
   sound_delivered number master backup stored called sound sent =
       let message = formed.wire.each number _ sent in

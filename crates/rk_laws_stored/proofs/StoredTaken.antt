@@ -26,7 +26,7 @@ use Rattle.rk_laws_parts.proofs.Put.{put2_same, put_same}
 use Rattle.rk_laws_parts.proofs.Shares.{append_nil}
 use Rattle.rk_laws_parts.proofs.Views.{view_master}
 use Rattle.rk_laws_events.proofs.AllSent.{sound_all_sent}
-use Rattle.rk_laws_stored.specs.Small.{MayGoOn, with_work}
+use Rattle.rk_laws_stored.specs.Small.{MayGoOn, stored_message, with_work}
 use Rattle.rk_laws_stored.proofs.AllApplied.{HasFirst, IsWorked, sound_all_applied}
 use Rattle.rk_laws_stored.proofs.GoingOn.{sound_going_on}
 use Rattle.rk_laws_stored.proofs.Replies.{may_tell_ends}
@@ -72,15 +72,22 @@ sound_as_it_was w master sound =
 
 -- ---- a Stored
 
-module _ (w : World) (number master backup : ℕ) (stored : Stored) (sound : IsSound w) (there : IsBackup (log_in w master) backup) (sent : get w.wire.messages number ≡ Some (record { from = nodes.Backup backup; to = nodes.Master master; body = bodies.Stored stored })) (may : MayGoOn (log_in w master) (master_at w master).tablets) where
+-- a master that was told so much by a backup, and what every backup holds by then is applied
+abbrev told_so : Master → ℕ → Stored → Master
+told_so master backup stored = with_known master backup stored.segment stored.length
+
+abbrev held_applied : Master → Worked
+held_applied master = apply_entries master (newly_held master)
+
+module _ (w : World) (number master backup : ℕ) (stored : Stored) (sound : IsSound w) (there : IsBackup (log_in w master) backup) (sent : get w.wire.messages number ≡ Some (stored_message backup master stored)) (may : MayGoOn (log_in w master) (master_at w master).tablets) where
   abbrev known : Master
-  known = with_known (master_at w master) backup stored.segment stored.length
+  known = told_so (master_at w master) backup stored
 
   abbrev applied : Worked
-  applied = apply_entries (with_known (master_at w master) backup stored.segment stored.length) (newly_held (with_known (master_at w master) backup stored.segment stored.length))
+  applied = held_applied (told_so (master_at w master) backup stored)
 
   -- the length may be told, and then the entries be applied
-  pub all_applied : lives w master ≡ true → IsWorked w master w.ledger (apply_entries (with_known (master_at w master) backup stored.segment stored.length) (newly_held (with_known (master_at w master) backup stored.segment stored.length)))
+  pub all_applied : lives w master ≡ true → IsWorked w master w.ledger (held_applied (told_so (master_at w master) backup stored))
   all_applied alive =
       sound_all_applied w master alive (newly_held known) known w.ledger (committed known.log)
       (sound_told w master backup stored.segment stored.length sound
@@ -111,7 +118,7 @@ module _ (w : World) (number master backup : ℕ) (stored : Stored) (sound : IsS
       sound_worked w master 0 (changed (master_at w master)) refl refl
       (record { sound = sound_as_it_was w master sound; have = All-nil (HasFirst w.ledger.journal) })
 
-  pub sound_stored : IsSound (to_master w master (record { from = nodes.Backup backup; to = nodes.Master master; body = bodies.Stored stored })).world
+  pub sound_stored : IsSound (to_master w master (stored_message backup master stored)).world
   sound_stored = by (has_crashed w master) refl
     where
       by_reach : lives w master ≡ true → (beyond : Option Overreach) → IsSound (worked_at w master 0 (stored_taken (master_at w master) backup stored beyond)).world

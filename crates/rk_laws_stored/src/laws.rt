@@ -2,12 +2,10 @@
 ghost use Rattle.std.specs.Prelude.{◌≡◌, ◌≤◌, ℕ, true, List, Some, take, drop};
 ghost use Rattle.rk_entry.specs.declared.entry.Entry.{Entry};
 ghost use Rattle.rk_log.specs.Log.{IsBackup, committed};
-ghost use Rattle.rk_message.specs.declared.message.Body.TheVariants as bodies;
 ghost use Rattle.rk_message.specs.declared.replication.Stored.{Stored};
 ghost use Rattle.rk_sound.specs.Whole.{IsSound};
 ghost use Rattle.rk_types.specs.NumberMap.{get};
-ghost use Rattle.rk_types.specs.declared.node.Node.TheVariants as nodes;
-ghost use Rattle.rk_laws_stored.specs.Small.{MayGoOn, with_work};
+ghost use Rattle.rk_laws_stored.specs.Small.{MayGoOn, stored_message, with_work};
 ghost use Rattle.rk_world.specs.Commits.{apply_entries};
 ghost use Rattle.rk_world.specs.Backup.{Called};
 ghost use Rattle.rk_world.specs.Formed.{IsWellFormed};
@@ -42,10 +40,10 @@ pub fn tablets_that_go_on_keep_lanes_sound()
 pub fn stored_keeps_lanes_sound()
     ensures taken { (w : World) (number master backup : ℕ) (stored : Stored)
         → IsSound w → IsBackup (log_in w master) backup → MayGoOn (log_in w master) (master_at w master).tablets
-        → get w.wire.messages number ≡ Some (record { from = nodes.Backup backup; to = nodes.Master master; body = bodies.Stored stored })
-        → IsSound (to_master w master (record { from = nodes.Backup backup; to = nodes.Master master; body = bodies.Stored stored })).world }
+        → get w.wire.messages number ≡ Some (stored_message backup master stored)
+        → IsSound (to_master w master (stored_message backup master stored)).world }
     ensures delivered { (w : World) (number master backup : ℕ) (stored : Stored) (called : Called)
         → IsSound w → IsWellFormed w → HasRoom w
-        → get w.wire.messages number ≡ Some (record { from = nodes.Backup backup; to = nodes.Master master; body = bodies.Stored stored })
+        → get w.wire.messages number ≡ Some (stored_message backup master stored)
         → IsSound (happened w (events.Deliver number) called).world }
 {}
