@@ -1,0 +1,28 @@
+// The headline law of what masters pull of each other. The function does nothing: its contract is the law.
+ghost use Rattle.std.specs.Prelude.{◌≡◌, ℕ, false, Some};
+ghost use Rattle.rk_types.specs.NumberMap.{get};
+ghost use Rattle.rk_types.specs.declared.node.Node.TheVariants as nodes;
+ghost use Rattle.rk_message.specs.declared.message.Body.TheVariants as bodies;
+ghost use Rattle.rk_message.specs.declared.pulling.Got.{Got};
+ghost use Rattle.rk_message.specs.declared.pulling.Pull.{Pull};
+ghost use Rattle.rk_message.specs.declared.pulling.Want.{Want};
+ghost use Rattle.rk_world.specs.Step.{to_master};
+ghost use Rattle.rk_world.specs.World.{World, has_crashed};
+ghost use Rattle.rk_sound.specs.Whole.{IsSound};
+
+/// A sound lane stays sound when a message that stands on the wire between two masters reaches the second one, which lives: a Pull or a
+/// Want, which a frozen source answers, or a Got, whose items a target replays.
+pub fn pulls_keep_lanes_sound()
+    ensures pull { (w : World) (number asker source : ℕ) (pull : Pull)
+        → IsSound w → has_crashed w source ≡ false
+        → get w.wire.messages number ≡ Some (record { from = nodes.Master asker; to = nodes.Master source; body = bodies.Pull pull })
+        → IsSound (to_master w source (record { from = nodes.Master asker; to = nodes.Master source; body = bodies.Pull pull })).world }
+    ensures want { (w : World) (number asker source : ℕ) (want : Want)
+        → IsSound w → has_crashed w source ≡ false
+        → get w.wire.messages number ≡ Some (record { from = nodes.Master asker; to = nodes.Master source; body = bodies.Want want })
+        → IsSound (to_master w source (record { from = nodes.Master asker; to = nodes.Master source; body = bodies.Want want })).world }
+    ensures got { (w : World) (number source target : ℕ) (message : Got)
+        → IsSound w → has_crashed w target ≡ false
+        → get w.wire.messages number ≡ Some (record { from = nodes.Master source; to = nodes.Master target; body = bodies.Got message })
+        → IsSound (to_master w target (record { from = nodes.Master source; to = nodes.Master target; body = bodies.Got message })).world }
+{}
