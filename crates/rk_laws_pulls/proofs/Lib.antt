@@ -4,3 +4,5 @@ pub mod Asked
 pub mod Targets
 pub mod Replaying
 pub mod Answered
+pub mod Passing
+pub mod Batches
