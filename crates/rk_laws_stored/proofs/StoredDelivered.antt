@@ -9,13 +9,11 @@ use Rattle.std.proofs.lemmas.List.Elements.{All-head, All-nil, All-tail, All-wea
 use Rattle.std.proofs.lemmas.List.Sums.{sum-map, sum_by-cons}
 use Rattle.rk_types.specs.NumberMap.{NumberMap, get}
 use Rattle.rk_types.specs.Range.{meets}
-use Rattle.rk_types.specs.declared.node.Node.TheVariants as nodes
 use Rattle.rk_types.specs.declared.range.Range.{Range}
 use Rattle.rk_entry.specs.Ends.{IsLawfulRange}
 use Rattle.rk_log.proofs.Cuts.{cut_filled, length-le-bytes}
 use Rattle.rk_log.specs.Cut.{cut}
 use Rattle.rk_log.specs.Log.{IsBackup, segment_bytes}
-use Rattle.rk_message.specs.declared.message.Body.TheVariants as bodies
 use Rattle.rk_message.specs.declared.message.Message.{Message}
 use Rattle.rk_message.specs.declared.replication.Stored.{Stored}
 use Rattle.rk_world.specs.declared.event.Event.TheVariants as events

@@ -4,10 +4,8 @@ use Rattle.std.proofs.Common.{◌≡◌, ℕ, Bool, true, false, cond, not, List
 use Rattle.std.specs.List.{All}
 use Rattle.std.proofs.lemmas.List.Elements.{All-nil}
 use Rattle.rk_types.specs.NumberMap.{get}
-use Rattle.rk_types.specs.declared.node.Node.TheVariants as nodes
 use Rattle.rk_log.specs.Log.{IsBackup, committed, overreach}
 use Rattle.rk_log.specs.declared.overreach.Overreach.{Overreach}
-use Rattle.rk_message.specs.declared.message.Body.TheVariants as bodies
 use Rattle.rk_message.specs.declared.message.Message.{Message}
 use Rattle.rk_message.specs.declared.replication.Stored.{Stored}
 use Rattle.rk_world.specs.declared.work.Served.{Served}
