@@ -1,6 +1,6 @@
 -- A sound lane stays sound when a Got reaches a target that lives: it replays the items, each of which is its source's, and the hashes are
 -- resolved.
-use Rattle.std.proofs.Common.{◌≡◌, ◌<◌, ℕ, Bool, true, false, cond, List, [], ◌∷◌, Some, refl, sym, ap, subst, ◌∙◌, arith}
+use Rattle.std.proofs.Common.{◌≡◌, ℕ, Bool, true, false, cond, List, [], ◌∷◌, Some, refl, sym, ap, subst, ◌∙◌, arith}
 use Rattle.std.specs.Prelude.{◌&&◌, not}
 use Rattle.std.specs.List.{Contains, flat_map}
 use Rattle.std.proofs.lemmas.Bool.{and_parts, eqb-true}
@@ -8,7 +8,6 @@ use Rattle.std.proofs.lemmas.List.Elements.{All-contains}
 use Rattle.rk_types.specs.NumberMap.{get}
 use Rattle.rk_types.specs.declared.held.Held.{Held}
 use Rattle.rk_types.specs.declared.lineage.Member.{Member}
-use Rattle.rk_types.specs.declared.node.Node.{Node}
 use Rattle.rk_types.specs.declared.node.Node.TheVariants as nodes
 use Rattle.rk_table.specs.Items.{at_hash}
 use Rattle.rk_transfer.specs.declared.role.Role.{Role}
@@ -17,7 +16,6 @@ use Rattle.rk_tablet_map.specs.Phase.{lineage_of}
 use Rattle.rk_tablet_map.specs.declared.row.Row.{Row}
 use Rattle.rk_priority.specs.Hashes.{is_batch}
 use Rattle.rk_message.specs.declared.message.Body.TheVariants as bodies
-use Rattle.rk_message.specs.declared.message.Message.{Message}
 use Rattle.rk_message.specs.declared.pulling.Got.{Got}
 use Rattle.rk_world.specs.Ends.{items_of}
 use Rattle.rk_world.specs.Master.{Master}
@@ -29,14 +27,14 @@ use Rattle.rk_world.specs.Tablet.{Tablet}
 use Rattle.rk_world.specs.Worked.{changed}
 use Rattle.rk_world.specs.World.{World, has_crashed, master_at, tablet_in, with_master}
 use Rattle.rk_sound.specs.View.{View, view}
-use Rattle.rk_sound.specs.Messages.{GotAgrees, IsFromSource, IsOfTarget, SaysOf}
+use Rattle.rk_sound.specs.Messages.{GotAgrees, SaysOf}
 use Rattle.rk_sound.specs.Moves.{IsPulling, source_items}
 use Rattle.rk_sound.specs.Whole.{IsSound}
 use Rattle.rk_laws_parts.proofs.HashesResolved.{sound_resolved}
 use Rattle.rk_laws_turn.proofs.Sending.{sends_none, sound_sends}
 use Rattle.rk_laws_pulls.proofs.Asked.{reaches, stays}
-use Rattle.rk_laws_pulls.proofs.Replaying.{IsReplayed, found_in, put_again, replayed_all, same_source, still_pulls}
-use Rattle.rk_laws_pulls.proofs.Targets.{IsTargetOf, found_there, of_some_hash, target_of}
+use Rattle.rk_laws_pulls.proofs.Replaying.{found_in, put_again, replayed_all, same_source, still_pulls}
+use Rattle.rk_laws_pulls.proofs.Targets.{found_there, of_some_hash, target_of}
 
 -- a role that the test says to pull does
 pub receiving_is : (role : Role) → is_receiving role ≡ true → role ≡ roles.Receiving

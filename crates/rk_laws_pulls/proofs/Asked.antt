@@ -2,7 +2,7 @@
 -- does nothing.
 use Rattle.std.proofs.Common.{◌≡◌, ℕ, Bool, true, false, cond, Some, refl, sym, ap, subst}
 use Rattle.std.specs.Prelude.{not}
-use Rattle.std.proofs.lemmas.Bool.{and_parts, eqb-true}
+use Rattle.std.proofs.lemmas.Bool.{and_parts}
 use Rattle.rk_types.specs.NumberMap.{get}
 use Rattle.rk_types.specs.declared.node.Node.TheVariants as nodes
 use Rattle.rk_transfer.specs.declared.role.Role.{Role}
@@ -21,7 +21,7 @@ use Rattle.rk_world.specs.World.{World, has_crashed, master_at, tablet_in, with_
 use Rattle.rk_sound.specs.View.{View, view}
 use Rattle.rk_sound.specs.Changes.{MaySend}
 use Rattle.rk_sound.specs.Whole.{IsSound}
-use Rattle.rk_laws_turn.proofs.OnlyPulls.{IsSoundPulling, may_send_pulling, sound_unchanged}
+use Rattle.rk_laws_turn.proofs.OnlyPulls.{may_send_pulling, sound_unchanged}
 use Rattle.rk_laws_turn.proofs.Sending.{IsSentAsIs, sends_none, sends_one, sound_sends}
 use Rattle.rk_laws_pulls.proofs.Sources.{asked_by_pull, asked_by_want, batch_from, items_at, may_give_batch, may_give_items}
 

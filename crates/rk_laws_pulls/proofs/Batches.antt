@@ -1,6 +1,6 @@
 -- A sound lane stays sound when a Pulled reaches a target that lives: it replays the batch of its token and passes on, and behind the last
 -- batch it seals what it copied.
-use Rattle.std.proofs.Common.{◌≡◌, ◌≤◌, ◌<◌, ◌+◌, ◌==◌, ℕ, Bool, true, false, cond, List, [], ◌∷◌, All, length, fold, Some, refl, sym, ap, subst, ◌∙◌, ⊎_elim, inl, arith}
+use Rattle.std.proofs.Common.{◌≡◌, ◌≤◌, ◌<◌, ◌+◌, ℕ, Bool, true, false, cond, List, [], ◌∷◌, All, length, Some, refl, sym, ap, subst, ◌∙◌, ⊎_elim, inl, arith}
 use Rattle.std.specs.Prelude.{◌&&◌, ◌%◌, ◌^◌, not}
 use Rattle.std.specs.List.{Contains}
 use Rattle.std.proofs.lemmas.Bool.{and_parts, cases_eq, eqb-true}
@@ -16,14 +16,13 @@ use Rattle.rk_types.specs.declared.range.Range.{Range}
 use Rattle.rk_entry.specs.declared.lists.TheConstants.{FIRST_SIDE_SEGMENT}
 use Rattle.rk_log.specs.Log.{Log}
 use Rattle.rk_table.specs.Items.{found, is_newer}
-use Rattle.rk_table.specs.Scans.{batch_at, end, next_token}
+use Rattle.rk_table.specs.Scans.{batch_at, end}
 use Rattle.rk_transfer.specs.declared.handover.Handover.{Handover}
 use Rattle.rk_transfer.specs.declared.role.Role.TheVariants as roles
 use Rattle.rk_tablet_map.specs.Phase.{lineage_of}
 use Rattle.rk_tablet_map.specs.declared.row.Row.{Row}
 use Rattle.rk_pull.specs.declared.batches.TheConstants.{BATCH_BYTES}
 use Rattle.rk_message.specs.declared.message.Body.TheVariants as bodies
-use Rattle.rk_message.specs.declared.message.Message.{Message}
 use Rattle.rk_message.specs.declared.pulling.Pulled.{Pulled}
 use Rattle.rk_world.specs.Ends.{items_of}
 use Rattle.rk_world.specs.Formed.{IsFormedRow, IsWellFormed}
@@ -46,8 +45,8 @@ use Rattle.rk_sound.specs.Whole.{IsSound}
 use Rattle.rk_laws_parts.proofs.Masters.{master_same, tablet_apart, tablet_here}
 use Rattle.rk_laws_parts.proofs.Rebuilders.{last_member}
 use Rattle.rk_laws_lineage.proofs.TargetMaterial.{meets_itself}
-use Rattle.rk_laws_seal.specs.Moves.{AreSealedThere, MaySealThere}
-use Rattle.rk_laws_pulls.specs.Moves.{MayTakeBatch, batch_replayed}
+use Rattle.rk_laws_seal.specs.Moves.{MaySealThere}
+use Rattle.rk_laws_pulls.specs.Moves.{MaySealBehind, batch_replayed}
 use Rattle.rk_laws_pulls.proofs.Answered.{items_again, receiving_is, sound_changed}
 use Rattle.rk_laws_pulls.proofs.Asked.{reaches, stays}
 use Rattle.rk_laws_pulls.proofs.Passing.{sound_batch, sound_pulled_all}
@@ -59,6 +58,10 @@ token_is : (a b : Token) → is_token a b ≡ true → a ≡ b
 token_is a b same =
     let both = and_parts _ _ same in
     (λ i. record { bucket = eqb-true a.bucket b.bucket both.0 i; skip = eqb-true a.skip b.skip both.1 i })
+
+-- there are four workers
+some_worker : (batches : ℕ) → batches % 4 < 4
+some_worker batches = mod_below batches 4 (omega arith)
 
 -- ---- what stays of a master that takes a batch
 
@@ -75,7 +78,7 @@ keeps_then a b c first later = record {
   sealed = λ r. later.sealed r ∙ first.sealed r;
 }
 
--- so is one where other things are pulled of a tablet
+-- so is one where a tablet pulls so, with the sealed segments that it had
 keeps_with : (m : Master) (number : ℕ) (pulling : Pulling) → pulling.sealed ≡ (tablet_at m number).pulling.sealed
     → KeepsTablets m (with_tablet m number (with_pulling (tablet_at m number) pulling))
 keeps_with m number pulling same = record {
@@ -121,7 +124,7 @@ keeps_all number worker m (item ∷ items) =
 -- ---- the message
 
 module _ (w : World) (number sender master : ℕ) (message : Pulled) (sound : IsSound w) (formed : IsWellFormed w) (lives : has_crashed w master ≡ false)
-    (there : get w.wire.messages number ≡ Some (record { from = nodes.Master sender; to = nodes.Master master; body = bodies.Pulled message })) (may : MayTakeBatch w master message) where
+    (there : get w.wire.messages number ≡ Some (record { from = nodes.Master sender; to = nodes.Master master; body = bodies.Pulled message })) (may : message.next ≡ end → MaySealBehind w master message) where
   abbrev v : View
   v = view w
 
@@ -169,7 +172,7 @@ module _ (w : World) (number sender master : ℕ) (message : Pulled) (sound : Is
         token_is message.token kept.pulling.token at_token ∙ (λ i. (v.pullings (sym its.here i) (sym its.number_is i)).token) in
         subst (λ (n : ℕ). IsSound (with_master w master (token_passed (replay own n worker (items_of message.entries)) n message.next))) its.number_is
         (subst (λ (q : ℕ). IsSound (with_master w q (token_passed (replay (master_at w q) its.row.tablet worker (items_of message.entries)) its.row.tablet message.next))) its.here
-        (sound_batch w sound its.row its.source its.target its.pulls worker (mod_below kept.pulling.batches 4 (omega arith)) message.token message.next
+        (sound_batch w sound its.row its.source its.target its.pulls worker (some_worker kept.pulling.batches) message.token message.next
         (items_of message.entries) token (ap items_of said.0.items_are ∙ items_again batch) said.1))
 
     -- the range of the tablet is that of its row, so it is not empty
@@ -218,21 +221,21 @@ module _ (w : World) (number sender master : ℕ) (message : Pulled) (sound : Is
             (sym (ap (λ (p : Pulling). p.sides) pulling_is))
             (subst
             (λ (log : Log). FIRST_SIDE_SEGMENT + (length log.sides + length (sealed_sides (tablet_at replayed tablet).pulling.sides)) ≤ 2 ^ 32) (sym log_is)
-            may.sides);
+            (may last).sides);
         receiving = ap (λ (h : Handover). h.role) handover_is ∙ role_is;
         pulled = ap (λ (p : Pulling). p.token) pulling_is ∙ last;
       };
       there = λ r.
           subst (λ (log : Log). All (λ n. n < FIRST_SIDE_SEGMENT + length log.sides) (tablet_in after master r).pulling.sealed) (sym log_is)
           (subst (All (λ n. n < FIRST_SIDE_SEGMENT + length (log_in w master).sides))
-          (sym (ap (λ (m : Master). (tablet_at m r).pulling.sealed) own_after ∙ keeps.sealed r)) (may.there r));
+          (sym (ap (λ (m : Master). (tablet_at m r).pulling.sealed) own_after ∙ keeps.sealed r)) ((may last).there r));
     }
 
     -- and behind the last batch it is sound with what is sealed
     sound_last : message.next ≡ end → IsSound (with_master w master (pulled_all passed tablet))
     sound_last last =
         subst IsSound (put_again w master passed (λ m. pulled_all m tablet))
-        (sound_pulled_all after sound_taken master tablet (may_seal last) (subst HasSegmentLeft (sym log_is) may.room)
+        (sound_pulled_all after sound_taken master tablet (may_seal last) (subst HasSegmentLeft (sym log_is) (may last).room)
         (subst (λ (range : Range). meets range range ≡ true) (sym (ap (λ (h : Handover). h.range) handover_is)) meets_own))
 
     sound_batch_taken : IsSound (with_master w master (batch_taken own tablet message))

@@ -1,6 +1,6 @@
 -- What a target makes of a batch of its source: it replays the items and passes on to the next token; behind the last batch it seals what it
 -- copied, and where it copied nothing it appends its closing entry at once.
-use Rattle.std.proofs.Common.{◌≡◌, ◌<◌, ◌+◌, ◌++◌, ℕ, true, List, [], ◌∷◌, All, length, fold, Option, None, Some, refl, sym, ap, subst, ◌∙◌, ⊎_elim}
+use Rattle.std.proofs.Common.{◌≡◌, ◌<◌, ◌++◌, ℕ, true, List, [], ◌∷◌, All, length, fold, Option, None, Some, refl, sym, ap, subst, ◌∙◌, ⊎_elim}
 use Rattle.std.specs.Prelude.{◌==◌}
 use Rattle.std.specs.List.{Contains}
 use Rattle.std.proofs.lemmas.Bool.{cond-true, eq-eqb}
@@ -12,7 +12,7 @@ use Rattle.rk_types.specs.declared.held.Token.{Token}
 use Rattle.rk_types.specs.declared.lineage.Member.{Member}
 use Rattle.rk_types.specs.declared.range.Range.{Range}
 use Rattle.rk_entry.specs.declared.entry.Entry.{Entry}
-use Rattle.rk_log.specs.Log.{Log, is_side_stored, with_entry}
+use Rattle.rk_log.specs.Log.{is_side_stored, with_entry}
 use Rattle.rk_table.specs.Scans.{batch_at, next_token, passed}
 use Rattle.rk_table.proofs.Tokens.{law_passed}
 use Rattle.rk_transfer.specs.Handover.{in_role, joined, role_joined}
@@ -24,15 +24,14 @@ use Rattle.rk_pull.specs.declared.batches.TheConstants.{BATCH_BYTES}
 use Rattle.rk_world.specs.Master.{Master, tablet_at, with_side_segment, with_tablet}
 use Rattle.rk_world.specs.Pulls.{joining_at, joining_by, next_sides, pulled_all, replay, sealing, token_passed, with_pulling}
 use Rattle.rk_world.specs.SideLogs.{sealed_sides}
-use Rattle.rk_world.specs.Tablet.{Pulling, Tablet, with_handover}
+use Rattle.rk_world.specs.Tablet.{Tablet, with_handover}
 use Rattle.rk_world.specs.Waiting.{closing_appended, closing_entry, joined_entry}
 use Rattle.rk_world.specs.World.{World, log_in, master_at, tablet_in, with_master}
 use Rattle.rk_world.specs.Written.{member_truth}
 use Rattle.rk_sound.specs.View.{View, view}
 use Rattle.rk_sound.specs.Changes.{HasSegmentLeft}
 use Rattle.rk_sound.specs.Moves.{IsPulling, source_items}
-use Rattle.rk_sound.specs.Receives.{IsFound}
-use Rattle.rk_sound.specs.Small.{as_closed, closing_appended_in}
+use Rattle.rk_sound.specs.Small.{as_closed}
 use Rattle.rk_sound.specs.Whole.{IsSound}
 use Rattle.rk_laws_parts.proofs.ClosingAppended.{sound_closing}
 use Rattle.rk_laws_parts.proofs.Masters.{master_same, tablet_here}
@@ -40,7 +39,7 @@ use Rattle.rk_laws_parts.proofs.Put.{put_here}
 use Rattle.rk_laws_parts.proofs.TokenPassed.{sound_passed}
 use Rattle.rk_laws_turn.proofs.Pairs.{insert_twice}
 use Rattle.rk_laws_seal.specs.Moves.{MaySealThere}
-use Rattle.rk_laws_seal.specs.Small.{as_joining, as_sealed, sealed, side_lists_sealed_in, with_sides}
+use Rattle.rk_laws_seal.specs.Small.{as_joining, as_sealed, side_lists_sealed_in, with_sides}
 use Rattle.rk_laws_seal.proofs.Sealed.{sealed_is, sound_sealed}
 use Rattle.rk_laws_pulls.proofs.Replaying.{found_in, put_again, replayed_all, same_source, still_pulls}
 use Rattle.rk_laws_pulls.proofs.Scans.{scan_in_order}

@@ -1,8 +1,8 @@
 -- What a target leaves that replays items of its source one after the other: the lane stays sound, and each of them is found in its records.
-use Rattle.std.proofs.Common.{◌≡◌, ◌≤◌, ◌<◌, ℕ, Bool, true, false, cond, List, [], ◌∷◌, Option, None, Some, refl, sym, ap, subst, ◌∙◌, ⊎_elim, arith}
-use Rattle.std.specs.Prelude.{fold, nat_lt}
+use Rattle.std.proofs.Common.{◌≡◌, ◌<◌, ℕ, Bool, true, false, cond, List, [], ◌∷◌, Option, None, Some, refl, sym, ap, subst, ◌∙◌, ⊎_elim, arith}
+use Rattle.std.specs.Prelude.{nat_lt}
 use Rattle.std.specs.List.{Contains}
-use Rattle.std.proofs.lemmas.Bool.{cases_Bool, cond-true, ltb-false}
+use Rattle.std.proofs.lemmas.Bool.{cases_Bool, ltb-false}
 use Rattle.rk_types.specs.NumberMap.{NumberMap}
 use Rattle.rk_types.specs.declared.held.Held.{Held}
 use Rattle.rk_types.specs.declared.lineage.Member.{Member}
@@ -18,7 +18,7 @@ use Rattle.rk_world.specs.World.{World, master_at, with_master}
 use Rattle.rk_sound.specs.View.{View, view}
 use Rattle.rk_sound.specs.Moves.{IsPulling, source_items}
 use Rattle.rk_sound.specs.Receives.{IsFound}
-use Rattle.rk_sound.specs.Small.{item_replayed_in, put, put2}
+use Rattle.rk_sound.specs.Small.{put, put2}
 use Rattle.rk_sound.specs.Whole.{IsSound}
 use Rattle.rk_laws_parts.proofs.Masters.{master_same}
 use Rattle.rk_laws_parts.proofs.Records.{found_still, newer_stands}

@@ -1,5 +1,5 @@
 -- What a frozen source may answer to a target that asks for a batch, or for items of some hashes: what it has applied is all that counts.
-use Rattle.std.proofs.Common.{◌≡◌, ◌==◌, ◌++◌, ℕ, Bool, true, false, cond, List, [], ◌∷◌, All, Option, Some, refl, sym, ap, subst, ◌∙◌, inl}
+use Rattle.std.proofs.Common.{◌≡◌, ◌==◌, ◌++◌, ℕ, Bool, true, false, cond, List, [], ◌∷◌, All, Some, refl, sym, ap, subst, ◌∙◌, inl}
 use Rattle.std.specs.Prelude.{Contains, IfSome, is_some}
 use Rattle.std.specs.List.{flat_map}
 use Rattle.std.proofs.lemmas.Bool.{cond-true, eq-eqb, false≢true, lt-ltb, or_left}
@@ -36,7 +36,7 @@ use Rattle.rk_sound.specs.Terms.{IsWithinTerm, SentFits}
 use Rattle.rk_sound.specs.Handing.{handed_by}
 use Rattle.rk_sound.specs.Calls.{AreHandedOver}
 use Rattle.rk_sound.specs.Counters.{IsNext}
-use Rattle.rk_sound.specs.Messages.{AfterMove, AskAgrees, GotAgrees, IsOf, PulledAgrees, SaysOf}
+use Rattle.rk_sound.specs.Messages.{AfterMove, AskAgrees, GotAgrees, PulledAgrees, SaysOf}
 use Rattle.rk_sound.specs.Posts.{Bystander, FirstRebuilder, FormerMember, Holds, LastRebuilder, MovingSource, MovingTarget, OutsideRebuilder, Post, StillCounts, bond_of, post_of, rebuilder_post}
 use Rattle.rk_sound.specs.Receives.{scan_items}
 use Rattle.rk_sound.specs.Roles.{RoleFits}

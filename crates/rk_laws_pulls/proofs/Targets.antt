@@ -1,6 +1,6 @@
 -- A target that pulls, by its row and its source: an item of the source that is found in the target's records is copied there, or the target
 -- has a newer one of its own.
-use Rattle.std.proofs.Common.{◌≡◌, ℕ, ◌<◌, true, List, [], ◌∷◌, ◌++◌, Option, None, Some, sym, ap, ◌∙◌, subst, ⊎_elim, inl, inr, refl}
+use Rattle.std.proofs.Common.{◌≡◌, ℕ, ◌<◌, true, List, [], ◌∷◌, Option, None, Some, sym, ap, ◌∙◌, subst, ⊎_elim, inl, inr, refl}
 use Rattle.std.specs.Prelude.{drop, is_some}
 use Rattle.std.specs.List.{All, Contains, flat_map}
 use Rattle.std.proofs.lemmas.List.Elements.{All-contains, Contains-append_cases, Contains-append_left, Contains-append_right}
@@ -10,7 +10,6 @@ use Rattle.rk_types.specs.declared.held.Token.{Token}
 use Rattle.rk_types.specs.declared.lineage.Member.{Member}
 use Rattle.rk_entry.specs.declared.entry.Entry.{Entry}
 use Rattle.rk_table.specs.Items.{at_hash, is_in}
-use Rattle.rk_table.specs.Order.{item_hash}
 use Rattle.rk_table.specs.Scans.{batch_at, left, passed, rest_at}
 use Rattle.rk_table.proofs.Tokens.{law_whole, left_in_two}
 use Rattle.rk_overlay.specs.Newest.{newest}
@@ -31,13 +30,13 @@ use Rattle.rk_world.specs.Written.{Written, applied_entries, member_material, me
 use Rattle.rk_sound.specs.View.{View}
 use Rattle.rk_sound.specs.Moves.{IsPulling, IsThere, source_items}
 use Rattle.rk_sound.specs.Posts.{Holds, StillCounts, bond_of, post_of}
-use Rattle.rk_sound.specs.Receives.{IsFound, IsOutdone, MembersFit, copied_items, entries_from, is_granted, scan_items}
+use Rattle.rk_sound.specs.Receives.{IsFound, MembersFit, copied_items, entries_from, is_granted, scan_items}
 use Rattle.rk_sound.specs.Rest.{FirstIsDone}
 use Rattle.rk_sound.specs.Roles.{RoleFits}
 use Rattle.rk_sound.specs.Rows.{IsFormed}
 use Rattle.rk_sound.specs.Whole.{SoundView}
 use Rattle.rk_laws_parts.proofs.InRange.{IsIn, in_by_key, scan_in, truth_in}
-use Rattle.rk_laws_parts.proofs.Joining.{IsSecond, joining_second, scanned}
+use Rattle.rk_laws_parts.proofs.Joining.{joining_second, scanned}
 use Rattle.rk_laws_parts.proofs.Receives.{IsTargetIn}
 use Rattle.rk_laws_parts.proofs.Records.{filter_from}
 use Rattle.rk_laws_parts.proofs.Serving.{found_stands}

@@ -1,4 +1,4 @@
--- The condition under which a target takes a batch, with the room that its log needs where it is the last one.
+-- The condition under which a target seals behind the last batch that it takes.
 use Rattle.std.specs.Prelude.{◌≤◌, ℕ, ◌+◌, ◌^◌, ◌%◌, length}
 use Rattle.rk_entry.specs.declared.lists.TheConstants.{FIRST_SIDE_SEGMENT}
 use Rattle.rk_message.specs.declared.pulling.Pulled.{Pulled}
@@ -16,9 +16,9 @@ abbrev pub batch_replayed : Master → Pulled → Master
 batch_replayed master pulled =
     replay master pulled.tenure.tablet ((tablet_at master pulled.tenure.tablet).pulling.batches % 4) (items_of pulled.entries)
 
--- a target may take a batch behind which it seals: what its master's targets have sealed is there, so many more side segments can be
--- numbered, and the log has room for the entry that closes the role
-pub record MayTakeBatch (w : World) (master : ℕ) (pulled : Pulled) : Type 0 where
+-- a target may seal behind a batch: what its master's targets have sealed is there, the side segments that it fills can be numbered, and
+-- the log has room for the entry that closes the role
+pub record MaySealBehind (w : World) (master : ℕ) (pulled : Pulled) : Type 0 where
   pub there : AreSealedThere (view w) master
   pub sides :
       FIRST_SIDE_SEGMENT

@@ -7,15 +7,16 @@ ghost use Rattle.rk_message.specs.declared.pulling.Got.{Got};
 ghost use Rattle.rk_message.specs.declared.pulling.Pull.{Pull};
 ghost use Rattle.rk_message.specs.declared.pulling.Pulled.{Pulled};
 ghost use Rattle.rk_message.specs.declared.pulling.Want.{Want};
+ghost use Rattle.rk_table.specs.Scans.{end};
 ghost use Rattle.rk_world.specs.Formed.{IsWellFormed};
 ghost use Rattle.rk_world.specs.Step.{to_master};
 ghost use Rattle.rk_world.specs.World.{World, has_crashed};
 ghost use Rattle.rk_sound.specs.Whole.{IsSound};
-ghost use Rattle.rk_laws_pulls.specs.Moves.{MayTakeBatch};
+ghost use Rattle.rk_laws_pulls.specs.Moves.{MaySealBehind};
 
 /// A sound lane stays sound when a message that stands on the wire between two masters reaches the second one, which lives: a Pull or a
 /// Want, which a frozen source answers, or a Got or a Pulled, whose items a target replays. Behind the last batch the target seals what it
-/// copied: then the lane has to be well formed, the log of the target's master to have room, and what it sealed before to be there.
+/// copied, so the lane is well formed there, the log of the target's master has room, and what that sealed before is there.
 pub fn pulls_keep_lanes_sound()
     ensures pull { (w : World) (number asker source : ℕ) (pull : Pull)
         → IsSound w → has_crashed w source ≡ false
@@ -32,6 +33,6 @@ pub fn pulls_keep_lanes_sound()
     ensures pulled { (w : World) (number source target : ℕ) (message : Pulled)
         → IsSound w → IsWellFormed w → has_crashed w target ≡ false
         → get w.wire.messages number ≡ Some (record { from = nodes.Master source; to = nodes.Master target; body = bodies.Pulled message })
-        → MayTakeBatch w target message
+        → (message.next ≡ end → MaySealBehind w target message)
         → IsSound (to_master w target (record { from = nodes.Master source; to = nodes.Master target; body = bodies.Pulled message })).world }
 {}
