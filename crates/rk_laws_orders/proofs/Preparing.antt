@@ -1,0 +1,189 @@
+-- A sound lane stays sound when a living master takes a Prepare: it makes ready where the order's term is above all that it keeps there, and
+-- says so; and one that made ready at that term says so again.
+use Rattle.std.proofs.Common.{◌≡◌, ◌==◌, ◌≤◌, ◌<◌, ℕ, Bool, true, false, cond, All, Option, Some, None, refl, sym, ap, subst, ◌∙◌, ⊎_elim, ◌⊎◌, inl, inr, length, arith}
+use Rattle.std.specs.Prelude.{Contains, not}
+use Rattle.std.proofs.lemmas.Bool.{cond_both, eqb-true}
+use Rattle.std.proofs.lemmas.List.Elements.{All-contains}
+use Rattle.rk_types.specs.Range.{meets}
+use Rattle.rk_types.specs.declared.node.Node.TheVariants as nodes
+use Rattle.rk_types.specs.declared.range.Range.{Range}
+use Rattle.rk_transfer.specs.declared.handover.Handover.{Handover}
+use Rattle.rk_transfer.specs.declared.role.Role.{Role}
+use Rattle.rk_transfer.specs.declared.role.Role.TheVariants as roles
+use Rattle.rk_tablet_map.specs.Phase.{lineage_of}
+use Rattle.rk_tablet_map.specs.declared.row.Row.{Row}
+use Rattle.rk_message.specs.declared.handover.Prepare.{Prepare}
+use Rattle.rk_message.specs.declared.handover.Tenure.{Tenure}
+use Rattle.rk_message.specs.declared.message.Body.TheVariants as bodies
+use Rattle.rk_message.specs.declared.message.Message.{Message}
+use Rattle.rk_world.specs.Handovers.{is_greater, prepare_taken, preparing, ready, ready_again, tablet_prepared}
+use Rattle.rk_world.specs.Lineage.{is_member}
+use Rattle.rk_world.specs.Master.{Master}
+use Rattle.rk_world.specs.Step.{to_master, worked_at}
+use Rattle.rk_world.specs.Tablet.{Tablet, with_handover, without_merged}
+use Rattle.rk_world.specs.Worked.{Worked, changed, sending}
+use Rattle.rk_world.specs.World.{World, has_crashed, log_in, master_at, tablet_in}
+use Rattle.rk_sound.specs.View.{View, view}
+use Rattle.rk_sound.specs.Terms.{IsBelowOthers, SentFits}
+use Rattle.rk_sound.specs.Messages.{AsksFor, PrepareFits, SaysOf}
+use Rattle.rk_sound.specs.Moves.{MayPrepare}
+use Rattle.rk_sound.specs.Posts.{StillCounts}
+use Rattle.rk_sound.specs.Changes.{MaySend}
+use Rattle.rk_sound.specs.Whole.{IsSound, SoundView}
+use Rattle.rk_laws_parts.proofs.Lists.{all_by, all_in}
+use Rattle.rk_laws_parts.proofs.Put.{put_here}
+use Rattle.rk_laws_ready.proofs.Prepared.{sound_prepared, view_prepared, view_prepared_in}
+use Rattle.rk_laws_ready.specs.Small.{as_wanting, others_given_up, prepared, prepared_tablets, tablet_prepared_in, tablet_seen}
+use Rattle.rk_laws_turn.proofs.OnlyPulls.{may_send_pulling, sound_unchanged}
+use Rattle.rk_laws_turn.proofs.Sending.{MaySendAsIs}
+use Rattle.rk_laws_orders.specs.Orders.{IsOrdered, order_to}
+use Rattle.rk_laws_orders.proofs.Greater.{IsAboveAll, above_all}
+use Rattle.rk_laws_orders.proofs.Reports.{may_tell_ready}
+use Rattle.rk_laws_orders.proofs.Taken.{HasRow, has_row, reports, stays, taken}
+
+-- a Ready from a master with this number, at this term
+abbrev ready_from : ℕ → ℕ → ℕ → ℕ → Message
+ready_from sender tablet term place = record {
+  from = nodes.Master sender;
+  to = nodes.Coordinator;
+  body = bodies.Ready (record { tenure = record { tablet = tablet; term = term }; place = place });
+}
+
+module _ (w : World) (number master : ℕ) (prepare : Prepare) (sound : IsSound w) (lives : has_crashed w master ≡ false) (ordered : IsOrdered w number master (bodies.Prepare prepare)) where
+  abbrev v : View
+  v = view w
+
+  abbrev own : Master
+  own = master_at w master
+
+  abbrev tablet : ℕ
+  tablet = prepare.tenure.tablet
+
+  abbrev term : ℕ
+  term = prepare.tenure.term
+
+  abbrev old : Handover
+  old = v.handovers master tablet
+
+  abbrev message : Message
+  message = order_to master (bodies.Prepare prepare)
+
+  says : (row : Row) → Contains v.rows row → PrepareFits row (v.handovers master row.tablet) (v.live master) master prepare
+  says row stands =
+      All-contains
+      (λ r. SaysOf r v.logs v.written v.stored v.handovers v.completions v.merged v.live v.handed nodes.Coordinator (nodes.Master master) (bodies.Prepare prepare))
+      v.rows row (sound.messages.of_rows number message ordered) stands
+
+  fits : (row : Row) → Contains v.rows row → SentFits row (bodies.Prepare prepare)
+  fits row stands = All-contains (λ r. SentFits r (bodies.Prepare prepare)) v.rows row (sound.terms.sent number message ordered) stands
+
+  -- ---- its term is above all that the master keeps there
+
+  module _ (row : Row) (stands : Contains v.rows row) (same : row.tablet ≡ tablet) (all : IsAboveAll w master tablet term prepare.range) where
+    greater : (v.handovers master row.tablet).term < term
+    greater = subst (λ (n : ℕ). (v.handovers master n).term < term) (sym same) all.greater
+
+    -- a member of a row that it asks for would keep as great a term
+    outside : (other : Row) → Contains v.rows other → AsksFor prepare other → is_member (lineage_of other.phase) master ≡ true → ⊥
+    outside other there asks member =
+        let kept : term ≤ (v.handovers master other.tablet).term = (says other there).members asks (ap not lives) member in
+        ⊎_elim
+        (λ (its : tablet ≡ other.tablet).
+        let less : (v.handovers master other.tablet).term < term = subst (λ (n : ℕ). (v.handovers master n).term < term) its all.greater in
+        absurd (omega (arith, kept, less)))
+        (λ (met : meets other.range prepare.range ≡ true).
+        let ranged : (v.handovers master other.tablet).range ≡ other.range =
+        All-contains
+        (λ (r : Row). StillCounts (v.live master) (v.handovers master r.tablet).term r.term
+        → is_member (lineage_of r.phase) master ≡ true → (v.handovers master r.tablet).range ≡ r.range)
+        v.rows other (sound.roles.ranged master) there (inl (ap not lives)) member in
+        let less : (v.handovers master other.tablet).term < term =
+        all.above other.tablet (ap (λ (range : Range). meets range prepare.range) ranged ∙ met) in
+        absurd (omega (arith, kept, less)))
+        asks
+
+    may_prepare : MayPrepare v row master prepare
+    may_prepare = record {
+      lives = ap not lives;
+      has_row = stands;
+      tablet_is = sym same;
+      greater = greater;
+      above = all.above;
+      within = (fits row stands).within same;
+      invited = λ at. (
+        (says row stands).invited (record { tablet = sym same; term = at }) (ap not lives) (omega (arith, greater, at)),
+        (says row stands).range (record { tablet = sym same; term = at }),
+      );
+      covered = sound.cover.ordered number message ordered;
+      below =
+          all_by (λ other. IsBelowOthers other row.tablet term prepare.range) v.rows
+          (λ other there. subst (λ (n : ℕ). IsBelowOthers other n term prepare.range) (sym same) (fits other there).below);
+      outside = all_by (λ other. AsksFor prepare other → is_member (lineage_of other.phase) master ≡ true → ⊥) v.rows outside;
+    }
+
+    -- where its own entries begin
+    abbrev place : ℕ
+    place = length (log_in w master).entries
+
+    -- it waits then, and says so
+    abbrev after : View
+    after = prepared v master prepare
+
+    waits : after.handovers master tablet ≡ as_wanting term prepare.range place old
+    waits =
+        ap (λ (handovers : ℕ → Handover). handovers tablet)
+        (put_here v.handovers master (λ number. (prepared_tablets v master prepare number).handover) master refl)
+        ∙ ap (λ (t : Tablet). t.handover)
+        (put_here (others_given_up (tablet_seen v master) tablet prepare.range) tablet
+        (without_merged (with_handover (tablet_seen v master tablet) (as_wanting term prepare.range place old))) tablet refl)
+
+    may_report : MaySend after (ready own prepare.tenure place)
+    may_report =
+        subst (MaySend after) (λ i. ready_from (sym (sound.nodes.numbered master) i) tablet (ap (λ (h : Handover). h.term) waits i) place)
+        (may_tell_ready after (view_prepared v row master prepare sound may_prepare) master tablet (ap not lives) place
+        (ap (λ (h : Handover). h.role) waits))
+
+    prepares : IsSound (worked_at w master 0 (preparing own prepare)).world
+    prepares =
+        reports w master (tablet_prepared own prepare) (ready own prepare.tenure place) (sound_prepared w row master prepare sound may_prepare)
+        (record {
+          may = subst (λ (u : View). MaySend u (ready own prepare.tenure place)) (sym (view_prepared_in w master prepare all.greater)) may_report;
+          as_is = λ journal served. refl;
+        })
+
+  -- ---- it made ready before
+
+  -- it may say so again
+  may_repeat : (from : ℕ) → old.role ≡ roles.Wanting from → old.term ≡ term → MaySend v (ready own prepare.tenure from)
+  may_repeat from is at =
+      subst (MaySend v) (λ i. ready_from (sym (sound.nodes.numbered master) i) tablet (at i) from)
+      (may_tell_ready v sound master tablet (ap not lives) from is)
+
+  repeats : (role : Role) → old.role ≡ role → IsSound (worked_at w master 0 (ready_again own prepare.tenure role old.term)).world
+  repeats (roles.Wanting from) is =
+      cond_both (old.term == term) (sending own (ready own prepare.tenure from)) (changed own)
+      (λ (worked : Worked). IsSound (worked_at w master 0 worked).world)
+      (λ at.
+      reports w master own (ready own prepare.tenure from) (sound_unchanged w master sound).sound
+      (record {
+        may = subst (λ (u : View). MaySend u (ready own prepare.tenure from)) (sym (sound_unchanged w master sound).view_is)
+            (may_send_pulling v (sound_unchanged w master sound).pullings (ready own prepare.tenure from) (may_repeat from is (eqb-true old.term term at)));
+        as_is = λ journal served. refl;
+      }))
+      (λ differs. stays w master sound)
+  repeats roles.Absent is = stays w master sound
+  repeats roles.Serving is = stays w master sound
+  repeats roles.Closing is = stays w master sound
+  repeats roles.Frozen is = stays w master sound
+  repeats roles.Receiving is = stays w master sound
+  repeats (roles.Joining entry) is = stays w master sound
+  repeats (roles.Rebuilding from entry) is = stays w master sound
+
+  pub sound_prepare : IsSound (to_master w master message).world
+  sound_prepare =
+      let its : HasRow v.rows tablet = has_row v.rows tablet (sound.cover.sent number message ordered) in
+      taken w master (bodies.Prepare prepare) lives
+      (cond_both (is_greater own tablet term prepare.range) (preparing own prepare) (ready_again own prepare.tenure old.role old.term)
+      (λ (worked : Worked). IsSound (worked_at w master 0 worked).world)
+      (λ test. prepares its.row its.stands its.tablet_is (above_all w master tablet term prepare.range test))
+      (λ test. repeats old.role refl))

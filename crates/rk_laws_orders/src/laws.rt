@@ -1,0 +1,33 @@
+// The headline laws of orders. The function does nothing: its contract is the law.
+ghost use Rattle.std.specs.Prelude.{◌≡◌, ℕ, false};
+ghost use Rattle.rk_message.specs.declared.handover.Grant.{Grant};
+ghost use Rattle.rk_message.specs.declared.handover.Prepare.{Prepare};
+ghost use Rattle.rk_message.specs.declared.handover.Tenure.{Tenure};
+ghost use Rattle.rk_message.specs.declared.message.Body.TheVariants as bodies;
+ghost use Rattle.rk_world.specs.Formed.{IsWellFormed};
+ghost use Rattle.rk_world.specs.Step.{to_master};
+ghost use Rattle.rk_world.specs.World.{World, has_crashed, log_in};
+ghost use Rattle.rk_sound.specs.Changes.{HasSegmentLeft};
+ghost use Rattle.rk_sound.specs.Whole.{IsSound};
+ghost use Rattle.rk_laws_orders.specs.Orders.{IsOrdered, order_to};
+
+/// A sound lane stays sound when a master that lives takes an order of the coordinator that stands on the wire, whether or not the order
+/// still applies there.
+pub fn orders_keep_lanes_sound()
+    ensures owned { (w : World) (number master : ℕ) (tenure : Tenure)
+        → IsSound w → has_crashed w master ≡ false → IsOrdered w number master (bodies.Own tenure)
+        → IsSound (to_master w master (order_to master (bodies.Own tenure))).world }
+    ensures released { (w : World) (number master : ℕ) (tenure : Tenure)
+        → IsSound w → has_crashed w master ≡ false → IsOrdered w number master (bodies.Release tenure)
+        → IsSound (to_master w master (order_to master (bodies.Release tenure))).world }
+    ensures prepared { (w : World) (number master : ℕ) (prepare : Prepare)
+        → IsSound w → has_crashed w master ≡ false → IsOrdered w number master (bodies.Prepare prepare)
+        → IsSound (to_master w master (order_to master (bodies.Prepare prepare))).world }
+    ensures closed { (w : World) (number master : ℕ) (tenure : Tenure)
+        → IsSound w → has_crashed w master ≡ false → IsOrdered w number master (bodies.Close tenure)
+        → IsSound (to_master w master (order_to master (bodies.Close tenure))).world }
+    ensures granted { (w : World) (number master : ℕ) (grant : Grant)
+        → IsSound w → IsWellFormed w → has_crashed w master ≡ false → HasSegmentLeft (log_in w master)
+        → IsOrdered w number master (bodies.Grant grant)
+        → IsSound (to_master w master (order_to master (bodies.Grant grant))).world }
+{}
