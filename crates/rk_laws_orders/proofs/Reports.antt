@@ -153,12 +153,15 @@ module _ (v : View) (sound : SoundView v) (master number : ℕ) (lives : v.live 
         (λ test. tt)
 
     says_in : (row : Row) → IsOf row tenure → (phase : Phase) → HasSource phase master → TransferIn phase (v.handovers master row.tablet) (v.completions master row.tablet) row.term master told
-    says_in row its (Opening source sfrom target dfrom) source_is = (source_is, record {
-      role_is = subst (λ (n : ℕ). (v.handovers master n).role ≡ roles.Frozen) its.tablet frozen;
-      term_is = subst (λ (n : ℕ). (v.handovers master n).term ≡ row.term) its.tablet its.term;
-      floor_is = ap (λ (n : ℕ). (v.handovers master n).counter) its.tablet;
-      ends_are = ap (λ (n : ℕ). ends_of (v.completions master n)) its.tablet;
-    })
+    says_in row its (Opening source sfrom target dfrom) source_is = (
+      source_is,
+      record {
+        role_is = subst (λ (n : ℕ). (v.handovers master n).role ≡ roles.Frozen) its.tablet frozen;
+        term_is = subst (λ (n : ℕ). (v.handovers master n).term ≡ row.term) its.tablet its.term;
+        floor_is = ap (λ (n : ℕ). (v.handovers master n).counter) its.tablet;
+        ends_are = ap (λ (n : ℕ). ends_of (v.completions master n)) its.tablet;
+      },
+    )
     says_in row its (Owned owner place) source_is = tt
     says_in row its (Moving source sfrom target dfrom) source_is = tt
     says_in row its (Rebuilding lineage to) source_is = tt
