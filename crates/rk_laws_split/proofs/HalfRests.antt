@@ -40,6 +40,10 @@ module _ (asked : ℕ → Option LastCall) (journal : List Placed) (range : Rang
   abbrev MadeOf : List Ended → List Placed
   MadeOf ends = records_at table key (records_of asked ends)
 
+  -- an entry that counts where its key is in the range, and whose end alone it tells
+  abbrev Tells : Ended → ℕ → List ℕ → Entry → Type 0
+  Tells end its_table its_key entry = (counts range entry ≡ has_key range its_table its_key) × (call_end entry ≡ end ∷ [])
+
   one_apart : (end : Ended) (seq its_table : ℕ) (its_key : List ℕ) → IsLastAsked asked journal end.client seq its_table its_key → (has_key range its_table its_key ≡ has_key range table key → ⊥) → records_at table key (record_of_last end (asked end.client)) ≡ []
   one_apart end seq its_table its_key is apart =
       let placed : Placed = record { call = is.last.call; outcome = outcome_of end.end; stamp = 0; accepted = false } in
@@ -63,12 +67,16 @@ module _ (asked : ℕ → Option LastCall) (journal : List Placed) (range : Rang
     abbrev SameMade : List Entry → List Entry → Type 0
     SameMade few list = MadeOf (call_ends few) ≡ MadeOf (call_ends list)
 
-    with_call : (end : Ended) (seq its_table : ℕ) (its_key : List ℕ) (entry : Entry) (list : List Entry) → IsLastAsked asked journal end.client seq its_table its_key → counts range entry ≡ has_key range its_table its_key → call_end entry ≡ end ∷ [] → SameMade (counting range list) list → SameMade (counting range (entry ∷ list)) (entry ∷ list)
-    with_call end seq its_table its_key entry list is counted ends later =
-        let all : call_ends (entry ∷ list) ≡ end ∷ call_ends list = ap (λ (front : List Ended). front ++ call_ends list) ends in
+    -- what counts of entries makes what all of them make
+    abbrev AreMade : List Entry → Type 0
+    AreMade list = SameMade (counting range list) list
+
+    with_call : (end : Ended) (seq its_table : ℕ) (its_key : List ℕ) (entry : Entry) (list : List Entry) → IsLastAsked asked journal end.client seq its_table its_key → Tells end its_table its_key entry → AreMade list → AreMade (entry ∷ list)
+    with_call end seq its_table its_key entry list is tells later =
+        let all : call_ends (entry ∷ list) ≡ end ∷ call_ends list = ap (λ (front : List Ended). front ++ call_ends list) tells.1 in
         cond_both (counts range entry) (entry ∷ counting range list) (counting range list) (λ few. SameMade few (entry ∷ list))
         (λ e.
-        ap MadeOf (ap (λ (front : List Ended). front ++ call_ends (counting range list)) ends)
+        ap MadeOf (ap (λ (front : List Ended). front ++ call_ends (counting range list)) tells.1)
         ∙ made_cons end (call_ends (counting range list))
         ∙ ap (λ (more : List Placed). records_at table key (record_of_last end (asked end.client)) ++ more) later
         ∙ sym (ap MadeOf all ∙ made_cons end (call_ends list)))
@@ -76,17 +84,17 @@ module _ (asked : ℕ → Option LastCall) (journal : List Placed) (range : Rang
         later
         ∙ sym (ap MadeOf all ∙ made_cons end (call_ends list)
         ∙ ap (λ (front : List Placed). front ++ MadeOf (call_ends list))
-        (one_apart end seq its_table its_key is (λ same. false≢true (sym e ∙ counted ∙ same ∙ inside)))))
+        (one_apart end seq its_table its_key is (λ same. false≢true (sym e ∙ tells.0 ∙ same ∙ inside)))))
 
-    same_made : (list : List Entry) → All (IsStaged base asked journal) list → SameMade (counting range list) list
+    same_made : (list : List Entry) → All (IsStaged base asked journal) list → AreMade list
     same_made [] staged = refl
     same_made (entries.Held held ∷ list) staged =
         let its = All-head (IsStaged base asked journal) (entries.Held held) list staged in
-        with_call (item_end held) held.seq held.table held.key (entries.Held held) list its.last refl refl
+        with_call (item_end held) held.seq held.table held.key (entries.Held held) list its.last (refl, refl)
         (same_made list (All-tail (IsStaged base asked journal) (entries.Held held) list staged))
     same_made (entries.Refused refused ∷ list) staged =
         with_call (refusal_end refused) refused.seq refused.table refused.key (entries.Refused refused) list
-        (All-head (IsStaged base asked journal) (entries.Refused refused) list staged) refl refl
+        (All-head (IsStaged base asked journal) (entries.Refused refused) list staged) (refl, refl)
         (same_made list (All-tail (IsStaged base asked journal) (entries.Refused refused) list staged))
     same_made (entries.Carried carried ∷ list) staged =
         let later = same_made list (All-tail (IsStaged base asked journal) (entries.Carried carried) list staged) in
@@ -100,14 +108,14 @@ module _ (asked : ℕ → Option LastCall) (journal : List Placed) (range : Rang
     abbrev NoneMade : List Entry → Type 0
     NoneMade few = MadeOf (call_ends few) ≡ []
 
-    none_with : (end : Ended) (seq its_table : ℕ) (its_key : List ℕ) (entry : Entry) (list : List Entry) → IsLastAsked asked journal end.client seq its_table its_key → counts range entry ≡ has_key range its_table its_key → call_end entry ≡ end ∷ [] → NoneMade (counting range list) → NoneMade (counting range (entry ∷ list))
-    none_with end seq its_table its_key entry list is counted ends later =
+    none_with : (end : Ended) (seq its_table : ℕ) (its_key : List ℕ) (entry : Entry) (list : List Entry) → IsLastAsked asked journal end.client seq its_table its_key → Tells end its_table its_key entry → NoneMade (counting range list) → NoneMade (counting range (entry ∷ list))
+    none_with end seq its_table its_key entry list is tells later =
         cond_both (counts range entry) (entry ∷ counting range list) (counting range list) NoneMade
         (λ e.
-        ap MadeOf (ap (λ (front : List Ended). front ++ call_ends (counting range list)) ends)
+        ap MadeOf (ap (λ (front : List Ended). front ++ call_ends (counting range list)) tells.1)
         ∙ made_cons end (call_ends (counting range list))
         ∙ (λ i.
-        one_apart end seq its_table its_key is (λ same. false≢true (sym outside ∙ sym same ∙ sym counted ∙ e)) i
+        one_apart end seq its_table its_key is (λ same. false≢true (sym outside ∙ sym same ∙ sym tells.0 ∙ e)) i
         ++ later i))
         (λ e. later)
 
@@ -115,11 +123,11 @@ module _ (asked : ℕ → Option LastCall) (journal : List Placed) (range : Rang
     none_made [] staged = refl
     none_made (entries.Held held ∷ list) staged =
         let its = All-head (IsStaged base asked journal) (entries.Held held) list staged in
-        none_with (item_end held) held.seq held.table held.key (entries.Held held) list its.last refl refl
+        none_with (item_end held) held.seq held.table held.key (entries.Held held) list its.last (refl, refl)
         (none_made list (All-tail (IsStaged base asked journal) (entries.Held held) list staged))
     none_made (entries.Refused refused ∷ list) staged =
         none_with (refusal_end refused) refused.seq refused.table refused.key (entries.Refused refused) list
-        (All-head (IsStaged base asked journal) (entries.Refused refused) list staged) refl refl
+        (All-head (IsStaged base asked journal) (entries.Refused refused) list staged) (refl, refl)
         (none_made list (All-tail (IsStaged base asked journal) (entries.Refused refused) list staged))
     none_made (entries.Carried carried ∷ list) staged =
         let later = none_made list (All-tail (IsStaged base asked journal) (entries.Carried carried) list staged) in

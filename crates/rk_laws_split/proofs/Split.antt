@@ -1,5 +1,5 @@
 -- A lane stays sound when an owned row is split in two.
-use Rattle.std.proofs.Common.{◌≡◌, ℕ, ◌+◌, ◌⊎◌, Bool, true, false, cond, List, Option, Some, None, eqb, is_some, refl, sym, ap, subst, ◌∙◌, ⊎_elim, inl}
+use Rattle.std.proofs.Common.{◌≡◌, ℕ, ◌+◌, Bool, true, false, cond, List, Option, Some, None, eqb, is_some, refl, sym, ap, subst, ◌∙◌, ⊎_elim, inl}
 use Rattle.std.specs.Prelude.{not}
 use Rattle.std.specs.List.{Contains}
 use Rattle.std.proofs.lemmas.Bool.{cases_Bool, cases_eq, cond-false, cond-true, eq-eqb, false≢true, or_left}
@@ -25,7 +25,8 @@ use Rattle.rk_laws_parts.proofs.Masters.{master_other, master_same, same_of_all,
 use Rattle.rk_laws_parts.proofs.TurnedRows.{stands_found}
 use Rattle.rk_sound.specs.Posts.{StillCounts}
 use Rattle.rk_laws_split.specs.Small.{as_half, lower_row, rows_halved, row_split_in, upper_row}
-use Rattle.rk_laws_split.proofs.RowSplit.{Has, High, Low, Old, view_row_split}
+use Rattle.rk_laws_split.proofs.RowSplit.{view_row_split}
+use Rattle.rk_laws_split.proofs.Splitting.{Has, High, Low, Old, Beside, IsOfHalves, Serves, Splitting}
 use Rattle.rk_laws_split.proofs.SplitRows.{found, lower_found, unknown, upper_found}
 
 -- why a split is not refused: no row has the number, and both parts have a hash
@@ -37,7 +38,9 @@ may_cut row None at new is = (refl, go (is_split row.range at) refl is)
     go true e is = e
     go false e is = absurd (cc is)
 
-module _ (w : World) (tablet : ℕ) (range : Range) (term owner from at new : ℕ) (sound : IsSound w) (has_row : Contains w.coordinator.rows (record { tablet = tablet; range = range; term = term; phase = Owned owner from })) (free : is_some (row_of w.coordinator.rows new) ≡ false) (splits : is_split range at ≡ true) where
+module _ (w : World) (cut : Splitting (view w)) where
+  open cut use {tablet, range, term, owner, from, at, new, sound, has_row, free, splits}
+
   abbrev v : View
   v = view w
 
@@ -73,11 +76,20 @@ module _ (w : World) (tablet : ℕ) (range : Range) (term owner from at new : �
 
   dead_split : v.live owner ≡ false → SoundView (Changed w)
   dead_split dead =
-      let none : (q : ℕ) → (v.live q ≡ true) × (q ≡ owner) → ⊥ = λ q serves. false≢true (sym dead ∙ sym (ap v.live serves.1) ∙ serves.0) in
-      view_row_split v tablet range term owner from at new sound has_row free splits v.handovers
-      (λ q n. Old refl (λ serves. absurd (none q serves)))
-      v.completions v.pullings v.gathers v.merged (λ q n _. refl) (λ q n _. refl) (λ q n _. refl) (λ q n _. refl)
-      (λ q n serves _. absurd (none q serves))
+      let none : (q : ℕ) → Serves v cut q → ⊥ = λ q serves. false≢true (sym dead ∙ sym (ap v.live serves.1) ∙ serves.0) in
+      view_row_split v cut (record {
+        handovers' = v.handovers;
+        completions' = v.completions;
+        pullings' = v.pullings;
+        gathers' = v.gathers;
+        merged' = v.merged;
+        halved = λ q n. Old refl (λ serves. absurd (none q serves));
+        completions_away = λ q n _. refl;
+        pullings_away = λ q n _. refl;
+        gathers_away = λ q n _. refl;
+        merged_away = λ q n _. refl;
+        ends_stay = λ q n serves _. absurd (none q serves);
+      })
 
   -- ---- a living owner
 
@@ -125,7 +137,7 @@ module _ (w : World) (tablet : ℕ) (range : Range) (term owner from at new : �
   at_away q n away = ap (λ (x : Master). tablet_at x n) (master_other w owner changed q away)
 
   module _ (lives_on : lives w owner ≡ true) where
-    serves : (q : ℕ) → q ≡ owner → (v.live q ≡ true) × (q ≡ owner)
+    serves : (q : ℕ) → q ≡ owner → Serves v cut q
     serves q is = (ap v.live is ∙ lives_on, is)
 
     kept_range : (tablet_in w owner tablet).handover.range ≡ range
@@ -136,7 +148,7 @@ module _ (w : World) (tablet : ℕ) (range : Range) (term owner from at new : �
         (inl lives_on) (or_left (eqb owner owner) false (eq-eqb owner owner refl))
 
     abbrev HasNow : ℕ → ℕ → Type 0
-    HasNow q n = Has v tablet range term owner from at new sound has_row free splits q n ((view after).handovers q n)
+    HasNow q n = Has v cut q n ((view after).handovers q n)
 
     low_is : (q : ℕ) → q ≡ owner → (tablet_in after q tablet).handover ≡ as_half (v.handovers q tablet) (lower_row row at).range (term + 1)
     low_is q is =
@@ -163,12 +175,12 @@ module _ (w : World) (tablet : ℕ) (range : Range) (term owner from at new : �
         (λ (away : q ≡ owner → ⊥). Old (ap (λ (t : Tablet). t.handover) (at_away q n away)) (λ it. absurd (away it.1)))
         (cases_eq q owner)
 
-    unlike_kept : (q n : ℕ) → ((v.live q ≡ true) × (q ≡ owner) → (n ≡ tablet → ⊥) × (n ≡ new → ⊥)) → tablet_in after q n ≡ tablet_in w q n
+    unlike_kept : (q n : ℕ) → Beside v cut q n → tablet_in after q n ≡ tablet_in w q n
     unlike_kept q n unlike =
         ⊎_elim (λ (is : q ≡ owner). let both = unlike (serves q is) in at_other q n is both.0 both.1) (λ (away : q ≡ owner → ⊥). at_away q n away)
         (cases_eq q owner)
 
-    ends_stay : (q n : ℕ) → (v.live q ≡ true) × (q ≡ owner) → (n ≡ tablet) ⊎ (n ≡ new) → (view after).completions q n ≡ v.completions q tablet
+    ends_stay : (q n : ℕ) → Serves v cut q → IsOfHalves v cut n → (view after).completions q n ≡ v.completions q tablet
     ends_stay q n it =
         ⊎_elim
         (λ (its : n ≡ tablet).
@@ -180,10 +192,19 @@ module _ (w : World) (tablet : ℕ) (range : Range) (term owner from at new : �
 
     live_split : SoundView (Changed after)
     live_split =
-        view_row_split v tablet range term owner from at new sound has_row free splits (view after).handovers halved (view after).completions
-        (view after).pullings (view after).gathers (view after).merged (λ q n unlike. ap (λ (t : Tablet). t.completions) (unlike_kept q n unlike))
-        (λ q n unlike. ap (λ (t : Tablet). t.pulling) (unlike_kept q n unlike)) (λ q n unlike. ap (λ (t : Tablet). t.gather) (unlike_kept q n unlike))
-        (λ q n unlike. ap (λ (t : Tablet). t.merged_ends) (unlike_kept q n unlike)) ends_stay
+        view_row_split v cut (record {
+          handovers' = (view after).handovers;
+          completions' = (view after).completions;
+          pullings' = (view after).pullings;
+          gathers' = (view after).gathers;
+          merged' = (view after).merged;
+          halved = halved;
+          completions_away = λ q n unlike. ap (λ (t : Tablet). t.completions) (unlike_kept q n unlike);
+          pullings_away = λ q n unlike. ap (λ (t : Tablet). t.pulling) (unlike_kept q n unlike);
+          gathers_away = λ q n unlike. ap (λ (t : Tablet). t.gather) (unlike_kept q n unlike);
+          merged_away = λ q n unlike. ap (λ (t : Tablet). t.merged_ends) (unlike_kept q n unlike);
+          ends_stay = ends_stay;
+        })
 
     after_is : owner_split w tablet (Owned owner from) at new (term + 1) ≡ after
     after_is =
@@ -230,9 +251,21 @@ row_sound w row at new sound may =
     λ i. record row { phase = sym may.phase_is i } in
     let fault : cut_fault (Some row) (row_of rows new) at new ≡ None =
     ap (λ (f : Option Row). cut_fault f (row_of rows new) at new) (sym (stands_found rows row sound.rows.apart may.has_row)) ∙ may.fits in
-    let cut = may_cut row (row_of rows new) at new fault in
+    let fits = may_cut row (row_of rows new) at new fault in
     subst (λ (r : Row). IsSound (row_split_in w r at new)) row_is
-    (split_sound w row.tablet row.range row.term may.owner may.from at new sound (subst (Contains rows) (sym row_is) may.has_row) cut.0 cut.1)
+    (split_sound w (record {
+      tablet = row.tablet;
+      range = row.range;
+      term = row.term;
+      owner = may.owner;
+      from = may.from;
+      at = at;
+      new = new;
+      sound = sound;
+      has_row = subst (Contains rows) (sym row_is) may.has_row;
+      free = fits.0;
+      splits = fits.1;
+    }))
 
 pub sound_split : (w : World) (row : Row) (at new : ℕ) → IsSound w → MaySplit (view w) row at new → IsSound (tablet_split w row.tablet at new)
 sound_split w row at new sound may =
