@@ -1,0 +1,4 @@
+pub mod Passed
+pub mod GatheringRow
+pub mod Gathers
+pub mod Merges
