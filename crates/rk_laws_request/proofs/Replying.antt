@@ -34,7 +34,6 @@ may_reply v master client reply fits =
       request_says = tt;
     }
 
-
 -- a master may be put where it stands
 view_unchanged : (w : World) (master : ℕ) → view (with_master w master (master_at w master)) ≡ view w
 view_unchanged w master =
