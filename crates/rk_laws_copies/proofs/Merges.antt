@@ -1,6 +1,6 @@
 -- A sound lane stays sound when the last Copy that a living master awaits reaches it: the segment is gathered, and what was gathered is merged
 -- as one piece of its log, where it may be.
-use Rattle.std.proofs.Common.{◌≡◌, ◌==◌, ℕ, true, false, List, [], ◌∷◌, length, Option, None, Some, refl, sym, ap, subst, ◌∙◌}
+use Rattle.std.proofs.Common.{◌≡◌, ◌==◌, ℕ, true, false, [], ◌∷◌, length, Option, None, Some, refl, sym, ap, subst, ◌∙◌}
 use Rattle.std.proofs.lemmas.Bool.{cond-true, eq-eqb}
 use Rattle.rk_types.specs.NumberMap.{NumberMap, get}
 use Rattle.rk_transfer.specs.Handover.{carried, in_role, role_carried}

@@ -1,10 +1,10 @@
 -- A sound lane stays sound when a Copy reaches a living master that does not await it: nothing changes.
-use Rattle.std.proofs.Common.{◌≡◌, ℕ, Bool, true, false, cond, refl, sym, subst}
+use Rattle.std.proofs.Common.{◌≡◌, ℕ, Bool, false, cond, sym, subst}
 use Rattle.rk_message.specs.declared.rebuilding.CopySegment.{CopySegment}
 use Rattle.rk_world.specs.Master.{Master}
 use Rattle.rk_world.specs.Rebuilds.{copy_taken, rebuild_goes_on, segment_gathered}
 use Rattle.rk_world.specs.Step.{losing, to_master, worked_at}
-use Rattle.rk_world.specs.Worked.{Worked, changed}
+use Rattle.rk_world.specs.Worked.{changed}
 use Rattle.rk_world.specs.World.{World, has_crashed, master_at, with_master}
 use Rattle.rk_sound.specs.View.{view}
 use Rattle.rk_sound.specs.Whole.{IsSound}

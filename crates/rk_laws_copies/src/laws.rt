@@ -3,16 +3,21 @@ ghost use Rattle.std.specs.Prelude.{◌≡◌, ℕ, None, Some, false, true};
 ghost use Rattle.rk_types.specs.NumberMap.{get};
 ghost use Rattle.rk_message.specs.declared.rebuilding.CopySegment.{CopySegment};
 ghost use Rattle.rk_world.specs.declared.work.Reading.{Reading};
-ghost use Rattle.rk_world.specs.Step.{to_master};
+ghost use Rattle.rk_world.specs.declared.event.Event.TheVariants as events;
+ghost use Rattle.rk_world.specs.Backup.{Called};
+ghost use Rattle.rk_world.specs.Formed.{IsWellFormed};
+ghost use Rattle.rk_world.specs.Step.{happened, to_master};
 ghost use Rattle.rk_world.specs.World.{World, has_crashed, master_at};
 ghost use Rattle.rk_sound.specs.View.{view};
 ghost use Rattle.rk_sound.specs.Small.{segment_gathered_in};
+ghost use Rattle.rk_world.specs.Room.{HasRoom};
 ghost use Rattle.rk_sound.specs.Whole.{IsSound};
 ghost use Rattle.rk_laws_merge.specs.Moves.{MayMergeFormed};
 ghost use Rattle.rk_laws_copies.specs.Small.{awaits, copy_message, next_after};
 
 /// A sound lane stays sound when a Copy reaches a master that lives. One that does not await it does nothing. One that awaits a Copy that
-/// stands on the wire gathers it, and where nothing is left to read it merges what it gathered, where it may.
+/// stands on the wire gathers it, and where nothing is left to read it merges what it gathered, where it may. A well formed lane that has
+/// room before and after it has all that this needs, so it stays sound when a Copy is delivered.
 pub fn copies_keep_lanes_sound()
     ensures passed { (w : World) (backup master : ℕ) (copy : CopySegment)
         → IsSound w → has_crashed w master ≡ false → awaits (master_at w master) copy ≡ false
@@ -28,4 +33,9 @@ pub fn copies_keep_lanes_sound()
         → awaits (master_at w master) copy ≡ true → next_after (master_at w master) copy ≡ None
         → MayMergeFormed (view (segment_gathered_in w master copy)) master copy.tenure.tablet
         → IsSound (to_master w master (copy_message backup master copy)).world }
+    ensures delivered { (w : World) (number backup master : ℕ) (copy : CopySegment) (called : Called)
+        → IsSound w → IsWellFormed w → HasRoom w
+        → get w.wire.messages number ≡ Some (copy_message backup master copy)
+        → HasRoom (happened w (events.Deliver number) called).world
+        → IsSound (happened w (events.Deliver number) called).world }
 {}

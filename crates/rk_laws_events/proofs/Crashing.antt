@@ -12,7 +12,7 @@ use Rattle.rk_sound.specs.Moves.{MayCrash}
 use Rattle.rk_sound.specs.View.{view}
 use Rattle.rk_sound.specs.Whole.{IsSound}
 use Rattle.rk_world.specs.Formed.{IsFormedGathered, IsFormedMaster, IsFormedRow, IsWellFormed}
-use Rattle.rk_world.specs.Gather.{Gathered, LAST_MAIN_SEGMENT}
+use Rattle.rk_world.specs.Gather.{LAST_MAIN_SEGMENT}
 use Rattle.rk_world.specs.Limits.{IsFormedEntry, IsFormedHeld, limits_of}
 use Rattle.rk_world.specs.Master.{Master, new_master, tablet_at}
 use Rattle.rk_world.specs.Premises.{IsMaster}
@@ -27,7 +27,7 @@ use Rattle.rk_laws_formed.proofs.Worlds.{room_of_master}
 use Rattle.rk_laws_parts.proofs.Segments.{segments_few}
 
 module _ (w : World) (formed : IsWellFormed w) (room : HasRoom w) where
-  entries_lawful : (q : ℕ) → All IsLawfulEntry (master_at w q).log.entries
+  pub entries_lawful : (q : ℕ) → All IsLawfulEntry (master_at w q).log.entries
   entries_lawful q =
       go (get w.masters q) refl
     where
@@ -37,7 +37,7 @@ module _ (w : World) (formed : IsWellFormed w) (room : HasRoom w) where
           All-weaker (IsFormedEntry (limits_of w)) IsLawfulEntry (λ entry it. lawful_of (limits_of w) entry it) master.log.entries
           (formed.masters q master is).written
 
-  items_lawful : (q : ℕ) → All IsLawfulHeld (flat_map (λ items. items) (master_at w q).sides)
+  pub items_lawful : (q : ℕ) → All IsLawfulHeld (flat_map (λ items. items) (master_at w q).sides)
   items_lawful q =
       go (get w.masters q) refl
     where
@@ -47,7 +47,7 @@ module _ (w : World) (formed : IsWellFormed w) (room : HasRoom w) where
           All-weaker (IsFormedHeld (limits_of w)) IsLawfulHeld (λ held it. it.lawful) (flat_map (λ items. items) master.sides)
           (formed.masters q master is).items
 
-  segments_left : (q : ℕ) → HasSegmentLeft (master_at w q).log
+  pub segments_left : (q : ℕ) → HasSegmentLeft (master_at w q).log
   segments_left q =
       go (get w.masters q) refl
     where
@@ -57,22 +57,23 @@ module _ (w : World) (formed : IsWellFormed w) (room : HasRoom w) where
           let fits = room_of_master w q master is formed.standing room in
           segments_few master.log (omega (arith, fits.bytes))
 
-  gathered_few : (q tablet : ℕ) → All (λ gathered. length gathered.main ≤ LAST_MAIN_SEGMENT) (tablet_at (master_at w q) tablet).gather.members
-  gathered_few q tablet =
+  pub gathered_formed : (q tablet : ℕ) → All (IsFormedGathered (limits_of w)) (tablet_at (master_at w q) tablet).gather.members
+  gathered_formed q tablet =
       go (get w.masters q) refl
     where
-      Few : Gathered → Type 0
-      Few gathered = length gathered.main ≤ LAST_MAIN_SEGMENT
-
       has : (master : Master) → IsFormedMaster (limits_of w) q master → (found : Option Tablet) → get master.tablets tablet ≡ found
-          → All Few (unwrap_or found no_tablet).gather.members
-      has master its None is = All-nil Few
-      has master its (Some it) is =
-          All-weaker (IsFormedGathered (limits_of w)) Few (λ gathered read. read.few) it.gather.members (its.tablets tablet it is).gathered
+          → All (IsFormedGathered (limits_of w)) (unwrap_or found no_tablet).gather.members
+      has master its None is = All-nil (IsFormedGathered (limits_of w))
+      has master its (Some it) is = (its.tablets tablet it is).gathered
 
-      go : (found : Option Master) → get w.masters q ≡ found → All Few (tablet_at (unwrap_or found (new_master q [])) tablet).gather.members
-      go None is = All-nil Few
+      go : (found : Option Master) → get w.masters q ≡ found → All (IsFormedGathered (limits_of w)) (tablet_at (unwrap_or found (new_master q [])) tablet).gather.members
+      go None is = All-nil (IsFormedGathered (limits_of w))
       go (Some master) is = has master (formed.masters q master is) (get master.tablets tablet) refl
+
+  gathered_few : (q tablet : ℕ) → All (λ gathered. length gathered.main ≤ LAST_MAIN_SEGMENT) (tablet_at (master_at w q) tablet).gather.members
+  gathered_few q tablet =
+      All-weaker (IsFormedGathered (limits_of w)) (λ gathered. length gathered.main ≤ LAST_MAIN_SEGMENT) (λ gathered read. read.few)
+      (tablet_at (master_at w q) tablet).gather.members (gathered_formed q tablet)
 
   -- another master lives
   another_lives : (master : ℕ) → lives_another w master ≡ true → MayCrash (view w) master
