@@ -1,6 +1,6 @@
 -- A sound lane stays sound when a living master takes a Close: its tablet closes where the order's term is greater, freezes where nothing of it
 -- is staged, and where it is frozen at that term the master tells what the next owner has to know.
-use Rattle.std.proofs.Common.{◌≡◌, ◌==◌, ◌<◌, ◌&&◌, ℕ, Bool, true, false, cond, List, Option, Some, None, refl, sym, ap, subst, ◌∙◌}
+use Rattle.std.proofs.Common.{◌≡◌, ◌==◌, ◌<◌, ℕ, Bool, true, false, cond, Option, Some, None, refl, sym, ap, subst, ◌∙◌}
 use Rattle.std.specs.Prelude.{Contains, drop, nat_lt, not}
 use Rattle.std.specs.List.{list_any}
 use Rattle.std.proofs.lemmas.Bool.{and_parts, cond_both, eq-eqb, eqb-true, ltb-true}
@@ -16,26 +16,25 @@ use Rattle.rk_tablet_map.specs.declared.row.Row.{Row}
 use Rattle.rk_message.specs.declared.handover.Tenure.{Tenure}
 use Rattle.rk_message.specs.declared.message.Body.TheVariants as bodies
 use Rattle.rk_message.specs.declared.message.Message.{Message}
-use Rattle.rk_world.specs.Handovers.{close_taken, closing, tablet_closed, transfer, transferring}
+use Rattle.rk_world.specs.Handovers.{closing, tablet_closed, transfer, transferring}
 use Rattle.rk_world.specs.Master.{Master, is_settled, tablet_at, touches, with_tablet}
 use Rattle.rk_world.specs.RoleTests.{is_frozen, is_frozen_at}
 use Rattle.rk_world.specs.Step.{to_master, worked_at}
 use Rattle.rk_world.specs.Tablet.{Tablet, with_handover, without_merged}
 use Rattle.rk_world.specs.Waiting.{freezing, tablet_frozen}
 use Rattle.rk_world.specs.Worked.{Worked, changed, sending}
-use Rattle.rk_world.specs.World.{World, has_crashed, master_at, tablet_in, with_master}
+use Rattle.rk_world.specs.World.{World, has_crashed, master_at, with_master}
 use Rattle.rk_sound.specs.View.{View, view}
-use Rattle.rk_sound.specs.Messages.{CloseFits, HasSource, IsOf, SaysOf}
+use Rattle.rk_sound.specs.Messages.{CloseFits, SaysOf}
 use Rattle.rk_sound.specs.Moves.{MayClose, MayFreeze}
 use Rattle.rk_sound.specs.Changes.{MaySend}
-use Rattle.rk_sound.specs.Small.{as_closing, as_frozen, tablet_closed_in, tablet_frozen_in}
+use Rattle.rk_sound.specs.Small.{as_closing, as_frozen, tablet_frozen_in}
 use Rattle.rk_sound.specs.Whole.{IsSound}
 use Rattle.rk_laws_parts.proofs.Closed.{sound_closed}
 use Rattle.rk_laws_parts.proofs.Frozen.{sound_frozen}
 use Rattle.rk_laws_parts.proofs.Masters.{master_same, tablet_here}
 use Rattle.rk_laws_turn.proofs.OnlyPulls.{sound_unchanged}
 use Rattle.rk_laws_turn.proofs.Pairs.{insert_twice}
-use Rattle.rk_laws_turn.proofs.Sending.{MaySendAsIs}
 use Rattle.rk_laws_orders.specs.Orders.{IsOrdered, order_to}
 use Rattle.rk_laws_orders.proofs.Reports.{may_tell_transfer}
 use Rattle.rk_laws_orders.proofs.Taken.{HasRow, changes, has_row, let_through, reports, taken}

@@ -1,6 +1,6 @@
 -- A sound and well formed lane stays sound when a living master takes a Grant: where it waits for the tablet at that term, it has in its log
 -- what its source told, and pulls.
-use Rattle.std.proofs.Common.{◌≡◌, ◌==◌, ◌≤◌, ◌<◌, ◌||◌, ℕ, Bool, true, false, cond, List, [], ◌∷◌, All, Option, Some, None, refl, sym, ap, subst, ◌∙◌, inl}
+use Rattle.std.proofs.Common.{◌≡◌, ◌==◌, ◌≤◌, ◌||◌, ℕ, Bool, true, false, cond, List, [], ◌∷◌, Option, Some, None, refl, sym, ap, subst, ◌∙◌}
 use Rattle.std.specs.Prelude.{Contains, not}
 use Rattle.std.proofs.lemmas.Bool.{eq-eqb, eqb-true}
 use Rattle.std.proofs.lemmas.List.Elements.{All-contains, All-weaker}
@@ -20,7 +20,7 @@ use Rattle.rk_message.specs.declared.message.Body.TheVariants as bodies
 use Rattle.rk_message.specs.declared.message.Message.{Message}
 use Rattle.rk_world.specs.Coordinator.{Handed}
 use Rattle.rk_world.specs.Formed.{IsFormedRow, IsWellFormed}
-use Rattle.rk_world.specs.Handovers.{grant_taken, granting, tablet_granted}
+use Rattle.rk_world.specs.Handovers.{granting, tablet_granted}
 use Rattle.rk_world.specs.Limits.{limits_of}
 use Rattle.rk_world.specs.Master.{Master}
 use Rattle.rk_world.specs.Step.{to_master, worked_at}

@@ -1,6 +1,6 @@
 -- What the test tells by which a master takes an order for a tablet anew: the order's term is above that of each tablet that the master has
 -- whose range meets this one.
-use Rattle.std.proofs.Common.{◌≡◌, ◌≤◌, ◌<◌, ◌||◌, ◌&&◌, ℕ, Bool, true, false, cond, List, [], ◌∷◌, Option, Some, None, refl, sym, ap, subst, ◌∙◌, arith}
+use Rattle.std.proofs.Common.{◌≡◌, ◌<◌, ◌||◌, ℕ, Bool, true, false, cond, [], ◌∷◌, Option, Some, None, refl, subst, arith}
 use Rattle.std.specs.Prelude.{nat_lt, not, unwrap_or}
 use Rattle.std.specs.List.{list_all}
 use Rattle.std.specs.Ordering.{eq_by_cmp, nat_cmp}

@@ -6,3 +6,6 @@ pub mod Releasing
 pub mod Preparing
 pub mod Closing
 pub mod Granting
+pub mod GoingOn
+pub mod Room
+pub mod Rebuilding

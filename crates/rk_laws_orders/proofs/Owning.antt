@@ -1,5 +1,5 @@
 -- A sound lane stays sound when a living master takes an Own: it serves its tablet where its closing entry is applied, and else stays as it is.
-use Rattle.std.proofs.Common.{◌≡◌, ◌==◌, ◌<◌, ℕ, Bool, true, false, cond, Option, Some, None, refl, sym, ap, subst, ◌∙◌}
+use Rattle.std.proofs.Common.{◌≡◌, ◌==◌, ◌<◌, ℕ, Bool, true, false, cond, Option, Some, None, refl, sym, ap, subst}
 use Rattle.std.specs.Prelude.{Contains, nat_lt, not}
 use Rattle.std.proofs.lemmas.Bool.{eqb-true, ltb-true}
 use Rattle.std.proofs.lemmas.List.Elements.{All-contains}
@@ -15,7 +15,7 @@ use Rattle.rk_world.specs.Handovers.{own_taken, owning, tablet_owned}
 use Rattle.rk_world.specs.Master.{Master}
 use Rattle.rk_world.specs.Step.{to_master, worked_at}
 use Rattle.rk_world.specs.Worked.{changed}
-use Rattle.rk_world.specs.World.{World, has_crashed, master_at, tablet_in}
+use Rattle.rk_world.specs.World.{World, has_crashed, master_at}
 use Rattle.rk_sound.specs.View.{View, view}
 use Rattle.rk_sound.specs.Messages.{OwnFits, SaysOf}
 use Rattle.rk_sound.specs.Moves.{IsClosed, MayOwn}

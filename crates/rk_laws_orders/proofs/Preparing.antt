@@ -1,6 +1,6 @@
 -- A sound lane stays sound when a living master takes a Prepare: it makes ready where the order's term is above all that it keeps there, and
 -- says so; and one that made ready at that term says so again.
-use Rattle.std.proofs.Common.{◌≡◌, ◌==◌, ◌≤◌, ◌<◌, ℕ, Bool, true, false, cond, All, Option, Some, None, refl, sym, ap, subst, ◌∙◌, ⊎_elim, ◌⊎◌, inl, inr, length, arith}
+use Rattle.std.proofs.Common.{◌≡◌, ◌==◌, ◌≤◌, ◌<◌, ℕ, true, false, refl, sym, ap, subst, ◌∙◌, ⊎_elim, inl, length, arith}
 use Rattle.std.specs.Prelude.{Contains, not}
 use Rattle.std.proofs.lemmas.Bool.{cond_both, eqb-true}
 use Rattle.std.proofs.lemmas.List.Elements.{All-contains}
@@ -13,29 +13,27 @@ use Rattle.rk_transfer.specs.declared.role.Role.TheVariants as roles
 use Rattle.rk_tablet_map.specs.Phase.{lineage_of}
 use Rattle.rk_tablet_map.specs.declared.row.Row.{Row}
 use Rattle.rk_message.specs.declared.handover.Prepare.{Prepare}
-use Rattle.rk_message.specs.declared.handover.Tenure.{Tenure}
 use Rattle.rk_message.specs.declared.message.Body.TheVariants as bodies
 use Rattle.rk_message.specs.declared.message.Message.{Message}
-use Rattle.rk_world.specs.Handovers.{is_greater, prepare_taken, preparing, ready, ready_again, tablet_prepared}
+use Rattle.rk_world.specs.Handovers.{is_greater, preparing, ready, ready_again, tablet_prepared}
 use Rattle.rk_world.specs.Lineage.{is_member}
 use Rattle.rk_world.specs.Master.{Master}
 use Rattle.rk_world.specs.Step.{to_master, worked_at}
 use Rattle.rk_world.specs.Tablet.{Tablet, with_handover, without_merged}
 use Rattle.rk_world.specs.Worked.{Worked, changed, sending}
-use Rattle.rk_world.specs.World.{World, has_crashed, log_in, master_at, tablet_in}
+use Rattle.rk_world.specs.World.{World, has_crashed, log_in, master_at}
 use Rattle.rk_sound.specs.View.{View, view}
 use Rattle.rk_sound.specs.Terms.{IsBelowOthers, SentFits}
 use Rattle.rk_sound.specs.Messages.{AsksFor, PrepareFits, SaysOf}
 use Rattle.rk_sound.specs.Moves.{MayPrepare}
 use Rattle.rk_sound.specs.Posts.{StillCounts}
 use Rattle.rk_sound.specs.Changes.{MaySend}
-use Rattle.rk_sound.specs.Whole.{IsSound, SoundView}
-use Rattle.rk_laws_parts.proofs.Lists.{all_by, all_in}
+use Rattle.rk_sound.specs.Whole.{IsSound}
+use Rattle.rk_laws_parts.proofs.Lists.{all_by}
 use Rattle.rk_laws_parts.proofs.Put.{put_here}
 use Rattle.rk_laws_ready.proofs.Prepared.{sound_prepared, view_prepared, view_prepared_in}
-use Rattle.rk_laws_ready.specs.Small.{as_wanting, others_given_up, prepared, prepared_tablets, tablet_prepared_in, tablet_seen}
+use Rattle.rk_laws_ready.specs.Small.{as_wanting, others_given_up, prepared, prepared_tablets, tablet_seen}
 use Rattle.rk_laws_turn.proofs.OnlyPulls.{may_send_pulling, sound_unchanged}
-use Rattle.rk_laws_turn.proofs.Sending.{MaySendAsIs}
 use Rattle.rk_laws_orders.specs.Orders.{IsOrdered, order_to}
 use Rattle.rk_laws_orders.proofs.Greater.{IsAboveAll, above_all}
 use Rattle.rk_laws_orders.proofs.Reports.{may_tell_ready}

@@ -1,5 +1,5 @@
 -- What a living master makes of an order, as a change of the lane; and the row of the tablet that the order speaks of.
-use Rattle.std.proofs.Common.{◌≡◌, ℕ, Bool, true, false, cond, List, Option, Some, None, refl, sym, ap, subst, ◌∙◌}
+use Rattle.std.proofs.Common.{◌≡◌, ℕ, Bool, true, false, cond, List, Option, Some, None, refl, sym, subst}
 use Rattle.std.specs.Prelude.{Contains, is_some}
 use Rattle.std.proofs.lemmas.Bool.{cond-false}
 use Rattle.rk_tablet_map.proofs.Lawful.{number_of}
@@ -12,7 +12,7 @@ use Rattle.rk_world.specs.MasterStep.{master_step, order}
 use Rattle.rk_world.specs.Step.{Stepped, losing, seen_in, to_master, worked_at}
 use Rattle.rk_world.specs.Worked.{changed, sending}
 use Rattle.rk_world.specs.World.{World, has_crashed, master_at, with_master}
-use Rattle.rk_sound.specs.View.{View, view}
+use Rattle.rk_sound.specs.View.{view}
 use Rattle.rk_sound.specs.Whole.{IsSound}
 use Rattle.rk_laws_parts.proofs.Serving.{found_stands}
 use Rattle.rk_laws_turn.proofs.OnlyPulls.{sound_unchanged}

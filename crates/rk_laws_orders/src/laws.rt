@@ -4,7 +4,9 @@ ghost use Rattle.rk_message.specs.declared.handover.Grant.{Grant};
 ghost use Rattle.rk_message.specs.declared.handover.Prepare.{Prepare};
 ghost use Rattle.rk_message.specs.declared.handover.Tenure.{Tenure};
 ghost use Rattle.rk_message.specs.declared.message.Body.TheVariants as bodies;
+ghost use Rattle.rk_message.specs.declared.rebuilding.Rebuild.{Rebuild};
 ghost use Rattle.rk_world.specs.Formed.{IsWellFormed};
+ghost use Rattle.rk_world.specs.Room.{HasRoom};
 ghost use Rattle.rk_world.specs.Step.{to_master};
 ghost use Rattle.rk_world.specs.World.{World, has_crashed, log_in};
 ghost use Rattle.rk_sound.specs.Changes.{HasSegmentLeft};
@@ -12,7 +14,8 @@ ghost use Rattle.rk_sound.specs.Whole.{IsSound};
 ghost use Rattle.rk_laws_orders.specs.Orders.{IsOrdered, order_to};
 
 /// A sound lane stays sound when a master that lives takes an order of the coordinator that stands on the wire, whether or not the order
-/// still applies there.
+/// still applies there. For a Grant the lane is well formed and the master's log has room; for a Rebuild, which merges at once where there
+/// is nothing to gather, the lane is well formed and has room before and after it.
 pub fn orders_keep_lanes_sound()
     ensures owned { (w : World) (number master : ℕ) (tenure : Tenure)
         → IsSound w → has_crashed w master ≡ false → IsOrdered w number master (bodies.Own tenure)
@@ -30,4 +33,9 @@ pub fn orders_keep_lanes_sound()
         → IsSound w → IsWellFormed w → has_crashed w master ≡ false → HasSegmentLeft (log_in w master)
         → IsOrdered w number master (bodies.Grant grant)
         → IsSound (to_master w master (order_to master (bodies.Grant grant))).world }
+    ensures rebuilt { (w : World) (number master : ℕ) (rebuild : Rebuild)
+        → IsSound w → IsWellFormed w → HasRoom w → has_crashed w master ≡ false
+        → IsOrdered w number master (bodies.Rebuild rebuild)
+        → HasRoom (to_master w master (order_to master (bodies.Rebuild rebuild))).world
+        → IsSound (to_master w master (order_to master (bodies.Rebuild rebuild))).world }
 {}
