@@ -1,11 +1,11 @@
 -- A lane stays sound when a target whose side segments are stored appends the entry that closes its joining.
-use Rattle.std.proofs.Common.{◌≡◌, ℕ, ◌≤◌, ◌<◌, ◌⊎◌, max, Bool, true, false, ◌&&◌, eqb, leb, List, [], ◌∷◌, ◌++◌, length, fold, filter, Option, Some, None, is_some, refl, sym, ap, ◌∙◌, subst, ⊎_elim, inl, inr, arith}
+use Rattle.std.proofs.Common.{◌≡◌, ℕ, ◌≤◌, ◌<◌, ◌⊎◌, max, Bool, true, false, ◌&&◌, eqb, leb, List, [], ◌∷◌, ◌++◌, length, fold, Option, Some, None, is_some, refl, sym, ap, ◌∙◌, subst, ⊎_elim, inl, inr, arith}
 use Rattle.std.specs.Prelude.{slice_index_or, slice_get, IfSome, drop, take}
 use Rattle.std.specs.List.{All, Contains, flat_map, list_any}
 use Rattle.std.proofs.lemmas.Bool.{cases_Bool, cases_eq, cond-false, cond-true, false≢true, both_ways}
-use Rattle.std.proofs.lemmas.List.{append-nil, drop-append-le, take-append-le, length-append}
+use Rattle.std.proofs.lemmas.List.{append-nil, take-append-le, length-append}
 use Rattle.std.proofs.lemmas.List.Concat.{flat_map-append}
-use Rattle.std.proofs.lemmas.List.Elements.{All-contains, All-head, All-nil, All-push, All-tail, All-weaker, Contains-get_or, filter-append}
+use Rattle.std.proofs.lemmas.List.Elements.{All-contains, All-head, All-nil, All-push, All-tail, All-weaker, Contains-get_or}
 use Rattle.std.proofs.lemmas.Bool.Decides.{nat_tests}
 use Rattle.std.proofs.lemmas.Option.{IfSome_then}
 use Rattle.rk_types.specs.NumberMap.{get}
@@ -18,7 +18,7 @@ use Rattle.rk_entry.specs.declared.entry.Entry.{Entry}
 use Rattle.rk_log.specs.Known.{Known}
 use Rattle.rk_log.specs.Log.{Log, known_of, with_entry}
 use Rattle.rk_log.specs.declared.ends.EntryEnd.{EntryEnd}
-use Rattle.rk_model.proofs.Places.{slice_get_end, slice_get_front, slice_get_push_cases}
+use Rattle.rk_model.proofs.Places.{slice_get_front, slice_get_push_cases}
 use Rattle.rk_model.specs.History.{map_after}
 use Rattle.rk_table.specs.Items.{is_in}
 use Rattle.rk_transfer.specs.Handover.{is_serving}
@@ -37,11 +37,11 @@ use Rattle.rk_world.specs.Ends.{items_of}
 use Rattle.rk_world.specs.Lineage.{first_of, is_member, last_of}
 use Rattle.rk_world.specs.Marks.{is_marked, unmarked_from}
 use Rattle.rk_world.specs.Master.{touches}
-use Rattle.rk_world.specs.Material.{counting, is_joined_in, joined_from, log_material, named, named_by, side_entries, with_number}
+use Rattle.rk_world.specs.Material.{counting, joined_from, log_material, named, named_by, side_entries, with_number}
 use Rattle.rk_world.specs.Ranges.{has_all}
 use Rattle.rk_world.specs.Rebuilds.{own_place}
 use Rattle.rk_world.specs.RoleTests.{is_absent, is_idle, is_rebuilding, may_have_staged}
-use Rattle.rk_world.specs.Tablet.{Pulling, with_handover}
+use Rattle.rk_world.specs.Tablet.{with_handover}
 use Rattle.rk_world.specs.declared.work.Mark.{Mark}
 use Rattle.rk_world.specs.Written.{Written, applied_entries, lineage_rest, member_material, member_rest, member_truth}
 use Rattle.rk_world.specs.Waiting.{closing_appended}
@@ -49,12 +49,12 @@ use Rattle.rk_world.specs.World.{World, log_in, master_at, tablet_in}
 use Rattle.rk_sound.specs.View.{View, view, truths, rests}
 use Rattle.rk_sound.specs.Rows.{IsFormed, IsPlaced}
 use Rattle.rk_sound.specs.Cover.{IsEntryWithin, IsOfWholeRows}
-use Rattle.rk_sound.specs.Posts.{Post, Owner, OpeningSource, InvitedTarget, ReadyTarget, MovingSource, MovingTarget, OnlyRebuilder, FirstRebuilder, LastRebuilder, OutsideRebuilder, FormerMember, Bystander, bond_of, post_of, Holds, StillCounts}
+use Rattle.rk_sound.specs.Posts.{bond_of, post_of, Holds, StillCounts}
 use Rattle.rk_sound.specs.Roles.{RoleFits}
 use Rattle.rk_sound.specs.Handing.{is_wanting}
 use Rattle.rk_sound.specs.Counters.{IsNext, AreAboveMap}
 use Rattle.rk_sound.specs.Rest.{EachHasCall, FirstIsDone, OnlyIsUnnamed, Waits, is_call_entry}
-use Rattle.rk_sound.specs.Receives.{HandedFits, HasArrived, HasClosing, IsBare, IsHandedBy, IsReceived, IsTarget, MembersFit, NamedFit, before_closing, beginning_of, closing_joined, copied_items, entries_from, is_granted, is_joining, joined_place, named_items, scan_items, wanted_place}
+use Rattle.rk_sound.specs.Receives.{HandedFits, IsBare, IsHandedBy, IsTarget, MembersFit, NamedFit, closing_joined, copied_items, is_granted, named_items, wanted_place}
 use Rattle.rk_sound.specs.Rebuilds.{HasOwnRange, IsOfRange, IsRebuilder, MarkFits, MarkedFit, NeededOf, READ_BACKUP, RowIsRebuilt, StandsLast, TellNoMore, has_merged, marked_entries, member_marked, member_stored, stored_count}
 use Rattle.rk_sound.specs.Logs.{stored_of}
 use Rattle.rk_sound.specs.Tables.{IsTableOf}
@@ -83,38 +83,12 @@ use Rattle.rk_laws_parts.proofs.RoleTaken.{rows_apart}
 use Rattle.rk_laws_parts.proofs.Roles.{roles_looks}
 use Rattle.rk_laws_parts.proofs.Rows.{rows_grown}
 use Rattle.rk_laws_parts.proofs.Seen.{AllLook, GoesOn, LooksAs, looks_same}
+use Rattle.rk_laws_parts.proofs.ClosingTarget.{closed_goes_on, fits_closed, target_here}
 use Rattle.rk_laws_parts.proofs.Serving.{found_stands, meets_either}
 use Rattle.rk_laws_parts.proofs.Shares.{marked_none, material_outside, rest_outside, joined_same, unmarked_from_last, unless_marked}
 use Rattle.rk_laws_parts.proofs.Tables.{all_items_same}
-use Rattle.rk_laws_parts.proofs.Targets.{AreBelow, bare_pushed, own_push, target_pushed}
+use Rattle.rk_laws_parts.proofs.Targets.{AreBelow, bare_pushed, target_pushed}
 use Rattle.rk_laws_parts.proofs.Terms.{terms_looks}
-
--- a post that takes a target that joins takes it with its closing entry too
-pub fits_closed : (post : Post) (term own applied place : ℕ) → Holds (bond_of post (roles.Joining None)) term own applied → Holds (bond_of post (roles.Joining (Some place))) term own applied
-fits_closed (Owner from) term own applied place holds = absurd holds
-fits_closed OpeningSource term own applied place holds = absurd holds
-fits_closed InvitedTarget term own applied place holds = absurd holds
-fits_closed (ReadyTarget from) term own applied place holds = absurd holds
-fits_closed MovingSource term own applied place holds = absurd holds
-fits_closed (MovingTarget from) term own applied place holds = holds
-fits_closed (OnlyRebuilder from) term own applied place holds = absurd holds
-fits_closed (FirstRebuilder from) term own applied place holds = absurd holds
-fits_closed (LastRebuilder from) term own applied place holds = holds
-fits_closed OutsideRebuilder term own applied place holds = absurd holds
-fits_closed FormerMember term own applied place holds = absurd holds
-fits_closed Bystander term own applied place holds = absurd holds
-
--- so it goes on as it was
-pub closed_goes_on : (place : ℕ) → GoesOn (roles.Joining None) (roles.Joining (Some place))
-closed_goes_on place = record {
-  absent = refl;
-  wanting = refl;
-  waits = λ n is. absurd (cc is);
-  frozen = λ is. absurd (cc is);
-  joined = λ applied has. absurd has;
-  rebuilt = λ applied n has. absurd has;
-  fits = λ post term own applied holds. fits_closed post term own applied place holds;
-}
 
 module _ (v : View) (row : Row) (master : ℕ) (sound : SoundView v) (has_row : Contains v.rows row) (may : MayJoin v master row.tablet) where
   abbrev old : Handover
@@ -643,53 +617,6 @@ module _ (v : View) (row : Row) (master : ℕ) (sound : SoundView v) (has_row : 
       IsTarget x.range source.master (member_truth written x.range source) (member_material written x.range source) target.from (written q) h
       (v.pullings q x.tablet) (get v.handed x.tablet) (v.records q)
 
-  -- the target itself has its closing entry
-  target_here : (x : Row) (source target : Member) (h : Handover) (w : Written) → h.role ≡ roles.Joining None → meets h.range x.range ≡ true → place ≡ length w.entries → target.from ≤ length w.entries → w.applied ≤ length w.entries → (truth material : List Entry) (pulling : Pulling) (handed : Option Handed) (table : List Held)
-      → closing ≡ closing_joined h pulling.sealed
-      → IsTarget x.range source.master truth material target.from w h pulling handed table → IsTarget x.range source.master truth material target.from (with_one_more w closing) (as_closed place h) pulling handed table
-  target_here x source target h w joining met end from fits truth material pulling handed table is was = record {
-    from_source = was.from_source;
-    workers = was.workers;
-    pulled = λ _. was.pulled (ap is_joining joining);
-    received =
-        subst
-        (λ (sure : List Entry). IsReceived (HasArrived (roles.Joining (Some place)) pulling (scan_items truth)) x.range (scan_items truth)
-        (items_of (entries_from x.range target.from sure)) (copied_items (roles.Joining (Some place)) pulling w.sides) table)
-        (sym (take-append-le w.applied w.entries (closing ∷ []) fits))
-        (subst
-        (λ (role : Role). IsReceived (HasArrived role pulling (scan_items truth)) x.range (scan_items truth)
-        (items_of (entries_from x.range target.from (applied_entries w))) (copied_items role pulling w.sides) table) joining was.received);
-    above =
-        own_push x.range target.from w.entries closing from (AreBelow (items_of material)) was.above
-        (λ inside. All-nil (AreBelow (items_of material)));
-    told =
-        IfSome_then handed was.told (λ e told.
-        subst (λ (list : List Entry). Contains (drop target.from list) (beginning_of h e))
-        (sym (take-append-le place w.entries (closing ∷ []) (omega (arith, end))
-        ∙ ap (λ (n : ℕ). take n w.entries) end ∙ take-all w.entries))
-        (subst (λ (role : Role). Contains (drop target.from (before_closing (joined_place role) w.entries)) (beginning_of h e)) joining told));
-    early =
-        ap (λ (all : List Entry). list_any (touches x.range) (drop w.applied all)) (take-append-le target.from w.entries (closing ∷ []) from)
-        ∙ was.early;
-    closing =
-        let none : joined_from x.range target.from w.entries ≡ [] =
-        subst (λ (role : Role). HasClosing (joined_place role) (closing_joined h pulling.sealed) x.range target.from w.entries) joining was.closing in
-        subst (λ (e : Entry). HasClosing (Some place) e x.range target.from (w.entries ++ closing ∷ [])) is (record {
-          stands = ap (slice_get (w.entries ++ closing ∷ [])) end ∙ slice_get_end w.entries closing;
-          alone =
-              ap (filter (is_joined_in x.range)) (drop-append-le target.from w.entries (closing ∷ []) from)
-              ∙ filter-append (is_joined_in x.range) (drop target.from w.entries) (closing ∷ [])
-              ∙ ap (λ (list : List Entry). list ++ filter (is_joined_in x.range) (closing ∷ [])) none
-              ∙ cond-true (is_joined_in x.range closing) (closing ∷ []) []
-              (ap (λ (e : Entry). is_joined_in x.range e) is ∙ met);
-          behind = omega (arith, end, from);
-        });
-  }
-    where
-      take-all : (list : List Entry) → take (length list) list ≡ list
-      take-all [] = refl
-      take-all (e ∷ list) = ap (λ (all : List Entry). e ∷ all) (take-all list)
-
   members_on : (x : Row) → Contains v.rows x → (lineage : List Member) → lineage_of x.phase ≡ lineage → All (IsPlaced v.written) lineage → MembersFit x v.written v.handovers v.pullings v.records v.handed lineage → MembersFit x now.written now.handovers v.pullings v.records v.handed lineage
   members_on x has [] is placed fit = tt
   members_on x has (only ∷ []) is placed fit = tt
@@ -710,7 +637,7 @@ module _ (v : View) (row : Row) (master : ℕ) (sound : SoundView v) (has_row : 
       of_written (λ (w : Written). Is w (as_closed place (v.handovers q x.tablet))) q
       (λ _.
       let range : (v.handovers q x.tablet).range ≡ old.range = ap (λ (n : ℕ). (v.handovers n x.tablet).range) at ∙ ap (λ (n : ℕ). (v.handovers master n).range) its in
-      target_here x source target (v.handovers q x.tablet) (v.written q) (joins q x.tablet at its)
+      target_here place old (v.pullings master row.tablet).sealed x source target (v.handovers q x.tablet) (v.written q) (joins q x.tablet at its)
       (ap (λ (r : Range). meets r x.range) range ∙ ap (λ (r : Row). meets old.range r.range) (same_number v.rows x row sound.rows.apart has has_row its) ∙ inside)
       (at_end ∙ ap (λ (n : ℕ). length (v.written n).entries) (sym at)) from (within q) truth material (v.pullings q x.tablet) (get v.handed x.tablet) (v.records q)
       (λ i. closing_joined (v.handovers (sym at i) (sym its i)) (v.pullings (sym at i) (sym its i)).sealed) was)

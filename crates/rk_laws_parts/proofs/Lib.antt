@@ -68,6 +68,7 @@ pub mod RowSays
 pub mod RowTurned
 pub mod RoleTaken
 pub mod Joining
+pub mod ClosingTarget
 pub mod ClosingAppended
 pub mod Closed
 pub mod Frozen
@@ -94,4 +95,5 @@ pub mod SmallWorldRoom
 pub mod Holding
 pub mod AddedRows
 pub mod Missed
+pub mod AddedSays
 pub mod RowAdded
