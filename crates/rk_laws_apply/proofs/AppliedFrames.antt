@@ -14,6 +14,7 @@ use Rattle.rk_world.specs.Ends.{items_of}
 use Rattle.rk_world.specs.declared.ledger.LastCall.{LastCall}
 use Rattle.rk_sound.specs.Order.{AreAbove}
 use Rattle.rk_sound.specs.Rest.{IsLast}
+use Rattle.rk_world.specs.Premises.{IsAfterStart}
 use Rattle.rk_sound.specs.Asked.{AreOneAccepted, IsLastCall, WasAsked}
 use Rattle.rk_sound.specs.View.{View, truths, rests}
 use Rattle.rk_sound.specs.Whole.{AskedOf, OrderOf, RowsOf}
@@ -58,6 +59,10 @@ module _ (v : View) (a : Applying v) where
   last_here None of_last is = absurd is
   last_here (Some last) of_last is = ap (λ (c : Call). lane_of_key c.key) (sym is) ∙ of_last.here
 
+  last_after : (last : Option LastCall) → IfSome last (IsLastCall v.base v.lane a.call.client) → IsLast last a.call → IsAfterStart v.base a.call
+  last_after None of_last is = absurd is
+  last_after (Some last) of_last is = subst (IsAfterStart v.base) is of_last.after
+
   once : (i j : ℕ) (x y : Placed) → slice_get (after v a).journal i ≡ Some x → slice_get (after v a).journal j ≡ Some y → AreOneAccepted x y → i ≡ j
   once i j x y at_i at_j one =
       ⊎_elim
@@ -83,6 +88,9 @@ module _ (v : View) (a : Applying v) where
             (λ placed. WasAsked (v.asked placed.call.client) (after v a).journal placed.call)
             (λ placed. asked_still v.journal later (v.asked placed.call.client) placed.call) v.journal a.sound.asked.recorded)
             (last_was (v.asked a.call.client) (after v a).journal (is_last v a));
+        after_start =
+            All-push (λ placed. IsAfterStart v.base placed.call) v.journal (new v a) a.sound.asked.after_start
+            (last_after (v.asked a.call.client) (a.sound.asked.last a.call.client) (is_last v a));
         once = once;
         sent = λ n m found. request_says_still v.journal later v.asked m.from m.body (a.sound.asked.sent n m found);
         again = λ n m found. is_request_still v.journal later v.asked n m.from m.body (a.sound.asked.again n m found);

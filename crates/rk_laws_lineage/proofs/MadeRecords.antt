@@ -8,6 +8,7 @@ use Rattle.rk_types.specs.declared.history.Placed.{Placed}
 use Rattle.rk_model.specs.Merged.{IsRisingAbove, lane_of_key}
 use Rattle.rk_world.specs.Ends.{outcome_of}
 use Rattle.rk_world.specs.Journal.{has_record, next_record}
+use Rattle.rk_world.specs.Premises.{IsAfterStart}
 use Rattle.rk_world.specs.declared.ledger.LastCall.{LastCall}
 use Rattle.rk_sound.specs.View.{View}
 use Rattle.rk_sound.specs.Truth.{IsAfterSeen}
@@ -77,6 +78,8 @@ module _ (v : View) (sound_asked : AskedOf v) where
             (λ placed. WasAsked (v.asked placed.call.client) (journal ++ new ∷ []) placed.call)
             (λ placed. asked_still journal (new ∷ []) (v.asked placed.call.client) placed.call) journal was.recorded)
             (subst (λ (o : Option LastCall). WasAsked o (journal ++ new ∷ []) last.call) (sym (own_last end.client last is)) (inl refl));
+        after_start =
+            All-push (λ placed. IsAfterStart v.base placed.call) journal new was.after_start (last_is end.client last is).after;
         once = λ i j a b at_i at_j one.
             ⊎_elim
             (λ (first : slice_get journal i ≡ Some a).

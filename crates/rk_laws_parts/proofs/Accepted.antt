@@ -33,6 +33,7 @@ use Rattle.rk_world.specs.Journal.{accepted_at, as_accepted}
 use Rattle.rk_world.specs.declared.ledger.LastCall.{LastCall}
 use Rattle.rk_world.specs.Requests.{call_of}
 use Rattle.rk_world.specs.World.{World}
+use Rattle.rk_world.specs.Premises.{IsAfterStart}
 use Rattle.rk_sound.specs.View.{View, view, truths, rests}
 use Rattle.rk_sound.specs.Handing.{handed_by, handed_for_grant, target_truth}
 use Rattle.rk_sound.specs.Truth.{IsAfterSeen}
@@ -347,6 +348,9 @@ module _ (v : View) (place : ℕ) (sound : SoundView v) (may : MayAccept v place
         (All-weaker (λ placed. WasAsked (v.asked placed.call.client) v.journal placed.call)
         (λ placed. WasAsked (v.asked placed.call.client) after placed.call)
         (λ placed. asked_still (v.asked placed.call.client) placed.call) v.journal sound.asked.recorded);
+    after_start =
+        all_records_same (λ placed. IsAfterStart v.base placed.call)
+        (λ old new is. subst (IsAfterStart v.base) (sym is.call)) v.journal after same sound.asked.after_start;
     once = once;
     sent = λ n m found. request_says m.from m.body (sound.asked.sent n m found);
     again = λ n m found. is_request n m.from m.body (sound.asked.again n m found);

@@ -234,6 +234,7 @@ module _ (v : View) (client : ℕ) (last : LastCall) (sound : SoundView v) (may 
         All-weaker (λ placed. WasAsked (v.asked placed.call.client) v.journal placed.call)
         (λ placed. WasAsked (now.asked placed.call.client) v.journal placed.call)
         (λ placed. still_asked placed.call.client placed.call) v.journal sound.asked.recorded;
+    after_start = sound.asked.after_start;
     once = sound.asked.once;
     sent = λ n m found. request_says m.from m.body (sound.asked.sent n m found);
     again = λ c m found. is_request c m.from m.body (sound.asked.again c m found);

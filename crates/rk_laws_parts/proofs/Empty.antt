@@ -206,6 +206,7 @@ module _ (lane masters backups : ℕ) where
     last = λ client. tt;
     own_keys = All-nil _;
     recorded = All-nil _;
+    after_start = All-nil _;
     once = λ i j a b first second same. absurd (cc);
     sent = nothing_kept _;
     again = nothing_kept _;

@@ -70,6 +70,7 @@ module _ (v : View) (number : ℕ) (sound : SoundView v) where
     last = sound.asked.last;
     own_keys = sound.asked.own_keys;
     recorded = sound.asked.recorded;
+    after_start = sound.asked.after_start;
     once = sound.asked.once;
     sent = fewer _ sound.asked.sent;
     again = sound.asked.again;

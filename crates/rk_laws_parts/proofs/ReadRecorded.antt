@@ -27,6 +27,7 @@ use Rattle.rk_world.specs.Base.{base_map}
 use Rattle.rk_world.specs.Journal.{has_record, is_of_call, is_of_mutation, next_record}
 use Rattle.rk_world.specs.declared.ledger.LastCall.{LastCall}
 use Rattle.rk_world.specs.World.{World}
+use Rattle.rk_world.specs.Premises.{IsAfterStart}
 use Rattle.rk_sound.specs.View.{View, view, truths, rests}
 use Rattle.rk_sound.specs.Handing.{handed_by, handed_for_grant, target_truth}
 use Rattle.rk_sound.specs.Truth.{IsAfterSeen}
@@ -315,6 +316,17 @@ module _ (v : View) (master : ℕ) (call : Call) (seen : ℕ) (outcome : Outcome
       before.1.stands)
       was
 
+  -- and comes after the start
+  call_later : (last : Option LastCall) → IfSome last (IsLastCall v.base v.lane call.client) → WasAsked last v.journal call → IsAfterStart v.base call
+  call_later None of_last was = absurd was
+  call_later (Some last) of_last was =
+      ⊎_elim (λ (is : last.call ≡ call). subst (IsAfterStart v.base) is of_last.after)
+      (λ (before : (call.seq < last.call.seq) × IsAccepted v.journal call).
+      subst (IsAfterStart v.base) before.1.call_is
+      (All-contains (λ (placed : Placed). IsAfterStart v.base placed.call) v.journal before.1.placed sound.asked.after_start
+      before.1.stands))
+      was
+
   -- the record of the read is not accepted
   once : (i j : ℕ) (a b : Placed) → slice_get after i ≡ Some a → slice_get after j ≡ Some b → AreOneAccepted a b → i ≡ j
   once i j a b at_i at_j one =
@@ -339,6 +351,9 @@ module _ (v : View) (master : ℕ) (call : Call) (seen : ℕ) (outcome : Outcome
         (λ placed. WasAsked (v.asked placed.call.client) after placed.call)
         (λ placed. asked_still v.journal (new ∷ []) (v.asked placed.call.client) placed.call) v.journal sound.asked.recorded)
         (asked_still v.journal (new ∷ []) (v.asked call.client) call may.was_asked);
+    after_start =
+        All-push (λ placed. IsAfterStart v.base placed.call) v.journal new sound.asked.after_start
+        (call_later (v.asked call.client) (sound.asked.last call.client) may.was_asked);
     once = once;
     sent = λ n m found. request_says_still v.journal (new ∷ []) v.asked m.from m.body (sound.asked.sent n m found);
     again = λ n m found. is_request_still v.journal (new ∷ []) v.asked n m.from m.body (sound.asked.again n m found);

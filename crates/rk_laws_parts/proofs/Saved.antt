@@ -30,6 +30,7 @@ view_saved v client message sound may = record {
     last = sound.asked.last;
     own_keys = sound.asked.own_keys;
     recorded = sound.asked.recorded;
+    after_start = sound.asked.after_start;
     once = sound.asked.once;
     sent = sound.asked.sent;
     again =

@@ -95,6 +95,7 @@ module _ (v : View) (number : ℕ) (message : Message) (sound : SoundView v) (ma
     last = sound.asked.last;
     own_keys = sound.asked.own_keys;
     recorded = sound.asked.recorded;
+    after_start = sound.asked.after_start;
     once = sound.asked.once;
     sent =
         each_insert (λ n m. RequestSays v.asked v.journal m.from m.body) v.wire number message sound.asked.sent may.request_says;

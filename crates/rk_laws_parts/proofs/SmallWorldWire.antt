@@ -10,6 +10,7 @@ use Rattle.rk_tablet_map.specs.Phase.{lineage_of}
 use Rattle.rk_world.specs.Base.{no_base}
 use Rattle.rk_world.specs.Ledger.{asked_by}
 use Rattle.rk_world.specs.World.{backup_at, lives, log_in, records_in, written_in}
+use Rattle.rk_world.specs.Premises.{IsAfterStart}
 use Rattle.rk_sound.specs.Receives.{HandedFits, IsBare, MembersFit, NamedFit, wanted_place}
 use Rattle.rk_sound.specs.Rebuilds.{HasOwnRange, MarkFits, RowIsRebuilt}
 use Rattle.rk_sound.specs.Messages.{IsRecordAt, Says, SaysOf}
@@ -79,6 +80,7 @@ small_asked = record {
       (record { own = refl; here = lane_one; after = All-nil _ }) (λ client apart. tt);
   own_keys = all_one (λ placed. lane_of_key placed.call.key ≡ 4) small_placed lane_one;
   recorded = all_one (λ placed. WasAsked (asked_by small_ledger placed.call.client) small_journal placed.call) small_placed (inl refl);
+  after_start = all_one (λ placed. IsAfterStart no_base placed.call) small_placed (All-nil _);
   once = λ i j a b first second same. first_place small_placed a i first ∙ sym (first_place small_placed b j second);
   sent = each_message (λ number message. RequestSays (asked_by small_ledger) small_journal message.from message.body) request_one tt tt tt;
   again = each_request (λ client message. IsRequest (asked_by small_ledger) small_journal client message.from message.body) (refl, request_one);

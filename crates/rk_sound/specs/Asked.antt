@@ -68,6 +68,8 @@ pub record Asked (base : Base) (lane : ℕ) (asked : ℕ → Option LastCall) (r
   pub own_keys : HasOwnKeys lane journal
   -- each record is of a call that was asked
   pub recorded : All (λ placed. WasAsked (asked placed.call.client) journal placed.call) journal
+  -- and comes after all that the start tells of its client
+  pub after_start : All (λ placed. IsAfterStart base placed.call) journal
   -- no call has two accepted records
   pub once :
       (i j : ℕ) (a b : Placed) → slice_get journal i ≡ Some a → slice_get journal j ≡ Some b → AreOneAccepted a b → i ≡ j
