@@ -1,0 +1,6 @@
+pub mod ReadMain
+pub mod ReadLog
+pub mod ReadMember
+pub mod ReadSame
+pub mod ReadTells
+pub mod ReadPlaced

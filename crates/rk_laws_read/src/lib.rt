@@ -1,0 +1,2 @@
+//! What a rebuild has read of the logs of a lineage, once all is gathered.
+#![tactic(auto)]
