@@ -4,3 +4,11 @@ pub mod ReadMember
 pub mod ReadSame
 pub mod ReadTells
 pub mod ReadPlaced
+pub mod ReadOwn
+pub mod ReadLists
+pub mod ReadOf
+pub mod MemberBack
+pub mod GivenUp
+pub mod ByMember
+pub mod Cases
+pub mod ReadBack

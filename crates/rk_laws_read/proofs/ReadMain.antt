@@ -92,6 +92,10 @@ front_read front behind bytes rest lawful is fits =
 
 -- ---- all segments
 
+-- bytes of which some are a first part are some
+front_some : (bytes all more : List ℕ) → all ≡ bytes ++ more → 1 ≤ length bytes → 0 < length all
+front_some bytes all more is some = omega (arith, some, ap length is, length-append bytes more)
+
 -- bytes of which some are known are not none
 some_bytes : (bytes : List ℕ) → 0 < length bytes → bytes ≡ [] → ⊥
 some_bytes bytes some none = omega (arith, some, ap length none)
@@ -130,7 +134,8 @@ module _ (reach : ℕ → ℕ) (stored : ℕ → List ℕ) where
       let its_part : IsPartRead reach stored end.segment (get_or groups j []) (get_or main j []) =
       rest j end.segment (omega (arith, from)) (omega (arith, from, here)) in
       let there_some : 0 < length (stored end.segment) =
-      omega (arith, some, fits, its_part.enough, ap length its_part.front.parts, length-append its_part.bytes its_part.front.more) in
+      let enough = its_part.enough in
+      front_some its_part.bytes (stored end.segment) its_part.front.more its_part.front.parts (omega (arith, some, fits, enough)) in
       let whole : length (spelled_all group) ≤ reach first =
       part.in_order end.segment (omega (arith, from)) (mains end.segment (omega (arith, here))) (some_bytes (stored end.segment) there_some) in
       let enough = front_read group [] part.bytes (part.front.more ++ part.copied.more) its
