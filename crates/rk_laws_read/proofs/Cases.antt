@@ -32,9 +32,9 @@ use Rattle.rk_laws_crash.proofs.Unmarked.{first_among}
 use Rattle.rk_laws_read.specs.ReadBack.{IsReadBack, all_of}
 use Rattle.rk_laws_read.proofs.ByMember.{both_read, first_own, gather_of, last_own, only_own, only_read}
 use Rattle.rk_laws_read.proofs.GivenUp.{given_up_told}
-use Rattle.rk_laws_read.proofs.MemberBack.{first_told, last_back, main, marked, part, sides_applied, truth_read}
+use Rattle.rk_laws_read.proofs.MemberBack.{first_told, free_read, last_back, main, marked, part, sides_applied, truth_read}
 use Rattle.rk_laws_read.proofs.ReadLists.{before_has, line_has, read_back}
-use Rattle.rk_laws_read.proofs.ReadMember.{free_from, free_part, marked_of_all, side_part}
+use Rattle.rk_laws_read.proofs.ReadMember.{free_part, marked_of_all, side_part}
 use Rattle.rk_laws_read.proofs.ReadOf.{away, dead, is_log}
 use Rattle.rk_laws_read.proofs.ReadOwn.{apart, in_lineage, in_row, marked_fit, own_done, own_is, rebuilder}
 use Rattle.rk_laws_read.proofs.ReadTells.{both_told, items_among, stand_among, stand_told}
@@ -183,6 +183,12 @@ module _ (v : View) (row : Row) (to place : ℕ) (ends : List Ended) (sound : So
       (Contains-append_cases (member_truth v.written row.range last) [] e there))
       (Contains-append_cases (member_truth v.written row.range first) (member_truth v.written row.range last ++ []) e at)
 
+  -- so it was read, where what was read has all that is applied of the first
+  read_or_last : (first last : Member) (read : List Entry) → ((e : Entry) → Contains (member_truth v.written row.range first) e → Contains read e) → (e : Entry) → Contains (lineage_truth v.base v.written row.range (first ∷ last ∷ [])) e → Contains (all_of (read ∷ [])) e ⊎ Contains (member_truth v.written row.range last) e
+  read_or_last first last read has e at =
+      ⊎_elim (λ (its : Contains (member_truth v.written row.range first) e). inl (Contains-append_left read [] e (has e its)))
+      (λ (its : Contains (member_truth v.written row.range last) e). inr its) (of_two first last e at)
+
   -- the first one has nothing that is not applied
   first_done : (first last : Member) → (may : MayTakeRebuilt v row (first ∷ last ∷ []) to place ends) → IsDone v.written row.range first
   first_done first last may =
@@ -220,16 +226,41 @@ module _ (v : View) (row : Row) (to place : ℕ) (ends : List Ended) (sound : So
       (sides_of_two v.written row.range own_member m (names_first own_member m may) (truth ++ read)
       (λ e at. Contains-append_left truth read e (in_first own_member m e at)))
       (in_last own_member m)
-      (λ e at.
-      ⊎_elim
-      (λ (its : Contains (member_truth v.written row.range own_member) e).
-      inl (Contains-append_left own [] e (subst (λ (l : List Entry). Contains l e) (sym done.all) its)))
-      (λ (its : Contains (member_truth v.written row.range m) e). inr its)
-      (of_two own_member m e at))
+      (read_or_last own_member m own (λ e at. subst (λ (l : List Entry). Contains l e) (sym done.all) at))
       (All-cons (λ list. AreAmong list (truth ++ read)) own [] of_own (All-nil (λ list. AreAmong list (truth ++ read))))
       (All-nil (λ list. list ≡ [])))
 
-  -- the master is the last one
+  -- the master is the last one: what the first has in marked pieces is told by its own entries, and by those of the master
+  last_own_told : (g : Gathered) → (there : Contains (v.gathers to row.tablet).members g) → (may : MayTakeRebuilt v row (g.member ∷ member_at to place ∷ []) to place ends) → AreAmong (counted_of row.range g) (lineage_truth v.base v.written row.range (g.member ∷ own_member ∷ []) ++ [])
+  last_own_told g there may =
+      let lineage : List Member = g.member ∷ own_member ∷ [] in
+      let m : Member = g.member in
+      let truth : List Entry = lineage_truth v.base v.written row.range lineage in
+      let its_marked : List Entry = marked v row lineage to place ends sound readable some few may g there in
+      let all_marked : List Entry = member_marked v.written row.range m in
+      let material : List Entry = member_material v.written row.range m in
+      let stored : List Entry = member_stored v.logs v.written v.stored row.range own_member in
+      let w : Written = v.written to in
+      let done : IsDone v.written row.range own_member = own_done v row lineage to place ends sound some may in
+      let any : (e : Entry) → Contains truth e → Contains (truth ++ []) e = λ e at. Contains-append_left truth [] e at in
+      let of_stored : (e : Entry) → Contains stored e → Contains truth e =
+      λ e at.
+      in_last m own_member e
+      (subst (λ (l : List Entry). Contains l e) done.all
+      (Contains-append_left (counting row.range (unmarked_from w.marks place w.entries)) (side_material row.range own_member w) e
+      (first_among w.marks row.range place _ w.entries e at))) in
+      first_told v row lineage to place ends sound readable some few may g there (truth ++ [])
+      (among_then its_marked all_marked (truth ++ [])
+      (stand_told its_marked all_marked
+      (marked_of_all row.range m.from (v.written m.master) (main v row lineage to place ends sound readable some few may g there) _
+      (is_log v row lineage to place ends sound readable some few may g there)))
+      (among_then all_marked (material ++ stored) (truth ++ [])
+      (tells_among all_marked (material ++ stored)
+      ((marked_fit v row lineage to place ends sound some may).0 (dead v row lineage to place ends sound readable some few may g there)))
+      (both_told material stored (truth ++ []) (stand_told material (truth ++ []) (λ e at. any e (first_in m own_member may e at)))
+      (stand_told stored (truth ++ []) (λ e at. any e (of_stored e at))))))
+      (λ e at. any e (first_in m own_member may e at))
+
   pub last_own_back : (g : Gathered) → (v.gathers to row.tablet).members ≡ g ∷ [] → MayTakeRebuilt v row (g.member ∷ member_at to place ∷ []) to place ends → IsBack
   last_own_back g are may =
       let lineage : List Member = g.member ∷ own_member ∷ [] in
@@ -237,42 +268,10 @@ module _ (v : View) (row : Row) (to place : ℕ) (ends : List Ended) (sound : So
       let there : Contains gather.members g = subst (λ (l : List Gathered). Contains l g) (sym are) (0, omega arith, refl) in
       let truth : List Entry = lineage_truth v.base v.written row.range lineage in
       let other : m.master ≡ to → ⊥ = away v row lineage to place ends sound readable some few may g there in
-      let gone = dead v row lineage to place ends sound readable some few may g there in
-      let fit = marked_fit v row lineage to place ends sound some may in
-      let done : IsDone v.written row.range own_member = own_done v row lineage to place ends sound some may in
-      let its_marked : List Entry = marked v row lineage to place ends sound readable some few may g there in
-      let all_marked : List Entry = member_marked v.written row.range m in
-      let stored : List Entry = member_stored v.logs v.written v.stored row.range own_member in
-      let w : Written = v.written to in
-      let any : (e : Entry) → Contains truth e → Contains (truth ++ []) e = λ e at. Contains-append_left truth [] e at in
-      let of_marked : AreAmong its_marked (truth ++ []) =
-      among_then its_marked all_marked (truth ++ [])
-      (stand_told its_marked all_marked
-      (marked_of_all row.range m.from (v.written m.master) (main v row lineage to place ends sound readable some few may g there) _
-      (is_log v row lineage to place ends sound readable some few may g there)))
-      (among_then all_marked (member_material v.written row.range m ++ stored) (truth ++ [])
-      (tells_among all_marked (member_material v.written row.range m ++ stored) (fit.0 gone))
-      (both_told (member_material v.written row.range m) stored (truth ++ [])
-      (stand_told (member_material v.written row.range m) (truth ++ []) (λ e at. any e (first_in m own_member may e at)))
-      (stand_told stored (truth ++ [])
-      (λ e at.
-      any e
-      (in_last m own_member e
-      (subst (λ (l : List Entry). Contains l e) done.all
-      (Contains-append_left (counting row.range (unmarked_from w.marks place w.entries)) (side_material row.range own_member w) e
-      (first_among w.marks row.range place _ w.entries e at)))))))) in
       conclude lineage (g ∷ []) (counted_of row.range g ∷ own ∷ []) may are (last_own row.range to own g own_member other refl)
       (own_back lineage may truth (counted_of row.range g ∷ []) (in_last m own_member)
-      (λ e at.
-      ⊎_elim
-      (λ (its : Contains (member_truth v.written row.range m) e).
-      inl (Contains-append_left (counted_of row.range g) [] e (truth_read v row lineage to place ends sound readable some few may g there e its)))
-      (λ (its : Contains (member_truth v.written row.range own_member) e). inr its)
-      (of_two m own_member e at))
-      (All-cons (λ list. AreAmong list (truth ++ [])) (counted_of row.range g) []
-      (first_told v row lineage to place ends sound readable some few may g there (truth ++ []) of_marked
-      (λ e at. any e (first_in m own_member may e at)))
-      (All-nil (λ list. AreAmong list (truth ++ [])))))
+      (read_or_last m own_member (counted_of row.range g) (truth_read v row lineage to place ends sound readable some few may g there))
+      (All-cons (λ list. AreAmong list (truth ++ [])) (counted_of row.range g) [] (last_own_told g there may) (All-nil (λ list. AreAmong list (truth ++ [])))))
 
   -- both were read
   pub both_read_back : (a b : Gathered) → (v.gathers to row.tablet).members ≡ a ∷ b ∷ [] → MayTakeRebuilt v row (a.member ∷ b.member ∷ []) to place ends → IsBack
@@ -291,21 +290,12 @@ module _ (v : View) (row : Row) (to place : ℕ) (ends : List Ended) (sound : So
       let fit = marked_fit v row lineage to place ends sound some may in
       let read : List Entry = part v row lineage to place ends sound readable some few may b last in
       let all : List Entry = member_material v.written row.range a.member in
-      let w : Written = v.written b.member.master in
       let any : (e : Entry) → Contains truth e → Contains (truth ++ read) e = λ e at. Contains-append_left truth read e at in
-      let sure : List Entry = free_part row.range b.member.from w (applied_entries w) in
-      let frees : (e : Entry) → Contains (free_part row.range b.member.from w (main v row lineage to place ends sound readable some few may b last)) e → Contains (truth ++ read) e =
-      λ e at.
-      ⊎_elim
-      (λ (here : Contains sure e).
-      any e (in_last a.member b.member e (Contains-append_left sure (side_part row.range b.member.from w (applied_entries w)) e here)))
-      (λ (behind : Contains read e). Contains-append_right truth read e behind)
-      (Contains-append_cases sure read e
-      (free_from row.range b.member.from w (main v row lineage to place ends sound readable some few may b last) _
-      (is_log v row lineage to place ends sound readable some few may b last) e at)) in
       let of_first : AreAmong (counted_of row.range a) (truth ++ read) =
       first_told v row lineage to place ends sound readable some few may a first (truth ++ read)
-      (given_up_told v row a b to place ends sound readable some few may first last (truth ++ read) (λ e at. any e (first_in a.member b.member may e at)) frees
+      (given_up_told v row a b to place ends sound readable some few may first last (truth ++ read) (λ e at. any e (first_in a.member b.member may e at))
+      (free_read v row lineage to place ends sound readable some few may b last (truth ++ read) (λ e at. any e (in_last a.member b.member e at))
+      (λ e at. Contains-append_right truth read e at))
       (tells_among (member_marked v.written row.range a.member) (all ++ member_stored v.logs v.written v.stored row.range b.member)
       (fit.0 (dead v row lineage to place ends sound readable some few may a first))))
       (λ e at. any e (first_in a.member b.member may e at)) in
@@ -318,11 +308,6 @@ module _ (v : View) (row : Row) (to place : ℕ) (ends : List Ended) (sound : So
       (sides_of_two v.written row.range a.member b.member (names_first a.member b.member may) (truth ++ read)
       (λ e at. any e (in_first a.member b.member e at)))
       (in_last a.member b.member)
-      (λ e at.
-      ⊎_elim
-      (λ (its : Contains (member_truth v.written row.range a.member) e).
-      inl (Contains-append_left (counted_of row.range a) [] e (truth_read v row lineage to place ends sound readable some few may a first e its)))
-      (λ (its : Contains (member_truth v.written row.range b.member) e). inr its)
-      (of_two a.member b.member e at))
+      (read_or_last a.member b.member (counted_of row.range a) (truth_read v row lineage to place ends sound readable some few may a first))
       (All-cons (λ list. AreAmong list (truth ++ read)) (counted_of row.range a) [] of_first (All-nil (λ list. AreAmong list (truth ++ read))))
       (All-cons (λ list. list ≡ []) own [] none (All-nil (λ list. list ≡ []))))

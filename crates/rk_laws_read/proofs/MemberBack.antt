@@ -124,6 +124,14 @@ module _ (v : View) (row : Row) (lineage : List Member) (to place : ℕ) (ends :
         (all_read row.range m.from w main (side_read gathered) log),
   )
 
+  -- what was read and bears no mark is applied, or of the part
+  pub free_read : (others : List Entry) → ((e : Entry) → Contains (member_truth v.written row.range gathered.member) e → Contains others e) → ((e : Entry) → Contains part e → Contains others e) → (e : Entry) → Contains (free_part row.range gathered.member.from (v.written gathered.member.master) main) e → Contains others e
+  free_read others truths parts e at =
+      ⊎_elim
+      (λ (here : Contains sure e). truths e (Contains-append_left sure (side_part row.range m.from w (applied_entries w)) e here))
+      (λ (behind : Contains part e). parts e behind)
+      (Contains-append_cases sure part e (free_from row.range m.from w main (side_read gathered) log e at))
+
   -- of the last member a first part of the rest was read, where the lists before tell nothing new, and have all else of the truth
   pub last_back : (truth front : List Entry) (before after : List (List Entry))
       → AreAmong (member_marked v.written row.range gathered.member) (front ++ member_material v.written row.range gathered.member)
@@ -140,10 +148,7 @@ module _ (v : View) (row : Row) (lineage : List Member) (to place : ℕ) (ends :
       λ e at. has e (Contains-append_left sure (side_part row.range m.from w (applied_entries w)) e at) in
       let free_in : AreAmong (free_part row.range m.from w main) (truth ++ part) =
       stand_told (free_part row.range m.from w main) (truth ++ part)
-      (λ e at.
-      ⊎_elim (λ (here : Contains sure e). Contains-append_left truth part e (in_sure e here))
-      (λ (behind : Contains part e). Contains-append_right truth part e behind)
-      (Contains-append_cases sure part e (free_from row.range m.from w main (side_read gathered) log e at))) in
+      (free_read (truth ++ part) (λ e at. Contains-append_left truth part e (has e at)) (λ e at. Contains-append_right truth part e at)) in
       let of_sides : AreAmong sides (truth ++ part) =
       among_then sides (side_part row.range m.from w w.entries) (truth ++ part)
       (stand_told sides (side_part row.range m.from w w.entries) (side_of_all row.range m.from w main (side_read gathered) log)) sides_in in

@@ -13,7 +13,7 @@ use Rattle.rk_laws_parts.proofs.Lists.{all_by}
 use Rattle.rk_laws_parts.proofs.Needed.{AreAmong}
 use Rattle.rk_laws_crash.proofs.Among.{flat_from, flat_of}
 use Rattle.rk_laws_crash.proofs.MergeTells.{all_stand_told, all_told}
-use Rattle.rk_laws_read.specs.ReadBack.{IsReadBack, all_of}
+use Rattle.rk_laws_read.specs.ReadBack.{IsReadBack, TellInOrder, all_of}
 use Rattle.rk_laws_read.proofs.ReadTells.{Among, each_among, stand_among}
 
 -- lists that have no entry
@@ -67,6 +67,29 @@ module _ (truth rest : List Entry) (before : List (List Entry)) (front part behi
       let of = flat_from (λ (list : List Entry). list) before entry at in
       flat_of (λ (list : List Entry). list) all of.0 entry (Contains-append_left before (line ∷ after) of.0 of.1) of.2
 
+  -- the ends of what was read, in their order
+  in_order : ((entry : Entry) → Contains front entry → Contains truth entry) → All (λ list. AreAmong list (truth ++ part)) before → AreAmong behind (truth ++ part) → AreNone after → TellInOrder truth part (before ++ (front ++ (part ++ behind)) ∷ after)
+  in_order fronts earlier later none = record {
+    before = map told before;
+    first = told front;
+    behind = told behind;
+    after = map told after;
+    split =
+        map-append told before (line ∷ after)
+        ∙ ap (λ (ends : List Ended). map told before ++ ends ∷ map told after)
+        (flat_map-append told_by front (part ++ behind) ∙ ap (λ (ends : List Ended). told front ++ ends) (flat_map-append told_by part behind)
+        ∙ sym (append_assoc (told front) (told part) (told behind)));
+    before_told =
+        All-map (All (Contains (told (truth ++ part)))) told before
+        (All-weaker (λ (list : List Entry). AreAmong list (truth ++ part)) (λ (list : List Entry). All (Contains (told (truth ++ part))) (told list))
+        (λ list its. all_by (Contains (told (truth ++ part))) (told list) its.1) before earlier);
+    first_told = all_by (Contains (told truth)) (told front) (stand_among told_by front truth fronts);
+    behind_told = all_by (Contains (told (truth ++ part))) (told behind) later.1;
+    after_none =
+        All-map (λ (ends : List Ended). ends ≡ []) told after
+        (All-weaker (λ (list : List Entry). list ≡ []) (λ (list : List Entry). told list ≡ []) (λ list is. ap told is) after none);
+  }
+
   pub read_back : rest ≡ part ++ left
       → ((entry : Entry) → Contains (truth ++ part) entry → Contains (all_of (before ++ (front ++ (part ++ behind)) ∷ after)) entry)
       → ((entry : Entry) → Contains front entry → Contains truth entry)
@@ -88,24 +111,5 @@ module _ (truth rest : List Entry) (before : List (List Entry)) (front part behi
     told_all =
         all_by (Contains (told (all_of all))) (told truth)
         (stand_among told_by truth (all_of all) (λ entry at. has entry (Contains-append_left truth part entry at)));
-    ends = record {
-      before = map told before;
-      first = told front;
-      behind = told behind;
-      after = map told after;
-      split =
-          map-append told before (line ∷ after)
-          ∙ ap (λ (ends : List Ended). map told before ++ ends ∷ map told after)
-          (flat_map-append told_by front (part ++ behind) ∙ ap (λ (ends : List Ended). told front ++ ends) (flat_map-append told_by part behind)
-          ∙ sym (append_assoc (told front) (told part) (told behind)));
-      before_told =
-          All-map (All (Contains (told (truth ++ part)))) told before
-          (All-weaker (λ (list : List Entry). AreAmong list (truth ++ part)) (λ (list : List Entry). All (Contains (told (truth ++ part))) (told list))
-          (λ list its. all_by (Contains (told (truth ++ part))) (told list) its.1) before earlier);
-      first_told = all_by (Contains (told truth)) (told front) (stand_among told_by front truth fronts);
-      behind_told = all_by (Contains (told (truth ++ part))) (told behind) later.1;
-      after_none =
-          All-map (λ (ends : List Ended). ends ≡ []) told after
-          (All-weaker (λ (list : List Entry). list ≡ []) (λ (list : List Entry). told list ≡ []) (λ list is. ap told is) after none);
-    };
+    ends = in_order fronts earlier later none;
   }

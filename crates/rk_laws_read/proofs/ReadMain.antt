@@ -3,7 +3,7 @@
 use Rattle.std.proofs.Common.{◌≡◌, ℕ, zero, suc, ◌+◌, ◌-◌, ◌<◌, ◌≤◌, ◌⊎◌, inl, inr, true, List, [], ◌∷◌, ◌++◌, length, get_or, Some, refl, sym, ap, subst, ◌∙◌, ⊎_elim, arith, append_assoc, length-append}
 use Rattle.std.specs.Prelude.{slice_get, take, drop}
 use Rattle.std.specs.List.{All, flat_map}
-use Rattle.std.proofs.lemmas.List.{take-append-drop, length-take-le}
+use Rattle.std.proofs.lemmas.List.{append-nil, length-take-le, take-append-drop}
 use Rattle.std.proofs.lemmas.List.Elements.{All-head, All-tail, All-take, recursion_from_All}
 use Rattle.rk_entry.specs.declared.entry.Entry.{Entry}
 use Rattle.rk_entry.specs.Spelling.{spelled}
@@ -96,12 +96,41 @@ front_read front behind bytes rest lawful is fits =
 front_some : (bytes all more : List ℕ) → all ≡ bytes ++ more → 1 ≤ length bytes → 0 < length all
 front_some bytes all more is some = omega (arith, some, ap length is, length-append bytes more)
 
--- bytes of which some are known are not none
-some_bytes : (bytes : List ℕ) → 0 < length bytes → bytes ≡ [] → ⊥
-some_bytes bytes some none = omega (arith, some, ap length none)
-
 module _ (reach : ℕ → ℕ) (stored : ℕ → List ℕ) where
-  -- an entry that ends within what is reached was read
+  -- of a segment that spells a group
+  module _ (first : ℕ) (group read : List Entry) (lawful : All IsLawfulEntry group) (part : IsPartRead reach stored first group read) where
+    spelt : spelled_all group ≡ part.bytes ++ (part.front.more ++ part.copied.more)
+    spelt =
+        part.copied.parts ∙ ap (λ (bytes : List ℕ). bytes ++ part.copied.more) part.front.parts
+        ∙ append_assoc part.bytes part.front.more part.copied.more
+
+    -- an entry that ends within what is reached was read
+    one_reached : (place : ℕ) (end : EntryEnd) → slice_get (ends_in first 0 group) place ≡ Some end → end.offset ≤ reach end.segment → place < length read
+    one_reached place end at fits =
+        let is = end_in first 0 group place end at in
+        let known : reach end.segment ≤ length part.bytes = subst (λ (n : ℕ). reach n ≤ length part.bytes) (sym is.segment_is) part.enough in
+        let front : List Entry = take (suc place) group in
+        let whole : front ++ drop (suc place) group ≡ group = take-append-drop (suc place) group in
+        let enough = front_read front (drop (suc place) group) part.bytes (part.front.more ++ part.copied.more) (All-take IsLawfulEntry (suc place) group lawful)
+        (ap spelled_all whole ∙ spelt) (omega (arith, is.offset_is, fits, known)) in
+        let count : length front ≡ suc place = length-take-le (suc place) group (omega (arith, is.within)) in
+        omega (arith, enough, count, ap length part.read_is)
+
+    -- all were, where all bytes are reached
+    all_reached : length (spelled_all group) ≤ reach first → length group ≤ length read
+    all_reached whole =
+        let enough = front_read group [] part.bytes (part.front.more ++ part.copied.more) lawful
+        (ap spelled_all (append-nil group) ∙ spelt) (omega (arith, whole, part.enough)) in
+        omega (arith, enough, ap length part.read_is)
+
+  -- a segment that is reached has bytes stored
+  reached_some : (segment : ℕ) (group read : List Entry) → IsPartRead reach stored segment group read → 0 < reach segment → stored segment ≡ [] → ⊥
+  reached_some segment group read part some none =
+      let enough = part.enough in
+      let there = front_some part.bytes (stored segment) part.front.more part.front.parts (omega (arith, some, enough)) in
+      omega (arith, there, ap length none)
+
+  -- of all segments
   pub reached : (first : ℕ) (groups main : List (List Entry)) → All (All IsLawfulEntry) groups → ArePartsRead reach stored first groups main → ((n : ℕ) → n < first + length main → is_main n ≡ true) → (place : ℕ) (end : EntryEnd) → slice_get (group_ends first groups) place ≡ Some end → 1 ≤ end.offset → end.segment < first + length main → end.offset ≤ reach end.segment → place < length (flat_map (λ list. list) main)
   reached first [] main lawful parts mains place end at some here fits = absurd (cc at)
   reached first (group ∷ groups) [] lawful parts mains place end at some here fits =
@@ -112,38 +141,18 @@ module _ (reach : ℕ → ℕ) (stored : ℕ → List ℕ) where
       λ k segment is within. parts (suc k) segment (omega (arith, is)) (omega (arith, within)) in
       let part : IsPartRead reach stored first group read = parts 0 first (omega arith) (omega arith) in
       let its : All IsLawfulEntry group = All-head (All IsLawfulEntry) group groups lawful in
-      let spelt : spelled_all group ≡ part.bytes ++ (part.front.more ++ part.copied.more) =
-      part.copied.parts ∙ ap (λ (bytes : List ℕ). bytes ++ part.copied.more) part.front.parts
-      ∙ append_assoc part.bytes part.front.more part.copied.more in
       let size = length-append read (flat_map (λ (list : List Entry). list) main) in
       ⊎_elim
       (λ (one : slice_get (ends_in first 0 group) place ≡ Some end).
-      let is = end_in first 0 group place end one in
-      let known : reach end.segment ≤ length part.bytes = subst (λ (n : ℕ). reach n ≤ length part.bytes) (sym is.segment_is) part.enough in
-      let front : List Entry = take (suc place) group in
-      let whole : front ++ drop (suc place) group ≡ group = take-append-drop (suc place) group in
-      let enough = front_read front (drop (suc place) group) part.bytes (part.front.more ++ part.copied.more) (All-take IsLawfulEntry (suc place) group its)
-      (ap spelled_all whole ∙ spelt) (omega (arith, is.offset_is, fits, known)) in
-      let count : length front ≡ suc place = length-take-le (suc place) group (omega (arith, is.within)) in
-      omega (arith, enough, count, ap length part.read_is, size))
+      omega (arith, one_reached first group read its part place end one fits, size))
       (λ (there : (j : ℕ) × (place ≡ length (ends_in first 0 group) + j) × (slice_get (group_ends (suc first) groups) j ≡ Some end)).
       let from = segment_from (suc first) groups there.0 end there.2 in
       let later = reached (suc first) groups main (All-tail (All IsLawfulEntry) group groups lawful) rest (λ n few. mains n (omega (arith, few)))
       there.0 end there.2 some (omega (arith, here)) fits in
       let j : ℕ = end.segment - suc first in
-      let its_part : IsPartRead reach stored end.segment (get_or groups j []) (get_or main j []) =
-      rest j end.segment (omega (arith, from)) (omega (arith, from, here)) in
-      let there_some : 0 < length (stored end.segment) =
-      let enough = its_part.enough in
-      front_some its_part.bytes (stored end.segment) its_part.front.more its_part.front.parts (omega (arith, some, fits, enough)) in
       let whole : length (spelled_all group) ≤ reach first =
-      part.in_order end.segment (omega (arith, from)) (mains end.segment (omega (arith, here))) (some_bytes (stored end.segment) there_some) in
-      let enough = front_read group [] part.bytes (part.front.more ++ part.copied.more) its
-      (ap spelled_all (none_behind group) ∙ spelt) (omega (arith, whole, part.enough)) in
+      part.in_order end.segment (omega (arith, from)) (mains end.segment (omega (arith, here)))
+      (reached_some end.segment (get_or groups j []) (get_or main j []) (rest j end.segment (omega (arith, from)) (omega (arith, from, here))) (omega (arith, some, fits))) in
       let place_is : place ≡ length (ends_in first 0 group) + there.0 = there.1 in
-      omega (arith, enough, later, place_is, ends_many first 0 group, ap length part.read_is, size))
+      omega (arith, all_reached first group read its part whole, later, place_is, ends_many first 0 group, size))
       (stands_split (ends_in first 0 group) (group_ends (suc first) groups) place end at)
-    where
-      none_behind : (group : List Entry) → group ++ [] ≡ group
-      none_behind [] = refl
-      none_behind (entry ∷ group) = ap (λ (l : List Entry). entry ∷ l) (none_behind group)

@@ -1,4 +1,4 @@
--- When what a rebuild has read is known: it may be taken. And what it has read, member by member.
+-- When a Rebuilt may be taken in a lane that is well formed, and what its master has read of the lineage by then, member by member.
 use Rattle.std.specs.Prelude.{length, ◌≤◌, ℕ, List, All}
 use Rattle.rk_types.specs.declared.call.Ended.{Ended}
 use Rattle.rk_types.specs.declared.lineage.Member.{Member}
