@@ -1,0 +1,17 @@
+use Rattle.rk_laws_made.proofs.RebuiltEnds.{ends_known, ends_reach, others_tell, records_made, records_staged}
+use Rattle.rk_laws_made.proofs.laws.rebuilt_ends_make_the_staged_records.Goals as goal
+
+pub returns-clause-staged : goal.returns-clause-staged
+returns-clause-staged c = records_staged
+
+pub returns-clause-made : goal.returns-clause-made
+returns-clause-made c = records_made
+
+pub returns-clause-others : goal.returns-clause-others
+returns-clause-others c = others_tell
+
+pub returns-clause-known : goal.returns-clause-known
+returns-clause-known c = ends_known
+
+pub returns-clause-reached : goal.returns-clause-reached
+returns-clause-reached c = ends_reach
