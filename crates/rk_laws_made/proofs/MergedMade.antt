@@ -33,7 +33,7 @@ use Rattle.rk_laws_parts.proofs.Records.{filter_from}
 use Rattle.rk_laws_lineage.specs.Rebuilt.{made_of}
 use Rattle.rk_laws_apply.proofs.MergedEnds.{HasReached, merged_reaches, reached_told}
 use Rattle.rk_laws_read.specs.ReadBack.{TellInOrder, all_of}
-use Rattle.rk_laws_made.specs.Made.{AreAfterStart, waits}
+use Rattle.rk_laws_made.specs.Made.{waits}
 use Rattle.rk_laws_made.proofs.Beside.{IsEndOfLast, IsOfLast, last_inside}
 use Rattle.rk_laws_made.proofs.LastEnds.{found_end, found_told, last_ends}
 use Rattle.rk_laws_made.proofs.MadeOf.{AreOnce, HasMade, HasNone, IsMadeOf, made_each, made_for, makes_all, once_made}
@@ -110,10 +110,11 @@ one_record journal a b once at_a at_b is client seq =
 -- ---- what was read of a row
 
 -- of a row were read its truth and a part behind it, whose ends of calls are of different clients; last calls come after the start,
--- and each record is of a call that was asked
+-- and each record is of a call that was asked and does too
 pub record Reads (base : Base) (lane : ℕ) (asked : ℕ → Option LastCall) (journal : List Placed) (truth part : List Entry) (members : List (List Entry)) : Type 0 where
   pub last_calls : (client : ℕ) → IfSome (asked client) (IsLastCall base lane client)
   pub recorded : All (λ placed. WasAsked (asked placed.call.client) journal placed.call) journal
+  pub after_start : All (λ placed. IsAfterStart base placed.call) journal
   pub order : TellInOrder truth part members
   pub known : All (IsKnown base journal) (told truth)
   pub staged : All (IsStaged base asked journal) part
@@ -317,10 +318,10 @@ module _ (base : Base) (lane : ℕ) (asked : ℕ → Option LastCall) (journal :
         (λ end at. known_now end (merged_told end (last_ends (merged_ends members) end at)))
 
     -- what an end that is told reaches, the last end of its client does
-    module _ (once : AreOnce journal) (after : AreAfterStart base journal) where
-      after_now : AreAfterStart base (journal ++ made)
+    module _ (once : AreOnce journal) where
+      after_now : All (λ placed. IsAfterStart base placed.call) (journal ++ made)
       after_now =
-          All-append (λ (placed : Placed). IsAfterStart base placed.call) journal made after
+          All-append (λ (placed : Placed). IsAfterStart base placed.call) journal made r.after_start
           (all_by (λ (placed : Placed). IsAfterStart base placed.call) made
           (λ placed stands.
           let one : IsOfLast asked placed = All-contains (IsOfLast asked) made placed made_last stands in

@@ -27,7 +27,7 @@ use Rattle.rk_laws_lineage.specs.Rebuilt.{MakeRecords, journal_with, made_of}
 use Rattle.rk_laws_lineage.proofs.Histories.{history_of}
 use Rattle.rk_laws_apply.proofs.AppliedRest.{rest_counts}
 use Rattle.rk_laws_read.specs.ReadBack.{IsReadBack}
-use Rattle.rk_laws_made.specs.Made.{AreAfterStart, without_stamp}
+use Rattle.rk_laws_made.specs.Made.{without_stamp}
 use Rattle.rk_laws_made.proofs.Beside.{IsEndOfLast, history_beside, staged_ends}
 use Rattle.rk_laws_made.proofs.MadeOf.{AreOnce, legal_unstamped, made_unstamped}
 use Rattle.rk_laws_made.proofs.MergedMade.{Reads, lasts_known, lasts_reach, made_inside, made_last, made_merged, made_once, made_zip}
@@ -78,6 +78,7 @@ module _ (v : View) (row : Row) (members : List (List Entry)) (sound : SoundView
   reads = record {
     last_calls = sound.asked.last;
     recorded = sound.asked.recorded;
+    after_start = sound.asked.after_start;
     order = read.ends;
     known = history.known;
     staged = staged;
@@ -151,8 +152,8 @@ module _ (v : View) (row : Row) (members : List (List Entry)) (sound : SoundView
       subst (λ (l : List Placed). All (IsKnown v.base (v.journal ++ l)) (ends_of (completions_from [] (merged_ends members)))) (sym made_is)
       (lasts_known v.base v.lane v.asked v.journal (truths v row) part members reads row.range ends)
 
-  pub ends_reach : AreAfterStart v.base v.journal → ReachAll row.range (journal_with v (merged_ends members)) (ends_of (completions_from [] (merged_ends members)))
-  ends_reach after =
+  pub ends_reach : ReachAll row.range (journal_with v (merged_ends members)) (ends_of (completions_from [] (merged_ends members)))
+  ends_reach =
       subst (λ (l : List Placed). ReachAll row.range (v.journal ++ l) (ends_of (completions_from [] (merged_ends members)))) (sym made_is)
-      (lasts_reach v.base v.lane v.asked v.journal (truths v row) part members reads row.range ends sound.calls.once after read.told_all
+      (lasts_reach v.base v.lane v.asked v.journal (truths v row) part members reads row.range ends sound.calls.once read.told_all
       history.ends)

@@ -1,19 +1,13 @@
 -- Made records: what the ends that a rebuild merged make of what was read of a row.
-use Rattle.std.specs.Prelude.{ℕ, ◌==◌, ◌&&◌, Bool, false, not, List, Option, Some, None, All}
+use Rattle.std.specs.Prelude.{ℕ, ◌==◌, ◌&&◌, Bool, false, not, List, Option, Some, None}
 use Rattle.rk_types.specs.declared.call.Ended.{Ended}
 use Rattle.rk_types.specs.declared.history.Placed.{Placed}
-use Rattle.rk_world.specs.Base.{Base}
 use Rattle.rk_world.specs.Journal.{has_record}
-use Rattle.rk_world.specs.Premises.{IsAfterStart}
 use Rattle.rk_world.specs.declared.ledger.LastCall.{LastCall}
 
 -- a record but for its stamp
 abbrev pub without_stamp : Placed → Placed
 without_stamp placed = record placed { stamp = 0 }
-
--- the call of each record comes after all that the start tells of its client
-abbrev pub AreAfterStart : Base → List Placed → Type 0
-AreAfterStart base journal = All (λ placed. IsAfterStart base placed.call) journal
 
 -- whether the call with a seq is the last of its client, and has no record
 abbrev pub waits_for : List Placed → ℕ → ℕ → Option LastCall → Bool

@@ -11,13 +11,12 @@ ghost use Rattle.rk_sound.specs.Whole.{SoundView};
 ghost use Rattle.rk_laws_lineage.specs.Lineages.{TellHistory};
 ghost use Rattle.rk_laws_lineage.specs.Rebuilt.{MakeRecords, journal_with, made_of};
 ghost use Rattle.rk_laws_read.specs.ReadBack.{IsReadBack};
-ghost use Rattle.rk_laws_made.specs.Made.{AreAfterStart, without_stamp};
+ghost use Rattle.rk_laws_made.specs.Made.{without_stamp};
 
 /// Where the truth of a row and a first part of its rest were read of the members of its lineage, the ends that are merged of them make
 /// the records of the calls of that part, in its order: each but for its stamp the one that the staged call was to make. They are of
 /// keys of the row, go on lawfully from the journal, and give no mutation a second record. So what counts for each other row tells all
-/// of it still. With them each end that is kept is known; and where the call of each record comes after the history's start, the ends
-/// that are kept reach each mutation of the row.
+/// of it still. With them each end that is kept is known, and the ends that are kept reach each mutation of the row.
 pub fn rebuilt_ends_make_the_staged_records()
     ensures staged { (v : View) (row : Row) (members : List (List Entry))
         → SoundView v → Contains v.rows row → (read : IsReadBack (truths v row) (rests v row) members)
@@ -34,6 +33,5 @@ pub fn rebuilt_ends_make_the_staged_records()
         → All (IsKnown v.base (journal_with v (merged_ends members))) (ends_of (completions_from [] (merged_ends members))) }
     ensures reached { (v : View) (row : Row) (members : List (List Entry))
         → SoundView v → Contains v.rows row → IsReadBack (truths v row) (rests v row) members
-        → AreAfterStart v.base v.journal
         → ReachAll row.range (journal_with v (merged_ends members)) (ends_of (completions_from [] (merged_ends members))) }
 {}
