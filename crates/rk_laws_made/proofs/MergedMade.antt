@@ -329,6 +329,22 @@ module _ (base : Base) (lane : ℕ) (asked : ℕ → Option LastCall) (journal :
           subst (λ (o : Option LastCall). IfSome o (IsLastCall base lane placed.call.client)) one.asked_is (r.last_calls placed.call.client) in
           subst (IsAfterStart base) (sym one.call_is) its.after))
 
+      -- a known end of the call of a record has its outcome
+      same_outcome : (placed : Placed) → Contains (journal ++ made) placed → is_mutation placed.call.op ≡ true → (end : Ended) → IsKnown base (journal ++ made) end → end.client ≡ placed.call.client → end.seq ≡ placed.call.seq → outcome_of end.end ≡ placed.outcome
+      same_outcome placed stands is end known client seq =
+          ⊎_elim
+          (λ (found : IsRecorded (journal ++ made) end).
+          let one : placed ≡ found.placed =
+          one_record (journal ++ made) placed found.placed (made_once once) stands found.stands is (sym client ∙ sym found.fits.client)
+          (sym seq ∙ sym found.fits.seq) in
+          sym found.fits.outcome ∙ ap (λ (p : Placed). p.outcome) (sym one))
+          (λ (start : Contains (ends_told base) end).
+          let before : end.seq < placed.call.seq =
+          All-contains (λ (e : Ended). e.client ≡ placed.call.client → e.seq < placed.call.seq) (ends_told base) end
+          (All-contains (λ (p : Placed). IsAfterStart base p.call) (journal ++ made) placed after_now stands) start client in
+          absurd (omega (arith, before, seq)))
+          known
+
       reach_on : (placed : Placed) → Contains (journal ++ made) placed → is_mutation placed.call.op ≡ true → (end : Ended) → Contains all end → Reaches end placed → IsReached (ends_of last_of_each) placed
       reach_on placed stands is end at reaches =
           let has : HasReached last_of_each end.client end.seq = merged_reaches members end at in
@@ -348,31 +364,40 @@ module _ (base : Base) (lane : ℕ) (asked : ℕ → Option LastCall) (journal :
                   ⊎_elim (λ (above : placed.call.seq < has.last.seq). inl above)
                   (λ (not_above : has.last.seq ≤ placed.call.seq).
                   let seq : placed.call.seq ≡ has.last.seq = omega (arith, not_above, under, late) in
-                  inr (seq, of_known last (All-contains (IsKnown base (journal ++ made)) (ends_of last_of_each) last lasts_known here) reaches.client (sym seq)))
+                  inr (
+                    seq,
+                    same_outcome placed stands is last
+                        (All-contains (IsKnown base (journal ++ made)) (ends_of last_of_each) last lasts_known here) reaches.client (sym seq),
+                  ))
                   (cases_lt placed.call.seq has.last.seq);
             };
           }
-        where
-          of_known : (last : Ended) → IsKnown base (journal ++ made) last → last.client ≡ placed.call.client → last.seq ≡ placed.call.seq → outcome_of last.end ≡ placed.outcome
-          of_known last known client seq =
-              ⊎_elim
-              (λ (found : IsRecorded (journal ++ made) last).
-              let one : placed ≡ found.placed =
-              one_record (journal ++ made) placed found.placed (made_once once) stands found.stands is (sym client ∙ sym found.fits.client)
-              (sym seq ∙ sym found.fits.seq) in
-              sym found.fits.outcome ∙ ap (λ (p : Placed). p.outcome) (sym one))
-              (λ (start : Contains (ends_told base) last).
-              let before : last.seq < placed.call.seq =
-              All-contains (λ (e : Ended). e.client ≡ placed.call.client → e.seq < placed.call.seq) (ends_told base) last
-              (All-contains (λ (p : Placed). IsAfterStart base p.call) (journal ++ made) placed after_now stands) start client in
-              absurd (omega (arith, before, seq)))
-              known
 
-      -- so the last ends reach each mutation in the range
+      -- the last ends reach a record, if it is of a mutation in the range
+      abbrev AreReached : Placed → Type 0
+      AreReached placed =
+          is_record_in range placed ≡ true → is_mutation placed.call.op ≡ true → IsReached (ends_of last_of_each) placed
+
+      made_reached : All AreReached made
+      made_reached =
+          all_by AreReached made
+          (λ placed stands inside is.
+          let from : IsMadeBy placed = All-contains IsMadeBy made placed made_from stands in
+          reach_on placed (Contains-append_right journal made placed stands) is from.end
+          (part_told from.end
+          (filter_from waiting (told part) from.end
+          (subst (λ (l : List Ended). Contains l from.end)
+          (sym (merged.staged_wait base lane asked journal r.last_calls r.recorded part r.staged)) from.stands)))
+          (record {
+            client = sym (ap (λ (c : Call). c.client) from.its.call_is ∙ from.its.own);
+            reached = inr (ap (λ (c : Call). c.seq) from.its.call_is ∙ from.its.seq_is, sym from.its.outcome_is);
+          }))
+
+      -- so they reach each mutation in the range
       pub lasts_reach : All (Contains (told (all_of members))) (told truth) → TellAll range journal truth → ReachAll range (journal ++ made) (ends_of last_of_each)
       lasts_reach told_all tells =
-          All-append (λ placed. is_record_in range placed ≡ true → is_mutation placed.call.op ≡ true → IsReached (ends_of last_of_each) placed) journal made
-          (all_by (λ placed. is_record_in range placed ≡ true → is_mutation placed.call.op ≡ true → IsReached (ends_of last_of_each) placed) journal
+          All-append AreReached journal made
+          (all_by AreReached journal
           (λ placed stands inside is.
           let was : IsReached (told (of_key placed.call.table placed.call.key truth)) placed =
           All-contains
@@ -383,19 +408,4 @@ module _ (base : Base) (lane : ℕ) (asked : ℕ → Option LastCall) (journal :
           (All-contains (Contains (told (all_of members))) (told truth) was.end told_all
           (told_kept (tells_of placed.call.table placed.call.key) truth was.end was.stands)))
           was.reaches))
-          (made_reached ends)
-        where
-          made_reached : All (IsEndOfLast asked journal range) (call_ends part) → All (λ placed. is_record_in range placed ≡ true → is_mutation placed.call.op ≡ true → IsReached (ends_of last_of_each) placed) made
-          made_reached ends =
-              all_by (λ placed. is_record_in range placed ≡ true → is_mutation placed.call.op ≡ true → IsReached (ends_of last_of_each) placed) made
-              (λ placed stands inside is.
-              let from : IsMadeBy placed = All-contains IsMadeBy made placed made_from stands in
-              reach_on placed (Contains-append_right journal made placed stands) is from.end
-              (part_told from.end
-              (filter_from waiting (told part) from.end
-              (subst (λ (l : List Ended). Contains l from.end)
-              (sym (merged.staged_wait base lane asked journal r.last_calls r.recorded part r.staged)) from.stands)))
-              (record {
-                client = sym (ap (λ (c : Call). c.client) from.its.call_is ∙ from.its.own);
-                reached = inr (ap (λ (c : Call). c.seq) from.its.call_is ∙ from.its.seq_is, sym from.its.outcome_is);
-              }))
+          made_reached

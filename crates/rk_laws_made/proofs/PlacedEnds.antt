@@ -5,7 +5,7 @@ use Rattle.std.specs.Prelude.{◌≢◌}
 use Rattle.std.specs.List.{All, AllPairs, Contains, flat_map, list_any}
 use Rattle.std.proofs.lemmas.Bool.{and_from, and_parts, cases_Bool, eq-eqb, eqb-true, false≢true, false_from_ne_true}
 use Rattle.std.proofs.lemmas.Grind.{flat_map-append}
-use Rattle.std.proofs.lemmas.List.Elements.{All-contains, All-head, All-tail, Contains-append_cases, Contains-append_left, Contains-append_right, filter-append}
+use Rattle.std.proofs.lemmas.List.Elements.{All-contains, All-head, All-tail, Contains-append_cases, Contains-append_left, Contains-append_right, Contains-push_cases, filter-append}
 use Rattle.std.proofs.lemmas.List.Folds.{list_any_at, list_any_none}
 use Rattle.rk_types.specs.declared.call.Ended.{Ended}
 use Rattle.rk_overlay.proofs.Members.{behind_stands, first_stands, none_stands, stands_cases}
@@ -179,51 +179,54 @@ module _ (waits : Ended → Bool) (alike : (a b : Ended) → a.client ≡ b.clie
       and_none true = refl
       and_none false = refl
 
-  -- each is placed that none outruns, where none of its call stands at a later member, was seen or stands before it
-  pub all_placed : (later seen ends : List Ended) → All (λ end. waits end ≡ true → list_any (is_outrun_by end) all ≡ false) ends
-      → All (λ end. waits end ≡ true → (x : Ended) → Contains (later ++ seen) x → AreOfOneCall end x → ⊥) ends
-      → AllPairs Differ (filter waits ends) → filter waits (placed_ends all later seen ends) ≡ filter waits ends
-  all_placed later seen [] free unseen one = refl
-  all_placed later seen (end ∷ ends) free unseen one =
-      let rest : List Ended = placed_ends all later (seen ++ end ∷ []) ends in
-      let free_later = All-tail (λ e. waits e ≡ true → list_any (is_outrun_by e) all ≡ false) end ends free in
-      let unseen_later = All-tail (λ e. waits e ≡ true → (x : Ended) → Contains (later ++ seen) x → AreOfOneCall e x → ⊥) end ends unseen in
-      let go_on : ((e : Ended) → Contains ends e → waits e ≡ true → AreOfOneCall e end → ⊥) → AllPairs Differ (filter waits ends) → filter waits rest ≡ filter waits ends =
-      λ apart one_later.
-      all_placed later (seen ++ end ∷ []) ends free_later
-      (all_by (λ e. waits e ≡ true → (x : Ended) → Contains (later ++ (seen ++ end ∷ [])) x → AreOfOneCall e x → ⊥) ends
-      (λ e at is x there same.
-      ⊎_elim
-      (λ (before : Contains (later ++ seen) x).
-      All-contains (λ e. waits e ≡ true → (x : Ended) → Contains (later ++ seen) x → AreOfOneCall e x → ⊥) ends e unseen_later at is x before same)
-      (λ (last : Contains (end ∷ []) x).
-      ⊎_elim
-      (λ (here : end ≡ x). apart e at is (subst (AreOfOneCall e) (sym here) same))
-      (λ (none : Contains [] x). none_stands x none) (stands_cases end [] x last))
-      (Contains-append_cases (later ++ seen) (end ∷ []) x
-      (subst (λ (l : List Ended). Contains l x) (sym (append_assoc later seen (end ∷ []))) there)))) one_later in
-      ⊎_elim
-      (λ (is : waits end ≡ true).
-      let its : AllPairs Differ (end ∷ filter waits ends) = subst (AllPairs Differ) (filter_kept waits end ends is) one in
-      let apart : (e : Ended) → Contains ends e → waits e ≡ true → AreOfOneCall e end → ⊥ =
-      λ e at waiting same.
-      All-contains (Differ end) (filter waits ends) e (first_differs end (filter waits ends) its) (filter_stands waits ends e at waiting)
-      (sym same.client) in
+  -- one that none outruns is placed, where none of its call stands at a later member or was seen
+  placed_now : (later seen : List Ended) (end : Ended) → list_any (is_outrun_by end) all ≡ false → ((x : Ended) → Contains (later ++ seen) x → AreOfOneCall end x → ⊥) → is_placed all later seen end ≡ true
+  placed_now later seen end free unseen =
       let unlike : list_any (is_same_call end) (later ++ seen) ≡ false =
       list_any_none (is_same_call end) (later ++ seen)
       (all_by (λ x. is_same_call end x ≡ false) (later ++ seen)
-      (λ x at.
-      false_from_ne_true (is_same_call end x)
-      (λ same.
-      All-head (λ e. waits e ≡ true → (x : Ended) → Contains (later ++ seen) x → AreOfOneCall e x → ⊥) end ends unseen is x at
-      (one_call end x same)))) in
+      (λ x at. false_from_ne_true (is_same_call end x) (λ same. unseen x at (one_call end x same)))) in
+      ap (λ (b : Bool). not b && not (list_any (is_same_call end) (later ++ seen))) free ∙ ap not unlike
+
+  -- if an end waits, none of these is of its call
+  abbrev pub IsNew : List Ended → Ended → Type 0
+  IsNew list end = waits end ≡ true → (x : Ended) → Contains list x → AreOfOneCall end x → ⊥
+
+  -- with one more that is seen it is so still, where none of the ends that wait is of that call
+  new_still : (later seen : List Ended) (end : Ended) (ends : List Ended) → ((e : Ended) → Contains ends e → waits e ≡ true → AreOfOneCall e end → ⊥) → All (IsNew (later ++ seen)) ends → All (IsNew (later ++ (seen ++ end ∷ []))) ends
+  new_still later seen end ends apart unseen =
+      all_by (IsNew (later ++ (seen ++ end ∷ []))) ends
+      (λ e at is x there same.
+      ⊎_elim
+      (λ (before : Contains (later ++ seen) x). All-contains (IsNew (later ++ seen)) ends e unseen at is x before same)
+      (λ (last : end ≡ x). apart e at is (subst (AreOfOneCall e) (sym last) same))
+      (Contains-push_cases (later ++ seen) end x
+      (subst (λ (l : List Ended). Contains l x) (sym (append_assoc later seen (end ∷ []))) there)))
+
+  -- each is placed that none outruns, where none of its call stands at a later member, was seen or stands before it
+  pub all_placed : (later seen ends : List Ended) → All (λ end. waits end ≡ true → list_any (is_outrun_by end) all ≡ false) ends → All (IsNew (later ++ seen)) ends → AllPairs Differ (filter waits ends)
+      → filter waits (placed_ends all later seen ends) ≡ filter waits ends
+  all_placed later seen [] free unseen one = refl
+  all_placed later seen (end ∷ ends) free unseen one =
+      let rest : List Ended = placed_ends all later (seen ++ end ∷ []) ends in
+      let go_on : ((e : Ended) → Contains ends e → waits e ≡ true → AreOfOneCall e end → ⊥) → AllPairs Differ (filter waits ends) → filter waits rest ≡ filter waits ends =
+      λ apart one_later.
+      all_placed later (seen ++ end ∷ []) ends (All-tail (λ e. waits e ≡ true → list_any (is_outrun_by e) all ≡ false) end ends free)
+      (new_still later seen end ends apart (All-tail (IsNew (later ++ seen)) end ends unseen)) one_later in
+      ⊎_elim
+      (λ (is : waits end ≡ true).
+      let its : AllPairs Differ (end ∷ filter waits ends) = subst (AllPairs Differ) (filter_kept waits end ends is) one in
       let placed : is_placed all later seen end ≡ true =
-      ap (λ (b : Bool). not b && not (list_any (is_same_call end) (later ++ seen)))
-      (All-head (λ e. waits e ≡ true → list_any (is_outrun_by e) all ≡ false) end ends free is)
-      ∙ ap not unlike in
+      placed_now later seen end (All-head (λ e. waits e ≡ true → list_any (is_outrun_by e) all ≡ false) end ends free is)
+      (All-head (IsNew (later ++ seen)) end ends unseen is) in
       ap (λ (b : Bool). filter waits (cond b (end ∷ rest) rest)) placed
       ∙ filter_kept waits end rest is
-      ∙ ap (λ (l : List Ended). end ∷ l) (go_on apart (later_differ end (filter waits ends) its))
+      ∙ ap (λ (l : List Ended). end ∷ l)
+      (go_on
+      (λ e at waiting same.
+      All-contains (Differ end) (filter waits ends) e (first_differs end (filter waits ends) its) (filter_stands waits ends e at waiting)
+      (sym same.client))
+      (later_differ end (filter waits ends) its))
       ∙ sym (filter_kept waits end ends is))
       (λ (is : waits end ≡ false).
       left_out end rest (is_placed all later seen end) is
