@@ -14,10 +14,13 @@ ghost use Rattle.rk_laws_read.specs.ReadBack.{IsReadBack};
 ghost use Rattle.rk_laws_made.specs.Made.{without_stamp};
 
 /// Where the truth of a row and a first part of its rest were read of the members of its lineage, the ends that are merged of them make
-/// the records of the calls of that part, in its order: each but for its stamp the one that the staged call was to make. They are of
-/// keys of the row, go on lawfully from the journal, and give no mutation a second record. So what counts for each other row tells all
-/// of it still. With them each end that is kept is known, and the ends that are kept reach each mutation of the row.
+/// the records that the ends of the calls of that part make, in their order: each but for its stamp the one that the staged call was
+/// to make. They are of keys of the row, go on lawfully from the journal, and give no mutation a second record. So what counts for each
+/// other row tells all of it still. With them each end that is kept is known, and the ends that are kept reach each mutation of the row.
 pub fn rebuilt_ends_make_the_staged_records()
+    ensures merged { (v : View) (row : Row) (members : List (List Entry))
+        → SoundView v → Contains v.rows row → (read : IsReadBack (truths v row) (rests v row) members)
+        → made_of v.asked v.journal (merged_ends members) ≡ made_of v.asked v.journal (call_ends read.part) }
     ensures staged { (v : View) (row : Row) (members : List (List Entry))
         → SoundView v → Contains v.rows row → (read : IsReadBack (truths v row) (rests v row) members)
         → map without_stamp (made_of v.asked v.journal (merged_ends members)) ≡ records_of v.asked (call_ends read.part) }

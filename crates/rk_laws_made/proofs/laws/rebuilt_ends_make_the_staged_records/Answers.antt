@@ -1,5 +1,8 @@
-use Rattle.rk_laws_made.proofs.RebuiltEnds.{ends_known, ends_reach, others_tell, records_made, records_staged}
+use Rattle.rk_laws_made.proofs.RebuiltEnds.{ends_known, ends_reach, made_is, others_tell, records_made, records_staged}
 use Rattle.rk_laws_made.proofs.laws.rebuilt_ends_make_the_staged_records.Goals as goal
+
+pub returns-clause-merged : goal.returns-clause-merged
+returns-clause-merged c = made_is
 
 pub returns-clause-staged : goal.returns-clause-staged
 returns-clause-staged c = records_staged
