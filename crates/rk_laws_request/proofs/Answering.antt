@@ -24,7 +24,7 @@ use Rattle.rk_laws_request.proofs.Replying.{may_reply, sound_unchanged}
 use Rattle.rk_laws_request.proofs.Choosing.{done_as}
 
 -- where no piece is marked the ledger keeps its marks
-marks_same : (ledger : Ledger) → with_marks ledger [] ≡ ledger
+pub marks_same : (ledger : Ledger) → with_marks ledger [] ≡ ledger
 marks_same ledger = ap (λ (marks : List Mark). record ledger { marks = marks }) (append-nil ledger.marks)
 
 -- a master has changed, and nothing else happens

@@ -35,7 +35,7 @@ may_reply v master client reply fits =
     }
 
 -- a master may be put where it stands
-view_unchanged : (w : World) (master : ℕ) → view (with_master w master (master_at w master)) ≡ view w
+pub view_unchanged : (w : World) (master : ℕ) → view (with_master w master (master_at w master)) ≡ view w
 view_unchanged w master =
     view_master w master (master_at w master) 0 (tablet_in w master 0) refl refl (λ r apart. refl)
     ∙ (λ i. record (view w) {

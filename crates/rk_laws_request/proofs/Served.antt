@@ -32,7 +32,7 @@ pub record EndsWith (lineage : List Member) (master : ℕ) : Type 0 where
   pub here : last.master ≡ master
 
 -- what was given away is not served by its heir
-given_away : (place : ℕ) (role : Role) (term own applied : ℕ) → Holds (bond_of (FirstRebuilder place) role) term own applied → is_serving role ≡ true → ⊥
+pub given_away : (place : ℕ) (role : Role) (term own applied : ℕ) → Holds (bond_of (FirstRebuilder place) role) term own applied → is_serving role ≡ true → ⊥
 given_away place roles.Serving term own applied fits serves = fits
 given_away place roles.Receiving term own applied fits serves = fits
 given_away place (roles.Joining entry) term own applied fits serves = fits
