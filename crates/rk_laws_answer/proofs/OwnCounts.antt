@@ -68,7 +68,7 @@ module _ (v : View) (row : Row) (master : ℕ) (sound : SoundView v) (has : Cont
       (All-contains (IsOfRange other.range) (take (mark.past - mark.first) (drop mark.first w.entries)) (entries.Held held) own inside) its
 
   -- so an item of the row bears no mark
-  bare_at : (place : ℕ) (held : Held) → slice_get w.entries place ≡ Some (entries.Held held) → is_in row.range held ≡ true → is_marked w.marks place ≡ false
+  pub bare_at : (place : ℕ) (held : Held) → slice_get w.entries place ≡ Some (entries.Held held) → is_in row.range held ≡ true → is_marked w.marks place ≡ false
   bare_at place held at its =
       ⊎_elim
       (λ (marked : is_marked w.marks place ≡ true).

@@ -1,0 +1,8 @@
+pub mod NewCalls
+pub mod StagedItems
+pub mod NoneStaged
+pub mod StagedLow
+pub mod Choosing
+pub mod Ending
+pub mod Staging
+pub mod Taken
