@@ -1,0 +1,5 @@
+pub mod Served
+pub mod Newest
+pub mod InPlace
+pub mod AppliedOwn
+pub mod RebuiltOwned
