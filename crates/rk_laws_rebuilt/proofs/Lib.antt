@@ -3,3 +3,4 @@ pub mod Newest
 pub mod InPlace
 pub mod AppliedOwn
 pub mod RebuiltOwned
+pub mod Told
