@@ -1,17 +1,16 @@
 -- All that is applied of the own entries of a master that rebuilt a row is what counts of its log once the marks of the tablet are gone.
-use Rattle.std.proofs.Common.{◌≡◌, ℕ, suc, ◌+◌, ◌≤◌, true, false, ◌&&◌, eqb, List, [], ◌∷◌, ◌++◌, Some, refl, sym, ap, subst, ◌∙◌, ⊎_elim, inl, inr}
+use Rattle.std.proofs.Common.{◌≡◌, ℕ, suc, ◌+◌, ◌≤◌, true, false, eqb, List, [], ◌∷◌, ◌++◌, Some, refl, sym, ap, ◌∙◌}
 use Rattle.std.specs.Prelude.{All, drop, fold, nat_le, not, slice_get}
 use Rattle.std.specs.List.{Contains, flat_map}
 use Rattle.std.proofs.lemmas.Bool.{and_from, eq-eqb, false≢true, le-leb}
 use Rattle.std.proofs.lemmas.List.Elements.{All-contains}
 use Rattle.rk_types.specs.Range.{meets}
-use Rattle.rk_types.specs.declared.lineage.Member.{Member}
 use Rattle.rk_entry.specs.declared.entry.Entry.{Entry}
 use Rattle.rk_tablet_map.specs.Phase.{member as member_at}
 use Rattle.rk_tablet_map.specs.declared.row.Row.{Row}
 use Rattle.rk_world.specs.declared.work.Mark.{Mark}
 use Rattle.rk_world.specs.Marks.{is_mark_of, is_marked, unmarked}
-use Rattle.rk_world.specs.Material.{counting, material_of, named, named_by, side_entries, with_number}
+use Rattle.rk_world.specs.Material.{counting, named, named_by, side_entries, with_number}
 use Rattle.rk_world.specs.Written.{Written, applied_entries, member_truth}
 use Rattle.rk_sound.specs.Moves.{HasSome}
 use Rattle.rk_sound.specs.Rebuilds.{MarkFits, applied_from}

@@ -1,15 +1,14 @@
 -- Entries stand in the place of others: own ones, the newest items of all that was read but for those, and a Carried that has the floor of
 -- all and the last ends. They tell what the others told.
-use Rattle.std.proofs.Common.{◌≡◌, ℕ, ◌≤◌, ◌<◌, true, List, [], ◌∷◌, ◌++◌, Option, refl, sym, ap, ◌∙◌, subst, ⊎_elim, arith, inl, inr, ◌⊎◌, append-nil}
+use Rattle.std.proofs.Common.{◌≡◌, ℕ, ◌≤◌, true, List, [], ◌∷◌, ◌++◌, Option, refl, sym, ap, ◌∙◌, subst, ⊎_elim, arith, inl, inr, ◌⊎◌, append-nil}
 use Rattle.std.specs.Prelude.{◌↔◌}
-use Rattle.std.specs.List.{All, Contains, flat_map}
+use Rattle.std.specs.List.{All, Contains}
 use Rattle.std.proofs.lemmas.List.Elements.{All-contains, All-nil, All-weaker, Contains-append_cases, Contains-append_left, Contains-append_right}
 use Rattle.rk_types.specs.declared.call.Ended.{Ended}
 use Rattle.rk_types.specs.declared.held.Held.{Held}
 use Rattle.rk_types.specs.declared.history.Placed.{Placed}
 use Rattle.rk_types.specs.declared.range.Range.{Range}
 use Rattle.rk_model.specs.History.{map_after, record_of as map_record_of}
-use Rattle.rk_model.specs.Machine.{last_version}
 use Rattle.rk_model.specs.Merged.{is_mutation}
 use Rattle.rk_entry.specs.declared.entry.Carried.{Carried}
 use Rattle.rk_entry.specs.declared.entry.Entry.{Entry}

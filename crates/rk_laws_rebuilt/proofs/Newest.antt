@@ -1,5 +1,5 @@
 -- Own items with the newest of all, except those that they have, are the newest of all, and leave the records that all leave.
-use Rattle.std.proofs.Common.{◌≡◌, ℕ, ◌≤◌, true, false, not, ◌&&◌, eqb, List, Option, Some, None, refl, sym, ap, ◌∙◌, subst, ⊎_elim, arith, inl, inr, ◌⊎◌}
+use Rattle.std.proofs.Common.{◌≡◌, ℕ, ◌≤◌, true, false, not, ◌&&◌, eqb, List, Option, Some, None, refl, sym, ap, ◌∙◌, subst, ⊎_elim, arith, ◌⊎◌}
 use Rattle.std.specs.Prelude.{bytes_eq, ◌↔◌}
 use Rattle.std.specs.List.{Contains}
 use Rattle.std.proofs.lemmas.Bool.{and_parts, cases_Bool, eqb-true}
@@ -13,13 +13,13 @@ use Rattle.rk_overlay.proofs.Bridges.{newest_found, newest_is, newest_none}
 use Rattle.rk_overlay.proofs.Names.{is_of_from, is_of_parts}
 use Rattle.rk_overlay.proofs.Overlays.{newest_items_are, newest_own}
 use Rattle.rk_overlay.specs.Live.{live, record_of}
-use Rattle.rk_overlay.specs.Newest.{is_of, newest}
+use Rattle.rk_overlay.specs.Newest.{newest}
 use Rattle.rk_overlay.specs.Overlay.{newest_items}
 use Rattle.rk_overlay.specs.Plain.{IsPlain}
 use Rattle.rk_world.specs.Merge.{copies_of, has_version}
 use Rattle.rk_sound.specs.Receives.{IsFound}
 use Rattle.rk_laws_parts.proofs.Records.{filter_from, filter_stands, stands_is_found}
-use Rattle.rk_laws_lineage.proofs.TakenOver.{HasBoth, HasRecords, plain_fewer, table_over}
+use Rattle.rk_laws_lineage.proofs.TakenOver.{HasBoth, plain_fewer, table_over}
 
 -- an item of the version of one stands among these
 record HasVersion (items : List Held) (item : Held) : Type 0 where

@@ -2,7 +2,7 @@
 -- the ends of the merge make the records of just that part.
 use Rattle.std.proofs.Common.{◌≡◌, ◌≤◌, ◌⊎◌, ℕ, Bool, true, false, cond, eqb, List, [], ◌∷◌, ◌++◌, Option, Some, refl, sym, ap, subst, ◌∙◌, ⊎_elim, inl, inr, append-nil}
 use Rattle.std.specs.Prelude.{All, IfSome, map}
-use Rattle.std.specs.List.{Contains, flat_map}
+use Rattle.std.specs.List.{Contains}
 use Rattle.std.proofs.lemmas.Bool.{cond-true}
 use Rattle.std.proofs.lemmas.List.Concat.{flat_map-append}
 use Rattle.std.proofs.lemmas.List.Elements.{All-contains, All-nil, Contains-append_cases, Contains-append_left, Contains-append_right}
@@ -14,8 +14,7 @@ use Rattle.rk_types.specs.declared.lineage.Member.{Member}
 use Rattle.rk_entry.specs.declared.entry.Carried.{Carried}
 use Rattle.rk_entry.specs.declared.entry.Entry.{Entry}
 use Rattle.rk_done.specs.Completions.{Completions, completions_from, ends_of}
-use Rattle.rk_overlay.proofs.Members.{behind_stands, first_stands, none_stands, stands_cases}
-use Rattle.rk_table.specs.Items.{is_in}
+use Rattle.rk_overlay.proofs.Members.{first_stands, stands_cases}
 use Rattle.rk_tablet_map.specs.Phase.{member as member_at}
 use Rattle.rk_tablet_map.specs.declared.phase.Phase.{Phase}
 use Rattle.rk_tablet_map.specs.declared.phase.Phase.TheVariants.{Owned, Rebuilding}
@@ -28,7 +27,7 @@ use Rattle.rk_world.specs.Gather.{Gather, by_member, is_of_lineage, material_by}
 use Rattle.rk_world.specs.Material.{as_entries}
 use Rattle.rk_world.specs.Merge.{merge, merged_ends}
 use Rattle.rk_world.specs.Rebuilds.{own_place}
-use Rattle.rk_world.specs.Written.{Written, member_material, member_truth}
+use Rattle.rk_world.specs.Written.{member_material, member_truth}
 use Rattle.rk_sound.specs.Asked.{IsLastCall}
 use Rattle.rk_sound.specs.Calls.{IsKnown, ReachAll}
 use Rattle.rk_sound.specs.Moves.{HasSome, MayTakeRebuilt, row_at}

@@ -1,6 +1,6 @@
 -- The first entries of a rest are served: each call that left one gets its record, and the entry comes to the end of the truth. Truth and
 -- rest then tell the history with these records.
-use Rattle.std.proofs.Common.{◌≡◌, ℕ, suc, ◌+◌, true, false, Bool, cond, ◌&&◌, eqb, List, [], ◌∷◌, ◌++◌, Option, Some, None, refl, sym, ap, ◌∙◌, subst, ⊎_elim, arith, inl, inr, ◌⊎◌, append-nil, append_assoc, max}
+use Rattle.std.proofs.Common.{◌≡◌, ℕ, suc, ◌+◌, true, false, ◌&&◌, eqb, List, [], ◌∷◌, ◌++◌, Option, Some, refl, sym, ap, ◌∙◌, subst, ⊎_elim, arith, inl, inr, ◌⊎◌, append-nil, append_assoc}
 use Rattle.std.specs.Prelude.{◌≢◌, not}
 use Rattle.std.specs.List.{All, AllPairs, Contains}
 use Rattle.std.proofs.lemmas.Bool.{and_from, cases_Bool, cond-true, eq-eqb}
@@ -13,7 +13,7 @@ use Rattle.rk_types.specs.declared.history.Placed.{Placed}
 use Rattle.rk_types.specs.declared.range.Range.{Range}
 use Rattle.rk_model.proofs.Histories.{IsLegal-append, legal_back, legal_push, map_after-append}
 use Rattle.rk_model.specs.History.{IsLegal, Map, map_after, map_with, record_of as map_record_of, with_change}
-use Rattle.rk_model.specs.Machine.{Allowed, change_of}
+use Rattle.rk_model.specs.Machine.{change_of}
 use Rattle.rk_model.specs.Merged.{is_mutation}
 use Rattle.rk_entry.specs.declared.entry.Entry.{Entry}
 use Rattle.rk_entry.specs.declared.entry.Entry.TheVariants as entries
@@ -25,17 +25,15 @@ use Rattle.rk_world.specs.Ends.{item_end, items_in, items_of, outcome_of, refusa
 use Rattle.rk_world.specs.Journal.{has_record, next_record}
 use Rattle.rk_world.specs.Material.{of_key, tells_of}
 use Rattle.rk_world.specs.declared.ledger.LastCall.{LastCall}
-use Rattle.rk_sound.specs.Calls.{IsKnown, IsReached, Reaches, TellAll, is_record_in}
+use Rattle.rk_sound.specs.Calls.{IsKnown, IsReached, TellAll, is_record_in}
 use Rattle.rk_sound.specs.Counters.{AreAboveMap}
-use Rattle.rk_sound.specs.Order.{AreAbove}
 use Rattle.rk_sound.specs.Rest.{IsEntryOf, IsLast, IsLastAsked, IsOfCall, IsRest, IsStaged, call_end, call_ends, record_of_last, records_of}
-use Rattle.rk_sound.specs.Truth.{IsTruth}
 use Rattle.rk_laws_parts.proofs.Histories.{record_for}
 use Rattle.rk_laws_parts.proofs.Lists.{all_by}
 use Rattle.rk_laws_parts.proofs.MoreRecords.{known_still}
 use Rattle.rk_laws_lineage.specs.Lineages.{TellHistory}
 use Rattle.rk_laws_lineage.specs.Rebuilt.{made_by, made_of}
-use Rattle.rk_laws_apply.proofs.Inserted.{AreNewest, IsInserted, above_first, above_inserted, inserted_kept, inserted_last, inserted_out, newest_inserted, plain_inserted, same_items, told_cases, told_new, told_still}
+use Rattle.rk_laws_apply.proofs.Inserted.{AreNewest, IsInserted, above_first, above_inserted, inserted_kept, inserted_last, inserted_out, plain_inserted, same_items, told_cases, told_new, told_still}
 use Rattle.rk_laws_apply.proofs.Applying.{IsCallEnd, call_ended, change_by, leaves_so}
 use Rattle.rk_laws_apply.proofs.AppliedTruth.{live_last}
 use Rattle.rk_laws_apply.proofs.AppliedCounters.{key_floor, low_inserted, tells_its}

@@ -12,7 +12,6 @@ use Rattle.rk_tablet_map.specs.declared.phase.Phase.TheVariants.{Moving, Opening
 use Rattle.rk_tablet_map.specs.declared.row.Row.{Row}
 use Rattle.rk_tablet_map.proofs.Lawful.{number_of}
 use Rattle.rk_message.specs.declared.message.Body.TheVariants as bodies
-use Rattle.rk_message.specs.declared.message.Message.{Message}
 use Rattle.rk_message.specs.declared.rebuilding.Rebuilt.{Rebuilt}
 use Rattle.rk_world.specs.CoordinatorStep.{answered, own_to, rebuilt_in, report, row_owned, unanswered}
 use Rattle.rk_world.specs.Ledger.{with_ends, without_marks}
