@@ -4,3 +4,4 @@ pub mod InPlace
 pub mod AppliedOwn
 pub mod RebuiltOwned
 pub mod Told
+pub mod Delivered

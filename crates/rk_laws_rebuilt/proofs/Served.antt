@@ -1,6 +1,6 @@
 -- The first entries of a rest are served: each call that left one gets its record, and the entry comes to the end of the truth. Truth and
 -- rest then tell the history with these records.
-use Rattle.std.proofs.Common.{◌≡◌, ℕ, suc, ◌+◌, true, false, ◌&&◌, eqb, List, [], ◌∷◌, ◌++◌, Option, Some, refl, sym, ap, ◌∙◌, subst, ⊎_elim, arith, inl, inr, ◌⊎◌, append-nil, append_assoc}
+use Rattle.std.proofs.Common.{◌≡◌, ℕ, suc, true, false, ◌&&◌, eqb, List, [], ◌∷◌, ◌++◌, Option, Some, refl, sym, ap, ◌∙◌, subst, ⊎_elim, arith, inl, inr, append-nil, append_assoc}
 use Rattle.std.specs.Prelude.{◌≢◌, not}
 use Rattle.std.specs.List.{All, AllPairs, Contains}
 use Rattle.std.proofs.lemmas.Bool.{and_from, cases_Bool, cond-true, eq-eqb}

@@ -6,3 +6,7 @@
 //! place of all that was read. It stands on the laws of rows that take another lineage (`rk_laws_lineage`), of entries that are applied
 //! (`rk_laws_apply`) and of reports (`rk_laws_reports`). It has no code: its headline law is the contract of a function that does nothing.
 #![tactic(auto)]
+
+pub use laws::rebuilts_keep_lanes_sound;
+
+mod laws;

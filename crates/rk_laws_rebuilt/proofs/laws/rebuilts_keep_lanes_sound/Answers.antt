@@ -1,0 +1,7 @@
+use Rattle.rk_laws_rebuilt.proofs.Delivered.{sound_rebuilt_delivered}
+use Rattle.rk_laws_rebuilt.proofs.laws.rebuilts_keep_lanes_sound.Goals as goal
+
+pub returns : goal.returns
+returns c = record {
+  delivered = sound_rebuilt_delivered;
+}
