@@ -1,0 +1,10 @@
+pub mod Sealed
+pub mod Requests
+pub mod Commits
+pub mod Handovers
+pub mod Pulls
+pub mod Rebuilds
+pub mod Turns
+pub mod Steps
+pub mod Walks
+pub mod Lanes
