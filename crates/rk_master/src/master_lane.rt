@@ -2,6 +2,7 @@ ghost use Rattle.std.specs.Prelude.{◌≡◌, ◌≤◌, false, ◌-◌, ◌^�
 ghost use Rattle.std.specs.Option.{option_map_or};
 ghost use Rattle.rk_log.specs.Cut.{EachFits};
 ghost use Rattle.rk_log.specs.Known.{nothing};
+ghost use Rattle.rk_log.specs.Log.{bytes_of};
 ghost use Rattle.rk_world.specs.Master.{is_staged, log_bytes as log_bytes_lem, new_master, staged, tablet_at};
 ghost use Rattle.rk_world.specs.MasterStep.{master_step};
 ghost use Rattle.rk_world.specs.MasterTurn.{master_turn};
@@ -223,5 +224,12 @@ impl MasterLane {
         ensures { result ≡ option_map_or (λ master. is_staged master client seq) self.now false }
     {
         !self.spent && self.state.calls.is_staged(client, seq)
+    }
+
+    /// The bytes of a main or side segment of the log, lent; none where there is no such segment. In constant time.
+    pub fn segment(&self, number: u32) -> &[u8]
+        ensures { IfSome self.now (λ master. result.now ≡ bytes_of master.log number) }
+    {
+        self.state.log.bytes(number)
     }
 }
