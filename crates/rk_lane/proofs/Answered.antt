@@ -1,0 +1,305 @@
+-- A backup took a message: what it answered, and what its replica tells then.
+use Rattle.std.proofs.Common.{◌≡◌, ◌≤◌, ◌-◌, ℕ, false, true, List, [], ◌∷◌, length, Option, None, Some, IfSome, Result, Ok, Err, slice_set, refl, sym, ap, subst, ◌∙◌}
+use Rattle.std.specs.Prelude.{IfErr, IsErrAnd, ⊤}
+use Rattle.rk_types.specs.declared.held.TheConstants.{SEGMENT_BYTES}
+use Rattle.rk_types.specs.declared.node.Node.{Node}
+use Rattle.rk_types.specs.declared.node.Node.TheVariants as nodes
+use Rattle.rk_outside.specs.Losses.{HasLossCause}
+use Rattle.rk_outside.specs.Segments.{IsSame, Segments, WhereTold, bytes_of, lengths_of}
+use Rattle.rk_outside.specs.declared.replica.Lost.{Lost}
+use Rattle.rk_outside.specs.declared.replica.Lost.TheVariants as losses
+use Rattle.rk_backup.specs.Lane.{number_of, replica_of}
+use Rattle.rk_backup.specs.declared.lane.BackupLane.{BackupLane}
+use Rattle.rk_backup_node.specs.Called.{IsBacked, IsCopied, IsReadOf, append_called}
+use Rattle.rk_message.specs.declared.message.Body.{Body}
+use Rattle.rk_message.specs.declared.message.Body.TheVariants as bodies
+use Rattle.rk_message.specs.declared.message.Message.{Message}
+use Rattle.rk_message.specs.declared.rebuilding.ReadSegment.{ReadSegment}
+use Rattle.rk_message.specs.declared.replication.Append.{Append}
+use Rattle.rk_world.specs.Backup.{Backed, Called, Appended, Failed, Gave, append_step, append_taken, backup_step, called_by, failing, idle, read_step, stored_after}
+use Rattle.rk_world.specs.Premises.{MayCome}
+use Rattle.rk_lane.specs.Backing.{IsBackedAt, IsBackedBy, IsSpared, IsUnanswered, IsUnansweredAt, IsWithinSegment, sending}
+use Rattle.rk_lane.specs.Events.{IsFailed}
+
+-- what was sent was not lost
+sent_not_lost : (sends : List Message) → sending sends ≡ failing → ⊥
+sent_not_lost sends is =
+    let never : false ≡ true = ap (λ (b : Backed). b.lost) is in
+    cc never
+
+-- of a call that failed nothing has to be told
+failed_given : (told : Option Segments) (called : Called) (by : Segments → Called) → IsFailed called → IfSome told (λ stored. (IsFailed called → ⊥) → called ≡ by stored)
+failed_given None called by failed = tt
+failed_given (Some stored) called by failed = λ fine. absurd (fine failed)
+
+-- who answered was spared
+pub spared_by : {R : Type 0} (segments : R → Option Segments) (faults : R → ℕ) (old new : BackupLane R) (from : Node) (body : Body) (log : ℕ → ℕ → List ℕ) (sends : List Message)
+    → IsBackedBy segments faults old new from body log (sending sends) → IsSpared faults old new
+spared_by segments faults old new from body log sends by = record { number = by.number; fine = by.fine (λ failed. sent_not_lost sends (by.lost failed)) }
+
+-- ---- it is asked nothing
+
+-- a message of this sender asks nothing of a backup
+abbrev pub AsksNothing : Node → Body → Type 0
+AsksNothing (nodes.Master master) (bodies.Append append) = ⊥
+AsksNothing (nodes.Master master) (bodies.Read wanted) = ⊥
+AsksNothing _ _ = ⊤
+
+-- none but a master asks something
+pub asks_nothing : (from : Node) (body : Body) → ((master : ℕ) → from ≡ nodes.Master master → ⊥) → AsksNothing from body
+asks_nothing (nodes.Master master) body apart = absurd (apart master refl)
+asks_nothing (nodes.Client client) body apart = tt
+asks_nothing nodes.Coordinator body apart = tt
+asks_nothing (nodes.Backup backup) body apart = tt
+
+-- and it asks something by an Append or a Read alone
+pub asks_neither : (master : ℕ) (body : Body) → ((append : Append) → body ≡ bodies.Append append → ⊥) → ((wanted : ReadSegment) → body ≡ bodies.Read wanted → ⊥)
+    → AsksNothing (nodes.Master master) body
+asks_neither master (bodies.Append append) other another = absurd (other append refl)
+asks_neither master (bodies.Read wanted) other another = absurd (another wanted refl)
+asks_neither master _ other another = tt
+
+idle_is : (from : Node) (body : Body) (number : ℕ) (log : ℕ → ℕ → List ℕ) → AsksNothing from body → idle ≡ backup_step number from body log (Gave None)
+idle_is (nodes.Master master) (bodies.Append append) number log asks = absurd asks
+idle_is (nodes.Master master) (bodies.Read wanted) number log asks = absurd asks
+idle_is (nodes.Master master) _ number log asks = refl
+idle_is (nodes.Client client) body number log asks = refl
+idle_is nodes.Coordinator body number log asks = refl
+idle_is (nodes.Backup backup) body number log asks = refl
+
+idle_stored : (from : Node) (body : Body) (stored : Segments) → AsksNothing from body → stored ≡ stored_after stored from body (Gave None)
+idle_stored (nodes.Master master) (bodies.Append append) stored asks = absurd asks
+idle_stored (nodes.Master master) (bodies.Read wanted) stored asks = absurd asks
+idle_stored (nodes.Master master) _ stored asks = refl
+idle_stored (nodes.Client client) body stored asks = refl
+idle_stored nodes.Coordinator body stored asks = refl
+idle_stored (nodes.Backup backup) body stored asks = refl
+
+idle_called : (from : Node) (body : Body) (stored : Segments) → AsksNothing from body → Gave None ≡ called_by stored from body None
+idle_called (nodes.Master master) (bodies.Append append) stored asks = absurd asks
+idle_called (nodes.Master master) (bodies.Read wanted) stored asks = absurd asks
+idle_called (nodes.Master master) _ stored asks = refl
+idle_called (nodes.Client client) body stored asks = refl
+idle_called nodes.Coordinator body stored asks = refl
+idle_called (nodes.Backup backup) body stored asks = refl
+
+idle_told : (from : Node) (body : Body) (told : Option Segments) → AsksNothing from body → WhereTold (λ before now. now ≡ stored_after before from body (Gave None)) told told
+idle_told from body None asks = tt
+idle_told from body (Some stored) asks = idle_stored from body stored asks
+
+idle_given : (from : Node) (body : Body) (told : Option Segments) → AsksNothing from body → IfSome told (λ stored. (IsFailed (Gave None) → ⊥) → Gave None ≡ called_by stored from body None)
+idle_given from body None asks = tt
+idle_given from body (Some stored) asks = λ fine. idle_called from body stored asks
+
+-- it is as it was
+pub idle_backed : {R : Type 0} (segments : R → Option Segments) (faults : R → ℕ) (it : BackupLane R) (from : Node) (body : Body) (log : ℕ → ℕ → List ℕ) (sends : List Message)
+    → AsksNothing from body → sends ≡ [] → IsBackedBy segments faults it it from body log (sending sends)
+idle_backed segments faults it from body log sends asks none = record {
+  called = Gave None;
+  may = tt;
+  answer = ap sending none ∙ idle_is from body (number_of it) log asks;
+  told = idle_told from body (segments (replica_of it)) asks;
+  given = idle_given from body (segments (replica_of it)) asks;
+  number = refl;
+  lost = λ failed. absurd failed;
+  failed = λ failed. absurd failed;
+  fine = λ fine. refl;
+}
+
+-- ---- it took an Append
+
+-- what it tells then is what the call came to
+append_given : (master : ℕ) (append : Append) (after : ℕ) (old new : Option Segments) → WhereTold (λ before now. now ≡ append_taken before master append (Appended after)) old new
+    → IfSome new (λ told. after ≡ lengths_of told master append.segment)
+    → IfSome old (λ stored. (IsFailed (Appended after) → ⊥) → Appended after ≡ called_by stored (nodes.Master master) (bodies.Append append) None)
+append_given master append after None new told is = tt
+append_given master append after (Some old) None told is = absurd told
+append_given master append after (Some old) (Some new) told is =
+    λ fine. ap Appended (is ∙ ap (λ (stored : Segments). length (bytes_of (stored master append.segment))) told)
+
+-- a message that tells what is stored tells no more than a segment
+within_segment : (number master : ℕ) (append : Append) (after : ℕ) (message : Message) → append_step number master append (Appended after) ≡ sending (message ∷ []) → IsWithinSegment message.body
+    → after ≤ SEGMENT_BYTES
+within_segment number master append after message is within =
+    let sends = ap (λ (b : Backed). b.sends) is in
+    let same : (record { from = nodes.Backup number; to = nodes.Master master; body = bodies.Stored (record { segment = append.segment; length = after }) }) ≡ message = cc sends in
+    subst IsWithinSegment (sym (ap (λ (m : Message). m.body) same)) within
+
+module _ {R : Type 0} (segments : R → Option Segments) (faults : R → ℕ) (old new : BackupLane R) (master : ℕ) (append : Append) (before after : ℕ) (log : ℕ → ℕ → List ℕ)
+    (number : number_of new ≡ number_of old) where
+  -- what its replica tells then, by what it answered
+  abbrev pub IsStoredBy : Result Message Lost → Type 0
+  IsStoredBy result =
+      WhereTold (λ told now. now ≡ append_taken told master append (append_called result before after)) (segments (replica_of old)) (segments (replica_of new))
+
+  -- it tells how much is stored
+  pub append_backed : (message : Message) → IsBacked (append_step (number_of old) master append (append_called {T = Message} (Ok message) before after)) (Ok message)
+      → IsStoredBy (Ok message) → IfSome (segments (replica_of new)) (λ told. after ≡ lengths_of told master append.segment)
+      → HasLossCause {T = Message} (faults (replica_of old)) (faults (replica_of new)) (Ok message) → IsWithinSegment message.body
+      → IsBackedBy segments faults old new (nodes.Master master) (bodies.Append append) log (sending (message ∷ []))
+  append_backed message backed told is cause within = record {
+    called = Appended after;
+    may = within_segment (number_of old) master append after message backed within;
+    answer = sym backed;
+    told = told;
+    given = append_given master append after (segments (replica_of old)) (segments (replica_of new)) told is;
+    number = number;
+    lost = λ failed. absurd failed;
+    failed = λ failed. absurd failed;
+    fine = λ fine. cause.kept (λ never. cc never);
+  }
+
+  -- its replica failed
+  pub append_failed : IsStoredBy (Err losses.Failed) → HasLossCause {T = Message} (faults (replica_of old)) (faults (replica_of new)) (Err losses.Failed)
+      → IsBackedBy segments faults old new (nodes.Master master) (bodies.Append append) log failing
+  append_failed told cause = record {
+    called = append_called {T = Message} (Err losses.Failed) before after;
+    may = tt;
+    answer = refl;
+    told = told;
+    given = failed_given (segments (replica_of old)) (append_called {T = Message} (Err losses.Failed) before after) (λ stored. called_by stored (nodes.Master master) (bodies.Append append) None) tt;
+    number = number;
+    lost = λ failed. refl;
+    failed = λ failed. cause.failed refl;
+    fine = λ fine. absurd (fine tt);
+  }
+
+-- ---- it took a Read
+
+-- told segments stay at a read
+read_told : (master : ℕ) (wanted : ReadSegment) (called : Called) (old new : Option Segments) → WhereTold IsSame old new
+    → WhereTold (λ before now. now ≡ stored_after before (nodes.Master master) (bodies.Read wanted) called) old new
+read_told master wanted called None new told = tt
+read_told master wanted called (Some old) None told = absurd told
+read_told master wanted called (Some old) (Some new) told = λ i m s. told m s i
+
+-- a read that did not fail gave what is stored
+read_given : (master : ℕ) (wanted : ReadSegment) (called : Called) (old : Option Segments) → IfSome old (λ stored. IsReadOf stored wanted called)
+    → IfSome old (λ stored. (IsFailed called → ⊥) → called ≡ called_by stored (nodes.Master master) (bodies.Read wanted) None)
+read_given master wanted called None is = tt
+read_given master wanted (Appended length) (Some stored) is = absurd is
+read_given master wanted (Gave bytes) (Some stored) is = λ fine. ap Gave is
+read_given master wanted (Failed count) (Some stored) is = λ fine. absurd (fine tt)
+
+-- who sent a copy did not fail
+copy_came : (number reader : ℕ) (wanted : ReadSegment) (log : ℕ → ℕ → List ℕ) (called : Called) (message : Message) → read_step number reader wanted log called ≡ sending (message ∷ [])
+    → IsFailed called → ⊥
+copy_came number reader wanted log (Appended length) message is failed = failed
+copy_came number reader wanted log (Gave bytes) message is failed = failed
+copy_came number reader wanted log (Failed stored) message is failed = sent_not_lost (message ∷ []) (sym is)
+
+copy_may : (number reader : ℕ) (wanted : ReadSegment) (log : ℕ → ℕ → List ℕ) (called : Called) (message : Message) → read_step number reader wanted log called ≡ sending (message ∷ [])
+    → MayCome called
+copy_may number reader wanted log (Appended length) message is =
+    let never : [] ≡ message ∷ [] = ap (λ (b : Backed). b.sends) is in
+    absurd (cc never)
+copy_may number reader wanted log (Gave bytes) message is = tt
+copy_may number reader wanted log (Failed stored) message is = tt
+
+-- whose copy was lost failed
+copy_lost : (number reader : ℕ) (wanted : ReadSegment) (log : ℕ → ℕ → List ℕ) (called : Called) → read_step number reader wanted log called ≡ failing → IsFailed called
+copy_lost number reader wanted log (Appended length) is = absurd (sent_not_lost [] is)
+copy_lost number reader wanted log (Gave bytes) is =
+    let never : false ≡ true = ap (λ (b : Backed). b.lost) is in
+    absurd (cc never)
+copy_lost number reader wanted log (Failed stored) is = tt
+
+failed_may : (called : Called) → IsFailed called → MayCome called
+failed_may (Appended length) failed = absurd failed
+failed_may (Gave bytes) failed = absurd failed
+failed_may (Failed stored) failed = tt
+
+-- the logs of all masters have the segment that is read
+in_logs : (number reader : ℕ) (wanted : ReadSegment) (bytes : List ℕ) (log : ℕ → ℕ → List ℕ) (called : Called) → log wanted.master wanted.segment ≡ bytes
+    → read_step number reader wanted (λ master segment. bytes) called ≡ read_step number reader wanted log called
+in_logs number reader wanted bytes log (Appended length) is = refl
+in_logs number reader wanted bytes log (Gave read) is =
+    ap (λ (segment : List ℕ). read_step number reader wanted (λ master number. segment) (Gave read)) (sym is)
+in_logs number reader wanted bytes log (Failed stored) is = refl
+
+module _ {R : Type 0} (segments : R → Option Segments) (faults : R → ℕ) (old new : BackupLane R) (reader : ℕ) (wanted : ReadSegment) (bytes : List ℕ) (log : ℕ → ℕ → List ℕ)
+    (in_log : log wanted.master wanted.segment ≡ bytes) (number : number_of new ≡ number_of old)
+    (same : WhereTold IsSame (segments (replica_of old)) (segments (replica_of new))) where
+  -- it gave what it has
+  pub read_backed : (message : Message) → IsCopied (number_of old) reader wanted bytes (segments (replica_of old)) (Ok message)
+      → HasLossCause {T = Message} (faults (replica_of old)) (faults (replica_of new)) (Ok message)
+      → IsBackedBy segments faults old new (nodes.Master reader) (bodies.Read wanted) log (sending (message ∷ []))
+  read_backed message copied cause =
+      let fine : IsFailed copied.called → ⊥ = copy_came (number_of old) reader wanted (λ master segment. bytes) copied.called message copied.backed in
+      record {
+        called = copied.called;
+        may = copy_may (number_of old) reader wanted (λ master segment. bytes) copied.called message copied.backed;
+        answer = sym copied.backed ∙ in_logs (number_of old) reader wanted bytes log copied.called in_log;
+        told = read_told reader wanted copied.called (segments (replica_of old)) (segments (replica_of new)) same;
+        given = read_given reader wanted copied.called (segments (replica_of old)) copied.given;
+        number = number;
+        lost = λ failed. absurd (fine failed);
+        failed = λ failed. absurd (fine failed);
+        fine = λ fine. cause.kept (λ never. cc never);
+      }
+
+  -- its replica failed
+  pub read_failed : IsCopied (number_of old) reader wanted bytes (segments (replica_of old)) (Err losses.Failed)
+      → HasLossCause {T = Message} (faults (replica_of old)) (faults (replica_of new)) (Err losses.Failed)
+      → IsBackedBy segments faults old new (nodes.Master reader) (bodies.Read wanted) log failing
+  read_failed copied cause =
+      let failed : IsFailed copied.called = copy_lost (number_of old) reader wanted (λ master segment. bytes) copied.called copied.backed in
+      record {
+        called = copied.called;
+        may = failed_may copied.called failed;
+        answer = sym copied.backed ∙ in_logs (number_of old) reader wanted bytes log copied.called in_log;
+        told = read_told reader wanted copied.called (segments (replica_of old)) (segments (replica_of new)) same;
+        given = read_given reader wanted copied.called (segments (replica_of old)) copied.given;
+        number = number;
+        lost = λ failed. refl;
+        failed = λ failed. cause.failed refl;
+        fine = λ fine. absurd (fine failed);
+      }
+
+-- ---- why it sent nothing
+
+-- what holds of a cause holds of the error that is handed on
+pub handed_on : {T E : Type 0} (result : Result T E) (cause : E) (P : E → Type 0) → IsErrAnd result (λ error. error ≡ cause) → P cause → IfErr result P
+handed_on (Ok value) cause P is holds = absurd is
+handed_on (Err error) cause P is holds = subst P (sym is) holds
+
+-- where memory was wanting, no replica failed
+pub spared_loss : {R T : Type 0} (faults : R → ℕ) (old new : BackupLane R) → number_of new ≡ number_of old
+    → HasLossCause {T = T} (faults (replica_of old)) (faults (replica_of new)) (Err losses.NoMemory) → IsSpared faults old new
+spared_loss {R} {T} faults old new number cause = record { number = number; fine = cause.kept (λ never. cc never) }
+
+module _ {R : Type 0} (segments : R → Option Segments) (faults : R → ℕ) (old new : BackupLane R) (master : ℕ) (log : ℕ → ℕ → List ℕ) (number : number_of new ≡ number_of old) where
+  pub append_unanswered : (append : Append) (before after : ℕ) (cause : Lost)
+      → WhereTold (λ told now. now ≡ append_taken told master append (append_called {T = Message} (Err cause) before after)) (segments (replica_of old)) (segments (replica_of new))
+      → HasLossCause {T = Message} (faults (replica_of old)) (faults (replica_of new)) (Err cause)
+      → IsUnanswered segments faults old new (nodes.Master master) (bodies.Append append) log cause
+  append_unanswered append before after losses.Failed told cause = append_failed segments faults old new master append before after log number told cause
+  append_unanswered append before after losses.NoMemory told cause = spared_loss {T = Message} faults old new number cause
+
+  pub read_unanswered : (wanted : ReadSegment) (bytes : List ℕ) (cause : Lost) → log wanted.master wanted.segment ≡ bytes
+      → WhereTold IsSame (segments (replica_of old)) (segments (replica_of new))
+      → IsCopied (number_of old) master wanted bytes (segments (replica_of old)) (Err cause)
+      → HasLossCause {T = Message} (faults (replica_of old)) (faults (replica_of new)) (Err cause)
+      → IsUnanswered segments faults old new (nodes.Master master) (bodies.Read wanted) log cause
+  read_unanswered wanted bytes losses.Failed in_log same copied cause = read_failed segments faults old new master wanted bytes log in_log number same copied cause
+  read_unanswered wanted bytes losses.NoMemory in_log same copied cause = spared_loss {T = Message} faults old new number cause
+
+-- ---- one of the backups of a lane
+
+module _ {R : Type 0} (segments : R → Option Segments) (faults : R → ℕ) (old : List (BackupLane R)) (number : ℕ) (it before now : BackupLane R) (here message : Message) (log : ℕ → ℕ → List ℕ)
+    (is : it ≡ before) (same : here ≡ message) where
+  pub backed_there : (backed : Backed) → IsBackedBy segments faults it now here.from here.body log backed
+      → IsBackedAt segments faults old (slice_set old (number - 1) now) number before message log backed
+  backed_there backed by = record {
+    now = now;
+    backups = refl;
+    by =
+        subst (λ (m : Message). IsBackedBy segments faults before now m.from m.body log backed) same
+        (subst (λ (b : BackupLane R). IsBackedBy segments faults b now here.from here.body log backed) is by);
+  }
+
+  pub unanswered_there : (cause : Lost) → IsUnanswered segments faults it now here.from here.body log cause
+      → IsUnansweredAt segments faults old (slice_set old (number - 1) now) number before message log cause
+  unanswered_there losses.Failed by = backed_there failing by
+  unanswered_there losses.NoMemory spared =
+      record { now = now; backups = refl; spared = subst (λ (b : BackupLane R). IsSpared faults b now) is spared }

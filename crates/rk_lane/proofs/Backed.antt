@@ -1,0 +1,320 @@
+-- A message reaches a backup: what the event makes of the parts of a lane and of its backups.
+use Rattle.std.proofs.Common.{◌≡◌, ◌≤◌, ◌<◌, ◌+◌, ◌-◌, ◌&&◌, ℕ, zero, suc, true, cond, inl, inr, List, [], ◌∷◌, length, slice_get, Option, None, Some, IfSome, is_some, refl, sym, ap, subst, ◌∙◌, arith}
+use Rattle.std.specs.List.{range_with_len}
+use Rattle.std.specs.Prelude.{unwrap_or}
+use Rattle.std.proofs.lemmas.Bool.{le-leb}
+use Rattle.std.proofs.lemmas.List.{length-set}
+use Rattle.rk_types.specs.NumberMap.{NumberMap, get, numbers}
+use Rattle.rk_types.specs.declared.node.Node.{Node}
+use Rattle.rk_types.specs.declared.node.Node.TheVariants as nodes
+use Rattle.rk_log.specs.Log.{bytes_of}
+use Rattle.rk_outside.specs.Segments.{Segments}
+use Rattle.rk_backup.specs.Lane.{number_of, replica_of}
+use Rattle.rk_backup.specs.declared.lane.BackupLane.{BackupLane}
+use Rattle.rk_message.specs.Wire.{receiver_of}
+use Rattle.rk_message.specs.declared.message.Body.{Body}
+use Rattle.rk_message.specs.declared.message.Body.TheVariants as bodies
+use Rattle.rk_message.specs.declared.message.Message.{Message}
+use Rattle.rk_world.specs.Backup.{Backed, Called, Appended, Failed, Gave, backup_step, called_by, failing, no_segments, stored_after}
+use Rattle.rk_world.specs.Limits.{IsFormedBody, IsThere, Limits, limits_of}
+use Rattle.rk_world.specs.Master.{Master}
+use Rattle.rk_world.specs.Refusals.{refusal}
+use Rattle.rk_world.specs.Step.{Stepped, backed_at, happened, log_bytes_of, quietly, told_by_replica, told_for, told_to, with_sends}
+use Rattle.rk_world.specs.World.{is_backup, with_stored_by}
+use Rattle.rk_world.specs.declared.error.StepError.{StepError}
+use Rattle.rk_world.specs.declared.error.StepError.TheVariants as errors
+use Rattle.rk_world.specs.declared.event.Event.TheVariants as events
+use Rattle.rk_world.specs.declared.event.Seen.{Seen}
+use Rattle.rk_laws_formed.proofs.Numbered.{found_in_range}
+use Rattle.rk_laws_formed.proofs.Rises.{keeps_to_top}
+use Rattle.rk_lane.specs.Backing.{CanBeAnswered, IsBackedBy, IsLogOf, IsSpared, sending}
+use Rattle.rk_lane.specs.Events.{HasCause, IsFailed}
+use Rattle.rk_lane.specs.Finished.{IsCutBack, IsFinished}
+use Rattle.rk_lane.specs.Happened.{IsHappened, IsUnhappened}
+use Rattle.rk_lane.specs.Lane.{AreNumbered}
+use Rattle.rk_lane.specs.LaneState.{AreTold, IsTold}
+use Rattle.rk_lane.specs.Made.{IsReady, IsSameParts}
+use Rattle.rk_lane.specs.Parts.{IsKept, world_of}
+use Rattle.rk_lane.specs.Sends.{IsFitToSend}
+use Rattle.rk_lane.specs.declared.parts.Parts.{Parts}
+use Rattle.rk_lane.proofs.AtEnd.{sends_made}
+use Rattle.rk_lane.proofs.Coordinated.{delivered_is, delivery_allowed, received}
+use Rattle.rk_lane.proofs.Journals.{cut_to, grown_by_none}
+use Rattle.rk_lane.proofs.Keeping.{formed_after, kept_still}
+use Rattle.rk_lane.proofs.MasterWork.{master_is, stands_at}
+use Rattle.rk_lane.proofs.Quiet.{masters_counted}
+use Rattle.rk_lane.proofs.Refusing.{refused_fresh}
+use Rattle.rk_lane.proofs.Sendable.{fit_to_send}
+use Rattle.rk_lane.proofs.Told.{none_failed, numbered_after, one_failed, stored_then, told_then, with_backup}
+use Rattle.rk_lane.proofs.Topped.{still_topped}
+
+-- ---- small laws
+
+-- the world once what one backup stores has changed, if it was told
+stored_world : (old : Parts) (backup : ℕ) (change : Segments → Segments) (stored : NumberMap Segments) (found : Option Segments)
+    → with_stored_by (world_of old stored) backup change found ≡ world_of old (stored_then backup change stored found)
+stored_world old backup change stored None = refl
+stored_world old backup change stored (Some its) = refl
+
+-- a call failed or it did not
+by_failing : (called : Called) (P : Type 0) → (IsFailed called → P) → ((IsFailed called → ⊥) → P) → P
+by_failing (Appended length) P failed fine = fine (λ never. never)
+by_failing (Gave bytes) P failed fine = fine (λ never. never)
+by_failing (Failed stored) P failed fine = failed tt
+
+-- what is found under a number that is there
+record IsFound {X : Type 0} (found : Option X) : Type 0 where
+  it : X
+  is : found ≡ Some it
+
+found_some : {X : Type 0} (found : Option X) → is_some found ≡ true → IsFound found
+found_some None there = absurd (cc there)
+found_some (Some it) there = record { it = it; is = refl }
+
+-- what the call came to, where the replica tells its segments
+given_by : {R : Type 0} (segments : R → Option Segments) (replica : R) (found : Option Segments) (P : Segments → Type 0) (its : Segments)
+    → segments replica ≡ Some its → found ≡ Some its → IfSome (segments replica) P → P (unwrap_or found no_segments)
+given_by segments replica found P its tells is holds =
+    subst (λ (o : Option Segments). P (unwrap_or o no_segments)) (sym is) (subst (λ (o : Option Segments). IfSome o P) tells holds)
+
+-- ---- a message for a backup
+
+-- the element at a place of a list
+record StandsIn {X : Type 0} (list : List X) (place : ℕ) : Type 0 where
+  it : X
+  at : slice_get list place ≡ Some it
+
+stands_in : {X : Type 0} (list : List X) (place : ℕ) → place < length list → StandsIn list place
+stands_in [] place within = absurd (omega arith)
+stands_in (first ∷ rest) zero within = record { it = first; at = refl }
+stands_in (first ∷ rest) (suc place) within =
+    let later = stands_in rest place (omega arith) in
+    record { it = later.it; at = later.at }
+
+-- a message of a well formed lane can be answered
+answered_of : (limits : Limits) (from : Node) (body : Body) → IsFormedBody limits from body → CanBeAnswered limits.masters body
+answered_of limits from (bodies.Append append) says = says
+answered_of limits from (bodies.Read wanted) says = says.1
+answered_of limits from _ says = tt
+
+pub can_be_answered : (old : Parts) (number : ℕ) (message : Message) → IsKept old → get old.wire.messages number ≡ Some message → CanBeAnswered (length old.masters.items) message.body
+can_be_answered old number message kept on =
+    subst (λ (count : ℕ). CanBeAnswered count message.body) (masters_counted old kept)
+    (answered_of (limits_of (world_of old [])) message.from message.body (kept.formed.formed.wire.each number message on).says)
+
+-- the logs of its world have what it asks for
+logs_of : (old : Parts) (body : Body) → IsKept old → CanBeAnswered (length old.masters.items) body → IsLogOf old.masters.items (log_bytes_of (world_of old [])) body
+logs_of old (bodies.Read wanted) kept there =
+    let stands = stands_at old.masters.items wanted.master kept.present there in
+    record {
+      it = stands.it;
+      at = stands.at;
+      bytes = ap (λ (master : Master). bytes_of master.log wanted.segment) (master_is old [] wanted.master stands.it there stands.at);
+    }
+logs_of old _ kept there = tt
+
+-- a message is for a backup that is there
+pub record IsReached {R : Type 0} (old : Parts) (before : List (BackupLane R)) (number backup : ℕ) : Type 0 where
+  pub message : Message
+  pub on : get old.wire.messages number ≡ Some message
+  pub to : message.to ≡ nodes.Backup backup
+  pub first : 1 ≤ backup
+  pub it : BackupLane R
+  pub at : slice_get before (backup - 1) ≡ Some it
+  pub logs : IsLogOf old.masters.items (log_bytes_of (world_of old [])) message.body
+
+pub reached : {R : Type 0} (old : Parts) (before : List (BackupLane R)) (number backup : ℕ) → IsKept old → receiver_of number old.wire ≡ Some (nodes.Backup backup)
+    → length before ≡ old.backups → IsReached old before number backup
+reached old before number backup kept to count =
+    let it = received number old.wire (nodes.Backup backup) to in
+    let there : (1 ≤ backup) × (backup ≤ old.backups) = subst (IsThere (limits_of (world_of old []))) it.is (kept.formed.formed.wire.each number it.message it.there).to in
+    let stands = stands_in before (backup - 1) (omega (arith, there.0, there.1, count)) in
+    record {
+      message = it.message;
+      on = it.there;
+      to = it.is;
+      first = there.0;
+      it = stands.it;
+      at = stands.at;
+      logs = logs_of old it.message.body kept (can_be_answered old number it.message kept it.there);
+    }
+
+-- ---- the event
+
+module _ {R : Type 0} (segments : R → Option Segments) (faults : R → ℕ) (old : Parts) (before : List (BackupLane R)) (number : ℕ) (message : Message) (backup : ℕ)
+    (it now : BackupLane R) (backed : Backed) (ready : IsReady old (events.Deliver number)) (on : get old.wire.messages number ≡ Some message)
+    (to : message.to ≡ nodes.Backup backup) (count : length before ≡ old.backups) (numbered : AreNumbered before) (at : slice_get before (backup - 1) ≡ Some it)
+    (by : IsBackedBy segments faults it now message.from message.body (log_bytes_of (world_of old [])) backed) where
+  abbrev change : Segments → Segments
+  change stored = stored_after stored message.from message.body by.called
+
+  abbrev stored_now : NumberMap Segments → NumberMap Segments
+  stored_now stored = stored_then backup change stored (get stored backup)
+
+  -- the backup is one of the lane's
+  is_there : (1 ≤ backup) × (backup ≤ old.backups)
+  is_there = subst (IsThere (limits_of (world_of old []))) to (ready.kept.formed.formed.wire.each number message on).to
+
+  counted : is_backup (world_of old []) backup ≡ true
+  counted = λ i. le-leb 1 backup is_there.0 i && le-leb backup old.backups is_there.1 i
+
+  its_number : number_of it ≡ backup
+  its_number =
+      let same : backup - 1 + 1 ≡ backup = omega (arith, is_there.0) in
+      numbered (backup - 1) it at ∙ same
+
+  allowed : refusal (world_of old []) (events.Deliver number) ≡ None
+  allowed =
+      refused_fresh (world_of old []) (events.Deliver number) ready.fresh
+      ∙ delivery_allowed number (get old.wire.messages number) message (nodes.Backup backup) on to refl
+
+  backed_happens : (stored : NumberMap Segments) → happened (world_of old stored) (events.Deliver number) by.called ≡ backed_at (world_of old (stored_now stored)) backed
+  backed_happens stored =
+      delivered_is (world_of old stored) number message (nodes.Backup backup) by.called on to
+      ∙ ap (λ b. cond b (backed_at (with_stored_by (world_of old stored) backup change (get stored backup))
+      (backup_step backup message.from message.body (log_bytes_of (world_of old stored)) by.called)) (quietly (world_of old stored))) counted
+      ∙ (λ i. backed_at (stored_world old backup change stored (get stored backup) i)
+      ((ap (λ (n : ℕ). backup_step n message.from message.body (log_bytes_of (world_of old [])) by.called) (sym its_number) ∙ sym by.answer) i))
+
+  -- what failed
+  cause : HasCause faults by.called before (with_backup before backup now)
+  cause =
+      by_failing by.called (HasCause faults by.called before (with_backup before backup now))
+      (λ failed. inl (failed, one_failed before backup it now is_there.0 at faults (by.failed failed)))
+      (λ fine. inr (fine, none_failed before backup it now is_there.0 at faults (by.fine fine)))
+
+  -- what the call came to, where all replicas tell their segments
+  given : (stored : NumberMap Segments) → AreTold segments before stored → (IsFailed by.called → ⊥) → numbers stored ≡ range_with_len 1 old.backups
+      → by.called ≡ told_by_replica (world_of old stored) (events.Deliver number) None
+  given stored are fine all =
+      let its = found_some (get stored backup) (found_in_range stored old.backups backup all (record { first = is_there.0; last = is_there.1 })) in
+      let tells : IsTold segments before backup its.it = are backup its.it its.is in
+      let place : tells.place ≡ backup - 1 = omega (arith, tells.number_is) in
+      let same_backup : Some tells.backup ≡ Some it = sym tells.there ∙ ap (slice_get before) place ∙ at in
+      let same : tells.backup ≡ it = cc same_backup in
+      given_by segments (replica_of it) (get stored backup) (λ told. (IsFailed by.called → ⊥) → by.called ≡ called_by told message.from message.body None) its.it
+      (ap (λ (b : BackupLane R). segments (replica_of b)) (sym same) ∙ tells.tells) its.is by.given fine
+      ∙ sym
+      (ap (λ (found : Option Message). told_for (world_of old stored) found None) on
+      ∙ ap (λ node. told_to (world_of old stored) message node None) to)
+
+  -- what the event makes, by the world after it
+  pub backup_happened : (new : Parts) (after : List (BackupLane R)) (seen : Seen) → after ≡ with_backup before backup now → IsKept new → IsSameParts old new
+      → ((stored : NumberMap Segments) → backed_at (world_of old stored) backed ≡ record { world = world_of new stored; seen = seen })
+      → IsHappened segments faults (events.Deliver number) old before new after seen
+  backup_happened new after seen is kept lane makes =
+      subst (λ (list : List (BackupLane R)). IsHappened segments faults (events.Deliver number) old before new list seen) (sym is)
+      (record {
+        called = by.called;
+        may = by.may;
+        cause = cause;
+        allowed = allowed;
+        kept = kept;
+        lane = lane;
+        count = length-set before (backup - 1) now;
+        numbered = numbered_after before backup it now is_there.0 at by.number numbered;
+        made = λ stored are. record {
+          now = stored_now stored;
+          made = backed_happens stored ∙ makes (stored_now stored);
+          told = told_then before backup it now is_there.0 at segments change by.told stored are (get stored backup) refl;
+          given = given stored are;
+        };
+      })
+
+  -- ---- it is lost
+
+  lost_makes : (seen : Seen) → backed ≡ failing → seen ≡ record { first = 0; sent = 0; lost = true; taken = None } → (stored : NumberMap Segments)
+      → backed_at (world_of old stored) backed ≡ record { world = world_of old stored; seen = seen }
+  lost_makes seen is lost stored =
+      let keeps = keeps_to_top (world_of old []) ready.kept.formed.formed in
+      ap (backed_at (world_of old stored)) is
+      ∙ (λ i. record {
+        world =
+            still_topped (world_of old stored)
+            (record { top = keeps.top; sent = keeps.sent; stamp = keeps.stamp; seen = keeps.seen; terms = keeps.terms; counters = keeps.counters }) i;
+        seen = sym lost i;
+      })
+
+  pub lost_happened : (after : List (BackupLane R)) (seen : Seen) → after ≡ with_backup before backup now → backed ≡ failing
+      → seen ≡ record { first = 0; sent = 0; lost = true; taken = None } → IsHappened segments faults (events.Deliver number) old before old after seen
+  lost_happened after seen is_after is lost =
+      backup_happened old after seen is_after ready.kept (record { number = refl; backups = refl; masters = refl }) (lost_makes seen is lost)
+
+  -- ---- it answers
+
+  sent_makes : (sends : List Message) (new : Parts) (seen : Seen) → backed ≡ sending sends → IsFinished old sends new seen → (stored : NumberMap Segments)
+      → backed_at (world_of old stored) backed ≡ record { world = world_of new stored; seen = seen }
+  sent_makes sends new seen is finished stored =
+      ap (backed_at (world_of old stored)) is
+      ∙ sends_made old new old.top sends seen finished (keeps_to_top (world_of old []) ready.kept.formed.formed) (omega arith) (λ limit low within. low) stored
+
+  -- all is kept then
+  sent_keeps : (sends : List Message) (new : Parts) (seen : Seen) → backed ≡ sending sends → IsFinished old sends new seen → IsKept new
+  sent_keeps sends new seen is finished =
+      kept_still old new (events.Deliver number) by.called seen ready.kept ready.may by.may allowed
+      (backed_happens [] ∙ sent_makes sends new seen is finished [])
+      (ap (λ (p : Parts). p.masters) finished.parts) (ap (λ (p : Parts). p.crashed) finished.parts) (ap (λ (p : Parts). p.log_bytes) finished.parts)
+
+  pub sent_happened : (sends : List Message) (new : Parts) (after : List (BackupLane R)) (seen : Seen) → after ≡ with_backup before backup now → backed ≡ sending sends
+      → IsFinished old sends new seen → IsHappened segments faults (events.Deliver number) old before new after seen
+  sent_happened sends new after seen is_after is finished =
+      backup_happened new after seen is_after (sent_keeps sends new seen is finished)
+      (record {
+        number = ap (λ (p : Parts). p.number) finished.parts;
+        backups = ap (λ (p : Parts). p.backups) finished.parts;
+        masters = ap (λ (p : Parts). length p.masters.items) finished.parts;
+      })
+      (sent_makes sends new seen is finished)
+
+  -- what is sent fits the wire
+  pub sent_fits : (sends : List Message) → backed ≡ sending sends → IsFitToSend old.wire sends
+  sent_fits sends is =
+      fit_to_send (world_of old []) sends
+      (formed_after (world_of old []) (with_sends (world_of old []) sends).world (events.Deliver number) by.called ready.may by.may allowed ready.kept.formed
+      (ap (λ (stepped : Stepped). stepped.world) (backed_happens [] ∙ ap (backed_at (world_of old [])) is))
+      (record { bytes = ready.kept.formed.room.bytes; masters = ready.kept.formed.room.masters }))
+
+-- ---- memory is wanting
+
+module _ {R : Type 0} (faults : R → ℕ) (old : Parts) (before : List (BackupLane R)) (number backup : ℕ) (it now : BackupLane R) (first : 1 ≤ backup)
+    (numbered : AreNumbered before) (at : slice_get before (backup - 1) ≡ Some it) (spared : IsSpared faults it now) where
+  -- before anything was sent
+  pub spared_unhappened : (after : List (BackupLane R)) (error : StepError) → after ≡ with_backup before backup now → error ≡ errors.NoMemory
+      → IsUnhappened faults (events.Deliver number) old before old after error
+  spared_unhappened after error is memory =
+      subst (λ (list : List (BackupLane R)). IsUnhappened faults (events.Deliver number) old before old list error) (sym is)
+      (record {
+        cause = λ apart. absurd (apart memory);
+        same = λ apart. absurd (apart memory);
+        same_backups = λ apart. absurd (apart memory);
+        ledger = record { journal = refl; asked = refl; clients = refl };
+        lane = record { number = refl; backups = refl; masters = refl };
+        count = length-set before (backup - 1) now;
+        numbered = numbered_after before backup it now first at spared.number numbered;
+        counts = none_failed before backup it now first at faults spared.fine;
+      })
+
+  -- when it was to be sent
+  pub cut_unhappened : (new : Parts) (after : List (BackupLane R)) (error : StepError) → after ≡ with_backup before backup now
+      → IsCutBack old (length old.ledger.journal) new error → IsUnhappened faults (events.Deliver number) old before new after error
+  cut_unhappened new after error is cut =
+      let ledger = ap (λ (p : Parts). p.ledger) cut.parts in
+      subst (λ (list : List (BackupLane R)). IsUnhappened faults (events.Deliver number) old before new list error) (sym is)
+      (record {
+        cause = λ apart. absurd (apart cut.memory);
+        same = λ apart. absurd (apart cut.memory);
+        same_backups = λ apart. absurd (apart cut.memory);
+        ledger = record {
+          journal = ap (λ l. l.journal) ledger ∙ cut_to old.ledger old.ledger (grown_by_none old.ledger);
+          asked = ap (λ l. l.asked) ledger;
+          clients = ap (λ l. l.clients) ledger;
+        };
+        lane = record {
+          number = ap (λ (p : Parts). p.number) cut.parts;
+          backups = ap (λ (p : Parts). p.backups) cut.parts;
+          masters = ap (λ (p : Parts). length p.masters.items) cut.parts;
+        };
+        count = length-set before (backup - 1) now;
+        numbered = numbered_after before backup it now first at spared.number numbered;
+        counts = none_failed before backup it now first at faults spared.fine;
+      })

@@ -1,0 +1,292 @@
+-- What a client's turn and its answer make of the parts of a lane: the world after it is that of the parts after it, and all is kept.
+use Rattle.std.proofs.Common.{◌≡◌, ◌≤◌, ◌+◌, ℕ, Bool, true, false, cond, max, [], ◌∷◌, All, Option, None, Some, is_some, refl, sym, ap, subst, ◌∙◌, arith}
+use Rattle.std.specs.Prelude.{IfSome, Ok, Result, not, unwrap_or, ◌==◌}
+use Rattle.std.specs.Option.{option_map, option_or}
+use Rattle.std.proofs.lemmas.Bool.{and_parts, eqb-true}
+use Rattle.std.proofs.lemmas.List.Elements.{All-nil}
+use Rattle.rk_types.proofs.NumberMaps.{get_same}
+use Rattle.rk_types.specs.NumberMap.{NumberMap, get}
+use Rattle.rk_types.specs.declared.call.Call.{Call}
+use Rattle.rk_outside.specs.Segments.{Segments}
+use Rattle.rk_message.specs.Wire.{Traffic, with_message}
+use Rattle.rk_message.specs.declared.message.Body.{Body}
+use Rattle.rk_message.specs.declared.message.Body.TheVariants as bodies
+use Rattle.rk_message.specs.declared.message.Message.{Message}
+use Rattle.rk_world.specs.Base.{no_base}
+use Rattle.rk_world.specs.Calls.{Visited, accept, accept_by, accepting, ask, ask_by, asking, asking_by, fits_by, is_asked, is_asked_here, is_call, is_last, ledger_asked, ledger_requested, ledger_taken, taking, untouched}
+use Rattle.rk_world.specs.Client.{ClientTurn, Session, session_accept, session_turn}
+use Rattle.rk_world.specs.Journal.{is_accepted, last_stamp}
+use Rattle.rk_world.specs.Ledger.{Ledger, asked_by, is_added, seen_of, with_asked}
+use Rattle.rk_world.specs.Premises.{IsAfterStart, MayAct}
+use Rattle.rk_world.specs.Refusals.{accept_refusal, ask_refusal, where_true, worn, worn_session}
+use Rattle.rk_world.specs.Runs.{IsFormedWithRoom, world_visited}
+use Rattle.rk_world.specs.Step.{with_sends}
+use Rattle.rk_world.specs.World.{World, with_all_sent, with_ledger, with_top}
+use Rattle.rk_world.specs.declared.error.StepError.{StepError}
+use Rattle.rk_world.specs.declared.error.StepError.TheVariants as errors
+use Rattle.rk_world.specs.declared.event.Seen.{Seen}
+use Rattle.rk_world.specs.declared.event.Taken.{Taken}
+use Rattle.rk_world.specs.declared.event.Taken.TheVariants as takes
+use Rattle.rk_world.specs.declared.ledger.LastCall.{LastCall}
+use Rattle.rk_lane.specs.Parts.{IsKept, world_of}
+use Rattle.rk_lane.specs.Sends.{IsFitToSend}
+use Rattle.rk_lane.specs.Visiting.{MayTurn, last_to_note, noted, request_told, saved}
+use Rattle.rk_lane.specs.Visits.{IsVisited}
+use Rattle.rk_lane.specs.declared.parts.Parts.{Parts}
+use Rattle.rk_laws_formed.proofs.Bounds.{all_in_map}
+use Rattle.rk_laws_formed.proofs.Happenings.{formed_accepts, formed_asks}
+use Rattle.rk_laws_formed.proofs.Rises.{KeepsTo, all_inserted, keeps_to_more, keeps_to_top}
+use Rattle.rk_lane.proofs.Sendable.{fit_to_send}
+use Rattle.rk_lane.proofs.Topped.{keeps_once_topped, topped}
+
+-- all is kept where ledger, wire and greatest number alone are others
+pub kept_with : (old : Parts) (ledger : Ledger) (wire : Traffic) (top : ℕ) → IsKept old
+    → IsFormedWithRoom (world_of (record old { ledger = ledger; wire = wire; top = top }) []) → IsKept (record old { ledger = ledger; wire = wire; top = top })
+kept_with old ledger wire top kept formed = record {
+  present = kept.present;
+  formed = formed;
+  counted = kept.counted;
+  distinct = kept.distinct;
+  reserved = kept.reserved;
+}
+
+-- each call comes after a start that tells nothing
+pub after_nothing : (call : Option Call) → IfSome call (IsAfterStart no_base)
+after_nothing None = tt
+after_nothing (Some call) = All-nil _
+
+-- what was visited is so as well by other names of what came of it
+pub visited_as : (visit : World → Result Visited StepError) (old made new : Parts) (later session : Session) (shown seen : Seen)
+    → new ≡ made → session ≡ later → seen ≡ shown → IsVisited visit old made later shown → IsVisited visit old new session seen
+visited_as visit old made new later session shown seen parts same is visited =
+    subst (λ (p : Parts). IsVisited visit old p session seen) (sym parts)
+    (subst (λ (s : Session). IsVisited visit old made s seen) (sym same)
+    (subst (λ (s : Seen). IsVisited visit old made later s) (sym is) visited))
+
+-- ---- the ledger
+
+-- a call is noted just where the definitions note it
+noted_is : (ledger : Ledger) (session : Session) (call : Call) → noted ledger session.client (last_to_note ledger session (Some call)) ≡ ledger_asked ledger session call
+noted_is ledger session call = go (is_asked ledger session call)
+  where
+    go : (asked : Bool) → noted ledger session.client (cond asked None (Some (record { call = call; seen = session.seen })))
+        ≡ cond asked ledger (with_asked ledger session.client (record { call = call; seen = session.seen }))
+    go true = refl
+    go false = refl
+
+-- a request is saved just where they save it
+saved_is : (ledger : Ledger) (client : ℕ) (message : Message) (body : Body) → saved ledger client (request_told message body) ≡ ledger_requested ledger client message body
+saved_is ledger client message (bodies.Request request) = refl
+saved_is ledger client message _ = refl
+
+journal_noted : (ledger : Ledger) (client : ℕ) (last : Option LastCall) → (noted ledger client last).journal ≡ ledger.journal
+journal_noted ledger client None = refl
+journal_noted ledger client (Some last) = refl
+
+journal_saved : (ledger : Ledger) (client : ℕ) (request : Option Message) → (saved ledger client request).journal ≡ ledger.journal
+journal_saved ledger client None = refl
+journal_saved ledger client (Some message) = refl
+
+clients_saved : (ledger : Ledger) (client : ℕ) (request : Option Message) → (saved ledger client request).clients ≡ ledger.clients
+clients_saved ledger client None = refl
+clients_saved ledger client (Some message) = refl
+
+-- what clients had seen keeps to a limit
+abbrev AllSeen : ℕ → Ledger → Type 0
+AllSeen limit ledger = All (λ entry. seen_of entry.1 ≤ limit) ledger.clients
+
+-- it does so once a call is noted, where its client's session does
+seen_noted : (limit : ℕ) (ledger : Ledger) (client : ℕ) (last : Option LastCall) → IfSome last (λ one. one.seen ≤ limit) → AllSeen limit ledger → AllSeen limit (noted ledger client last)
+seen_noted limit ledger client None low all = all
+seen_noted limit ledger client (Some last) low all =
+    all_inserted (λ (one : Option LastCall). seen_of one ≤ limit) ledger.clients client (Some last) low all
+
+low_to_note : (limit : ℕ) (ledger : Ledger) (session : Session) (call : Option Call) → session.seen ≤ limit → IfSome (last_to_note ledger session call) (λ one. one.seen ≤ limit)
+low_to_note limit ledger session None low = tt
+low_to_note limit ledger session (Some call) low = go (is_asked ledger session call)
+  where
+    go : (asked : Bool) → IfSome {T = LastCall} (cond asked None (Some (record { call = call; seen = session.seen }))) (λ one. one.seen ≤ limit)
+    go true = tt
+    go false = low
+
+-- a client with a last call stands in the map
+found_last : (found : Option (Option LastCall)) (last : LastCall) → unwrap_or found None ≡ Some last → found ≡ Some (Some last)
+found_last None last is = absurd (cc is)
+found_last (Some asked) last is = ap Some is
+
+-- what the session of a call that was asked has seen keeps to the limit
+seen_asked : (limit : ℕ) (ledger : Ledger) (session : Session) (call : Call) → is_asked ledger session call ≡ true → AllSeen limit ledger → session.seen ≤ limit
+seen_asked limit ledger session call asked all =
+    go (asked_by ledger session.client) refl
+    (and_parts (is_last call session.seen (asked_by ledger session.client)) (not (is_accepted ledger.journal session.client call.seq)) asked).0
+  where
+    go : (last : Option LastCall) → asked_by ledger session.client ≡ last → is_last call session.seen last ≡ true → session.seen ≤ limit
+    go None is it = absurd (cc it)
+    go (Some last) is it =
+        subst (λ (n : ℕ). n ≤ limit) (eqb-true last.seen session.seen (and_parts (is_call last.call call) (last.seen == session.seen) it).1)
+        (all_in_map (λ (one : Option LastCall). seen_of one ≤ limit) ledger.clients session.client (Some last)
+        (found_last (get ledger.clients session.client) last is) all)
+
+-- and so it is once the call is noted
+seen_once_noted : (limit : ℕ) (ledger : Ledger) (session : Session) (call : Call) → AllSeen limit (noted ledger session.client (last_to_note ledger session (Some call))) → session.seen ≤ limit
+seen_once_noted limit ledger session call = go (is_asked ledger session call) refl
+  where
+    go : (asked : Bool) → is_asked ledger session call ≡ asked
+        → AllSeen limit (noted ledger session.client (cond asked None (Some (record { call = call; seen = session.seen })))) → session.seen ≤ limit
+    go true is all = seen_asked limit ledger session call is all
+    go false is all =
+        all_in_map (λ (one : Option LastCall). seen_of one ≤ limit) (with_asked ledger session.client (record { call = call; seen = session.seen })).clients session.client
+        (Some (record { call = call; seen = session.seen }))
+        (get_same ledger.clients session.client (Some (record { call = call; seen = session.seen })) session.client refl) all
+
+-- a client that was added stays so
+pub added_noted : (ledger : Ledger) (client : ℕ) (last : Option LastCall) → is_added ledger client ≡ true → is_added (noted ledger client last) client ≡ true
+added_noted ledger client None added = added
+added_noted ledger client (Some last) added = ap is_some (get_same ledger.clients client (Some last) client refl)
+
+-- ---- a client's turn
+
+-- the client of a turn that is not refused was added
+pub added_where_allowed : (w : World) (session : Session) → ask_refusal w session ≡ None → is_added w.ledger session.client ≡ true
+added_where_allowed w session = go (option_or (worn w) (worn_session session session.outstanding)) (is_added w.ledger session.client)
+  where
+    go : (number : Option ℕ) (added : Bool)
+        → option_or (option_map errors.Worn number) (where_true (not added) (errors.Stranger session.client)) ≡ None → added ≡ true
+    go (Some number) added none = absurd (cc none)
+    go None true none = refl
+    go None false none = absurd (cc none)
+
+-- the outstanding call of a session
+record HasCall (session : Session) : Type 0 where
+  call : Call
+  there : session.outstanding ≡ Some call
+
+-- a session that fits has one
+call_that_fits : (w : World) (session : Session) → fits_by w session session.outstanding ≡ true → HasCall session
+call_that_fits w session fits = go session.outstanding refl fits
+  where
+    go : (call : Option Call) → session.outstanding ≡ call → fits_by w session call ≡ true → HasCall session
+    go None is it = absurd (cc it)
+    go (Some call) is it = record { call = call; there = is }
+
+module _ (old : Parts) (session later : Session) (message : Message) (may : MayTurn old session)
+    (turn : session_turn session ≡ Some (record { session = later; message = message })) where
+  abbrev pub ledger_then : Ledger
+  ledger_then =
+      saved (noted old.ledger session.client (last_to_note old.ledger session session.outstanding)) session.client (request_told message message.body)
+
+  abbrev pub parts_then : Parts
+  parts_then = record old {
+    ledger = ledger_then;
+    wire = with_message message old.wire;
+    top = max (max old.top session.seen) (old.wire.sent + 1);
+  }
+
+  its : HasCall session
+  its = call_that_fits (world_of old []) session may.fits
+
+  ledger_is : ledger_then ≡ ledger_requested (ledger_asked old.ledger session its.call) session.client message message.body
+  ledger_is =
+      (λ i. saved (noted old.ledger session.client (last_to_note old.ledger session (its.there i))) session.client (request_told message message.body))
+      ∙ ap (λ (ledger : Ledger). saved ledger session.client (request_told message message.body)) (noted_is old.ledger session its.call)
+      ∙ saved_is (ledger_asked old.ledger session its.call) session.client message message.body
+
+  -- the world once the message is sent
+  abbrev sent_then : NumberMap Segments → World
+  sent_then stored = with_all_sent (with_ledger (world_of old stored) ledger_then) (message ∷ [])
+
+  keeps_then : (stored : NumberMap Segments) → KeepsTo parts_then.top (sent_then stored)
+  keeps_then stored =
+      let before = keeps_to_more old.top parts_then.top (world_of old []) (omega arith) (keeps_to_top (world_of old []) may.kept.formed.formed) in
+      record {
+        top = omega arith;
+        sent = omega arith;
+        stamp =
+            subst (λ journal. last_stamp journal ≤ parts_then.top)
+            (sym (journal_noted old.ledger session.client (last_to_note old.ledger session session.outstanding))
+            ∙ sym (journal_saved (noted old.ledger session.client (last_to_note old.ledger session session.outstanding)) session.client (request_told message message.body)))
+            before.stamp;
+        seen =
+            subst (λ clients. All (λ entry. seen_of entry.1 ≤ parts_then.top) clients)
+            (sym (clients_saved (noted old.ledger session.client (last_to_note old.ledger session session.outstanding)) session.client (request_told message message.body)))
+            (seen_noted parts_then.top old.ledger session.client (last_to_note old.ledger session session.outstanding)
+            (low_to_note parts_then.top old.ledger session session.outstanding (omega arith)) before.seen);
+        terms = before.terms;
+        counters = before.counters;
+      }
+
+  reached_then : (stored : NumberMap Segments) → parts_then.top ≤ (with_top (sent_then stored)).top
+  reached_then stored =
+      let once = keeps_once_topped (sent_then stored) in
+      let top = once.top in
+      let sent = once.sent in
+      let seen : session.seen ≤ (with_top (sent_then stored)).top =
+      seen_once_noted (with_top (sent_then stored)).top old.ledger session its.call
+      (subst (λ (call : Option Call). AllSeen (with_top (sent_then stored)).top (noted old.ledger session.client (last_to_note old.ledger session call))) its.there
+      (subst (λ clients. All (λ entry. seen_of entry.1 ≤ (with_top (sent_then stored)).top) clients)
+      (clients_saved (noted old.ledger session.client (last_to_note old.ledger session session.outstanding)) session.client (request_told message message.body))
+      once.seen)) in
+      omega arith
+
+  -- the definitions' turn of the client
+  asked_is : (stored : NumberMap Segments) → ask (world_of old stored) session
+      ≡ Ok (record { world = (with_sends (with_ledger (world_of old stored) ledger_then) (message ∷ [])).world; session = later; seen = record { first = old.wire.sent + 1; sent = 1; lost = false; taken = None } })
+  asked_is stored =
+      let w : World = world_of old stored in
+      ap (λ (refusal : Option StepError). ask_by w session refusal) may.allowed
+      ∙ (λ i. Ok (asking w session (its.there i)))
+      ∙ ap (λ (fits : Bool). Ok (cond fits (asking_by w session its.call (session_turn session)) (untouched w session None)))
+      (ap (λ (call : Option Call). fits_by (world_of old []) session call) (sym its.there) ∙ may.fits)
+      ∙ ap (λ (turned : Option ClientTurn). Ok (asking_by w session its.call turned)) turn
+      ∙ (λ i. Ok (record { world = (with_sends (with_ledger w (sym ledger_is i)) (message ∷ [])).world; session = later; seen = record { first = old.wire.sent + 1; sent = 1; lost = false; taken = None } }))
+
+  formed_then : IsFormedWithRoom (with_sends (with_ledger (world_of old []) ledger_then) (message ∷ [])).world
+  formed_then =
+      subst (λ (result : Result Visited StepError). IsFormedWithRoom (world_visited (world_of old []) result)) (asked_is [])
+      (formed_asks (world_of old []) session (may.may, after_nothing session.outstanding) may.kept.formed)
+
+  -- what the client sends fits the wire
+  pub turn_fits : IsFitToSend old.wire (message ∷ [])
+  turn_fits = fit_to_send (with_ledger (world_of old []) ledger_then) (message ∷ []) formed_then
+
+  world_then : (stored : NumberMap Segments) → with_top (sent_then stored) ≡ world_of parts_then stored
+  world_then stored = topped (sent_then stored) parts_then.top (keeps_then stored) (reached_then stored)
+
+  -- the client has taken its turn then
+  pub turn_made : IsVisited (λ w. ask w session) old parts_then later (record { first = old.wire.sent + 1; sent = 1; lost = false; taken = None })
+  turn_made = record {
+    visited = λ stored. asked_is stored
+        ∙ (λ i. Ok (record { world = world_then stored i; session = later; seen = record { first = old.wire.sent + 1; sent = 1; lost = false; taken = None } }));
+    kept = kept_with old ledger_then (with_message message old.wire) parts_then.top may.kept (subst IsFormedWithRoom (world_then []) formed_then);
+    lane = record { number = refl; backups = refl; masters = refl };
+  }
+
+-- ---- a client's answer
+
+module _ (old : Parts) (number : ℕ) (session : Session) (kept : IsKept old) (may : MayAct old.coordinator.masters session)
+    (none : accept_refusal (world_of old []) number session.client (get old.wire.messages number) ≡ None) (message : Message)
+    (there : get old.wire.messages number ≡ Some message) (asked : is_asked_here (world_of old []) session ≡ true) where
+  abbrev taken_then : Taken
+  taken_then = (session_accept session message.body).taken
+
+  abbrev pub parts_taken : Parts
+  parts_taken = record old { ledger = ledger_taken old.ledger message.body taken_then }
+
+  accepted : (stored : NumberMap Segments) → accept (world_of old stored) number session
+      ≡ Ok (record { world = world_of parts_taken stored; session = (session_accept session message.body).session; seen = record { first = 0; sent = 0; lost = false; taken = Some taken_then } })
+  accepted stored =
+      let w : World = world_of old stored in
+      ap (λ (refusal : Option StepError). accept_by w number session refusal) none
+      ∙ ap (λ (found : Option Message). Ok (accepting w session found)) there
+      ∙ ap (λ (here : Bool). Ok (cond here (taking w session message.body) (untouched w session (Some takes.Ignored)))) asked
+
+  -- the client has taken its answer then
+  pub answer_taken : IsVisited (λ w. accept w number session) old parts_taken (session_accept session message.body).session (record { first = 0; sent = 0; lost = false; taken = Some taken_then })
+  answer_taken = record {
+    visited = accepted;
+    kept =
+        kept_with old parts_taken.ledger old.wire old.top kept
+        (subst (λ (result : Result Visited StepError). IsFormedWithRoom (world_visited (world_of old []) result)) (accepted [])
+        (formed_accepts (world_of old []) number session may kept.formed));
+    lane = record { number = refl; backups = refl; masters = refl };
+  }

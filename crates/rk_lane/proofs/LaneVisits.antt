@@ -1,0 +1,28 @@
+-- A visit to the parts of a lane is one to the lane.
+use Rattle.std.proofs.Common.{◌≡◌, ℕ, Bool, false, cond, length, None, Some, refl, sym, ap, ◌∙◌}
+use Rattle.std.specs.Prelude.{Ok, Result}
+use Rattle.rk_world.specs.Calls.{Visited}
+use Rattle.rk_world.specs.Client.{Session}
+use Rattle.rk_world.specs.World.{World}
+use Rattle.rk_world.specs.declared.error.StepError.{StepError}
+use Rattle.rk_world.specs.declared.event.Seen.{Seen}
+use Rattle.rk_lane.specs.Lane.{lane_of}
+use Rattle.rk_lane.specs.Parts.{running_of, world_of}
+use Rattle.rk_lane.specs.Visits.{IsVisitOf, IsVisited}
+use Rattle.rk_lane.specs.declared.lane.Lane.TheInside.{Inside}
+use Rattle.rk_lane.specs.declared.parts.Parts.{Parts}
+
+pub visit_in_lane : {R : Type 0} (visit : World → Result Visited StepError) (lane : Inside R) (parts : Parts) (session : Session) (seen : Seen)
+    → lane.spent ≡ false → length lane.backups.items ≡ lane.parts.backups → IsVisited visit lane.parts parts session seen
+    → IsVisitOf visit (lane_of lane) (lane_of (record lane { parts = parts })) session seen
+visit_in_lane visit lane parts session seen live count visited = record {
+  before = running_of lane.parts;
+  after = running_of parts;
+  was = ap (λ (spent : Bool). cond spent None (Some (running_of lane.parts))) live;
+  is = ap (λ (spent : Bool). cond spent None (Some (running_of parts))) live;
+  backups = refl;
+  visited = λ stored. ap (λ (backups : ℕ). visit (record (world_of lane.parts stored) { backup_count = backups })) count
+      ∙ visited.visited stored
+      ∙ ap (λ (backups : ℕ). Ok (record { world = record (world_of parts stored) { backup_count = backups }; session = session; seen = seen }))
+      (visited.lane.backups ∙ sym count);
+}

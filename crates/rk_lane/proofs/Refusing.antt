@@ -1,0 +1,20 @@
+-- Which events a lane refuses that is not worn.
+use Rattle.std.proofs.Common.{◌≡◌, ℕ, Bool, true, false, cond, Option, None, refl, ap}
+use Rattle.std.specs.Option.{option_map, option_or}
+use Rattle.rk_world.specs.Refusals.{comes_anyway, fault_of, refusal, worn}
+use Rattle.rk_world.specs.World.{World}
+use Rattle.rk_world.specs.declared.error.StepError.TheVariants as errors
+use Rattle.rk_world.specs.declared.event.Event.{Event}
+
+-- where a lane is not worn, it refuses just by the rules of the event's kind
+pub refused_fresh : (w : World) (event : Event) → worn w ≡ None → refusal w event ≡ fault_of w event
+refused_fresh w event fresh = go (comes_anyway event)
+  where
+    go : (anyway : Bool) → cond anyway (fault_of w event) (option_or (option_map errors.Worn (worn w)) (fault_of w event)) ≡ fault_of w event
+    go true = refl
+    go false = ap (λ (o : Option ℕ). option_or (option_map errors.Worn o) (fault_of w event)) fresh
+
+-- and where an event comes anyway it does so too
+pub refused_anyway : (w : World) (event : Event) → comes_anyway event ≡ true → refusal w event ≡ fault_of w event
+refused_anyway w event anyway =
+    ap (λ (b : Bool). cond b (fault_of w event) (option_or (option_map errors.Worn (worn w)) (fault_of w event))) anyway

@@ -1,0 +1,83 @@
+-- How messages are sent one after the other.
+use Rattle.std.proofs.Common.{◌≡◌, ◌≤◌, ◌<◌, ◌+◌, ◌==◌, ◌^◌, ℕ, suc, if◌then◌else◌, List, [], ◌∷◌, ◌++◌, length, fold, All, refl, sym, ap, subst, ◌∙◌, append_assoc, append-nil, arith}
+use Rattle.std.proofs.lemmas.List.{length-append}
+use Rattle.std.proofs.lemmas.List.Elements.{All-tail}
+use Rattle.std.proofs.lemmas.List.Sums.{fold-append}
+use Rattle.std.proofs.lemmas.Bool.Decides.{nat_tests}
+use Rattle.rk_message.specs.Wire.{Traffic, with_message}
+use Rattle.rk_message.specs.declared.message.Message.{Message}
+use Rattle.rk_world.specs.Step.{first_number}
+use Rattle.rk_lane.specs.Sends.{IsSendable, IsSent}
+use Rattle.rk_lane.specs.declared.sends.Sent.{Sent}
+
+-- of the messages that are to be sent these are left
+pub record IsSending (old : Traffic) (sends left : List Message) (wire : Traffic) (sent : Sent) : Type 0 where
+  pub done : List Message
+  pub parts : done ++ left ≡ sends
+  pub is : IsSent old done wire sent
+  pub within : sent.count ≤ wire.sent
+  pub lawful : All IsSendable left
+  pub room : wire.sent + length left < 2 ^ 60
+
+-- none is sent
+pub none_sent : (old : Traffic) (sends : List Message) (sent : Sent) → sent ≡ record { first = 0; count = 0; last = 0 } → All IsSendable sends
+    → old.sent + length sends < 2 ^ 60 → IsSending old sends sends old sent
+none_sent old sends sent is lawful room =
+    let count = ap (λ (s : Sent). s.count) is in
+    let last = ap (λ (s : Sent). s.last) is in
+    record {
+      done = [];
+      parts = refl;
+      is = record { wire = refl; first = ap (λ (s : Sent). s.first) is; count = count; reached = omega arith; given = omega arith };
+      within = omega arith;
+      lawful = lawful;
+      room = room;
+    }
+
+not_none : (count k first number : ℕ) → count ≡ suc k → (if count == 0 then number else first) ≡ first
+not_none count k first number some = grind (arith, nat_tests)
+
+-- the number of the first one stays, where one was sent
+first_stays : (old wire : Traffic) (done : List Message) (message : Message) (count first number : ℕ) → wire ≡ fold (λ now m. with_message m now) old done
+    → count ≡ length done → first ≡ first_number old done → number ≡ wire.sent + 1
+    → (if count == 0 then number else first) ≡ first_number old (done ++ message ∷ [])
+first_stays old wire [] message count first number wire_is none is next =
+    ap (λ (n : ℕ). if n == 0 then number else first) none ∙ next ∙ ap (λ (w : Traffic). w.sent + 1) wire_is
+first_stays old wire (one ∷ done) message count first number wire_is some is next =
+    not_none count (length done) first number some ∙ is
+
+-- one more is sent
+pub one_sent : (old : Traffic) (sends left rest : List Message) (message : Message) (wire now : Traffic) (sent more : Sent) (number : ℕ)
+    → left ≡ message ∷ rest → number ≡ wire.sent + 1 → now ≡ with_message message wire
+    → more ≡ record { first = if sent.count == 0 then number else sent.first; count = sent.count + 1; last = number }
+    → IsSending old sends left wire sent → IsSending old sends rest now more
+one_sent old sends left rest message wire now sent more number is next sends_it counts before =
+    let whole : before.done ++ message ∷ rest ≡ sends = ap (λ (list : List Message). before.done ++ list) (sym is) ∙ before.parts in
+    let longer : length left ≡ suc (length rest) = ap (λ (list : List Message). length list) is in
+    let reached : now.sent ≡ wire.sent + 1 = ap (λ (w : Traffic). w.sent) sends_it in
+    let count : more.count ≡ sent.count + 1 = ap (λ (s : Sent). s.count) counts in
+    let last : more.last ≡ number = ap (λ (s : Sent). s.last) counts in
+    let inner = before.is in
+    let within = before.within in
+    let room = before.room in
+    record {
+      done = before.done ++ message ∷ [];
+      parts = append_assoc before.done (message ∷ []) rest ∙ whole;
+      is = record {
+        wire = sends_it ∙ ap (with_message message) inner.wire ∙ sym (fold-append (λ w m. with_message m w) old before.done (message ∷ []));
+        first =
+            ap (λ (s : Sent). s.first) counts
+            ∙ first_stays old wire before.done message sent.count sent.first number inner.wire inner.count inner.first next;
+        count = count ∙ ap (λ (n : ℕ). n + 1) inner.count ∙ sym (length-append before.done (message ∷ []));
+        reached = omega arith;
+        given = omega arith;
+      };
+      within = omega arith;
+      lawful = All-tail IsSendable message rest (subst (All IsSendable) is before.lawful);
+      room = omega arith;
+    }
+
+-- all are sent
+pub all_sent : (old : Traffic) (sends : List Message) (wire : Traffic) (sent : Sent) → IsSending old sends [] wire sent → IsSent old sends wire sent
+all_sent old sends wire sent before =
+    subst (λ (list : List Message). IsSent old list wire sent) (sym (append-nil before.done) ∙ before.parts) before.is

@@ -1,0 +1,81 @@
+use Rattle.std.proofs.Common.{[], ℕ, List, Option, length, refl, sym, subst}
+use Rattle.std.proofs.lemmas.Result.{IfErr-weaker, IfOk-weaker}
+use Rattle.rk_outside.specs.declared.replica.Lost.{Lost}
+use Rattle.rk_world.specs.Backup.{failing}
+use Rattle.rk_world.specs.Master.{Master}
+use Rattle.rk_world.specs.Step.{log_bytes_of}
+use Rattle.rk_lane.specs.Backing.{CanBeAnswered, IsBackedAt, IsLogOf, IsSparedAt, IsUnansweredAt, sending}
+use Rattle.rk_lane.specs.Finished.{IsCutBack}
+use Rattle.rk_lane.specs.Parts.{world_of}
+use Rattle.rk_lane.proofs.Answered.{spared_by}
+use Rattle.rk_lane.proofs.Backed.{IsReached, can_be_answered, cut_unhappened, lost_happened, reached, sent_fits, sent_happened, spared_unhappened}
+use Rattle.rk_lane.proofs.backing.deliver_to_backup.Goals as goal
+
+pub answer_at-requires-clause-lawful : goal.answer_at-requires-clause-lawful
+answer_at-requires-clause-lawful g c = λ message on.
+    subst (λ (masters : List (Option Master)). CanBeAnswered (length masters) message.body) (sym c.deref.ensures.value)
+    (can_be_answered c.args.parts.now c.args.number message c.requires.ready.kept on)
+
+pub finish-requires : goal.finish-requires
+finish-requires g c =
+    let old = c.args.parts.now in
+    let it : IsReached old c.args.backups.now.items c.args.number c.args.backup = reached old c.args.backups.now.items c.args.number c.args.backup c.requires.ready.kept c.requires.to c.requires.count in
+    let sent : IsBackedAt g.R.Replica.segments g.R.Replica.faults c.args.backups.now.items c.answer_at.new.backups.items c.args.backup it.it it.message (log_bytes_of (world_of old [])) (sending c.in-Ok.sends.items) =
+    c.in-Ok.ensures.ok it.message it.it (log_bytes_of (world_of old [])) it.on it.at
+    (subst (λ (masters : List (Option Master)). IsLogOf masters (log_bytes_of (world_of old [])) it.message.body) (sym c.deref.ensures.value) it.logs) in
+    let fits =
+    sent_fits g.R.Replica.segments g.R.Replica.faults old c.args.backups.now.items c.args.number it.message c.args.backup it.it sent.now (sending c.in-Ok.sends.items)
+    c.requires.ready it.on it.to c.requires.count c.requires.numbered it.at sent.by c.in-Ok.sends.items refl in
+    record { room = fits.room; lawful = fits.lawful }
+
+pub returns-in-Ok-clause-ok : goal.returns-in-Ok-clause-ok
+returns-in-Ok-clause-ok g c =
+    let old = c.args.parts.now in
+    let it : IsReached old c.args.backups.now.items c.args.number c.args.backup = reached old c.args.backups.now.items c.args.number c.args.backup c.requires.ready.kept c.requires.to c.requires.count in
+    let sent : IsBackedAt g.R.Replica.segments g.R.Replica.faults c.args.backups.now.items c.answer_at.new.backups.items c.args.backup it.it it.message (log_bytes_of (world_of old [])) (sending c.in-Ok.sends.items) =
+    c.in-Ok.ensures.ok it.message it.it (log_bytes_of (world_of old [])) it.on it.at
+    (subst (λ (masters : List (Option Master)). IsLogOf masters (log_bytes_of (world_of old [])) it.message.body) (sym c.deref.ensures.value) it.logs) in
+    IfOk-weaker c.finish.result _ _
+    (λ seen finished.
+    sent_happened g.R.Replica.segments g.R.Replica.faults old c.args.backups.now.items c.args.number it.message c.args.backup it.it sent.now (sending c.in-Ok.sends.items)
+    c.requires.ready it.on it.to c.requires.count c.requires.numbered it.at sent.by c.in-Ok.sends.items c.finish.new.parts c.answer_at.new.backups.items seen sent.backups refl finished)
+    c.finish.ensures.ok
+
+pub returns-in-Ok-clause-err : goal.returns-in-Ok-clause-err
+returns-in-Ok-clause-err g c =
+    let old = c.args.parts.now in
+    let it : IsReached old c.args.backups.now.items c.args.number c.args.backup = reached old c.args.backups.now.items c.args.number c.args.backup c.requires.ready.kept c.requires.to c.requires.count in
+    let sent : IsBackedAt g.R.Replica.segments g.R.Replica.faults c.args.backups.now.items c.answer_at.new.backups.items c.args.backup it.it it.message (log_bytes_of (world_of old [])) (sending c.in-Ok.sends.items) =
+    c.in-Ok.ensures.ok it.message it.it (log_bytes_of (world_of old [])) it.on it.at
+    (subst (λ (masters : List (Option Master)). IsLogOf masters (log_bytes_of (world_of old [])) it.message.body) (sym c.deref.ensures.value) it.logs) in
+    IfErr-weaker c.finish.result _ _
+    (λ error cut.
+    cut_unhappened g.R.Replica.faults old c.args.backups.now.items c.args.number c.args.backup it.it sent.now it.first c.requires.numbered it.at
+    (spared_by g.R.Replica.segments g.R.Replica.faults it.it sent.now it.message.from it.message.body (log_bytes_of (world_of old [])) c.in-Ok.sends.items sent.by)
+    c.finish.new.parts c.answer_at.new.backups.items error sent.backups
+    (subst (λ (records : ℕ). IsCutBack old records c.finish.new.parts error) c.journal_length-records.ensures cut))
+    c.finish.ensures.err
+
+pub returns-in-Err-Failed-clause-ok : goal.returns-in-Err-Failed-clause-ok
+returns-in-Err-Failed-clause-ok g c =
+    let old = c.args.parts.now in
+    let it : IsReached old c.args.backups.now.items c.args.number c.args.backup = reached old c.args.backups.now.items c.args.number c.args.backup c.requires.ready.kept c.requires.to c.requires.count in
+    let failed : IsBackedAt g.R.Replica.segments g.R.Replica.faults c.args.backups.now.items c.answer_at.new.backups.items c.args.backup it.it it.message (log_bytes_of (world_of old [])) failing =
+    subst (λ (cause : Lost). IsUnansweredAt g.R.Replica.segments g.R.Replica.faults c.args.backups.now.items c.answer_at.new.backups.items c.args.backup it.it it.message (log_bytes_of (world_of old [])) cause)
+    c.in-Err-Failed.field-0-is
+    (c.in-Err-Failed.ensures.err it.message it.it (log_bytes_of (world_of old [])) it.on it.at
+    (subst (λ (masters : List (Option Master)). IsLogOf masters (log_bytes_of (world_of old [])) it.message.body) (sym c.deref.ensures.value) it.logs)) in
+    lost_happened g.R.Replica.segments g.R.Replica.faults old c.args.backups.now.items c.args.number it.message c.args.backup it.it failed.now failing
+    c.requires.ready it.on it.to c.requires.count c.requires.numbered it.at failed.by c.answer_at.new.backups.items c.lost.result failed.backups refl c.lost.ensures
+
+pub returns-in-Err-NoMemory-clause-err : goal.returns-in-Err-NoMemory-clause-err
+returns-in-Err-NoMemory-clause-err g c =
+    let old = c.args.parts.now in
+    let it : IsReached old c.args.backups.now.items c.args.number c.args.backup = reached old c.args.backups.now.items c.args.number c.args.backup c.requires.ready.kept c.requires.to c.requires.count in
+    let spared : IsSparedAt g.R.Replica.faults c.args.backups.now.items c.answer_at.new.backups.items c.args.backup it.it =
+    subst (λ (cause : Lost). IsUnansweredAt g.R.Replica.segments g.R.Replica.faults c.args.backups.now.items c.answer_at.new.backups.items c.args.backup it.it it.message (log_bytes_of (world_of old [])) cause)
+    c.in-Err-NoMemory.field-0-is
+    (c.in-Err-NoMemory.ensures.err it.message it.it (log_bytes_of (world_of old [])) it.on it.at
+    (subst (λ (masters : List (Option Master)). IsLogOf masters (log_bytes_of (world_of old [])) it.message.body) (sym c.deref.ensures.value) it.logs)) in
+    spared_unhappened g.R.Replica.faults old c.args.backups.now.items c.args.number c.args.backup it.it spared.now it.first c.requires.numbered it.at spared.spared
+    c.answer_at.new.backups.items _ spared.backups refl

@@ -1,0 +1,6 @@
+use Rattle.std.proofs.Common.{◌≡◌, map, take}
+use Rattle.rk_world.specs.World.{greatest}
+use Rattle.rk_lane.proofs.coordinating.greatest_term.Given as goal
+
+abbrev pub invariant-loop-row : goal.invariant-loop-row
+invariant-loop-row l = l.greatest ≡ greatest (map (λ row. row.term) (take l.row-index l.row-items))

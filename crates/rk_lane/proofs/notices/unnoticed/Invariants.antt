@@ -1,0 +1,9 @@
+use Rattle.std.proofs.Common.{◌≡◌, ◌+◌, ◌-◌, ◌++◌, filter}
+use Rattle.std.specs.List.{range_with_len}
+use Rattle.rk_lane.specs.Noticing.{is_unnoticed}
+use Rattle.rk_lane.proofs.notices.unnoticed.Given as goal
+
+abbrev pub invariant-loop-index : goal.invariant-loop-index
+invariant-loop-index l =
+    l.masters.items ++ filter (is_unnoticed l.parts) (range_with_len (l.index + 1) (l.parts.coordinator.masters - l.index))
+    ≡ filter (is_unnoticed l.parts) (range_with_len 1 l.parts.coordinator.masters)

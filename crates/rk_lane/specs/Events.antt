@@ -1,0 +1,85 @@
+-- What an event makes of a lane in code.
+use Rattle.std.specs.Prelude.{◌≡◌, ◌≢◌, ◌⊎◌, ℕ, List, [], length, map, Option, Some, None, Ok, IsSomeAnd, slice_get, slice_set, ⊤}
+use Rattle.std.specs.List.{range_with_len}
+use Rattle.rk_types.specs.NumberMap.{NumberMap, numbers}
+use Rattle.rk_outside.specs.Faults.{Rose}
+use Rattle.rk_outside.specs.Segments.{Segments}
+use Rattle.rk_backup.specs.Lane.{replica_of}
+use Rattle.rk_backup.specs.declared.lane.BackupLane.{BackupLane}
+use Rattle.rk_world.specs.Backup.{Called, Failed}
+use Rattle.rk_world.specs.Premises.{MayCome, MayHappen}
+use Rattle.rk_world.specs.Refusals.{refusal}
+use Rattle.rk_world.specs.Runs.{IsCalmEvent}
+use Rattle.rk_world.specs.Step.{step, told_by_replica}
+use Rattle.rk_world.specs.World.{World, new_world}
+use Rattle.rk_world.specs.declared.error.StepError.{StepError}
+use Rattle.rk_world.specs.declared.error.StepError.TheVariants as errors
+use Rattle.rk_world.specs.declared.event.Event.{Event}
+use Rattle.rk_world.specs.declared.event.Seen.{Seen}
+use Rattle.rk_lane.specs.LaneState.{AreTold, LaneState, Running, world_with}
+
+-- an event may come to a lane where it is not spent: it names what is there, and a crash leaves another master alive
+pub record MayStep (w : World) (event : Event) : Type 0 where
+  pub may : MayHappen w event
+  pub calm : IsCalmEvent w event
+
+-- an event may come to a lane: it names what is there in a lane with so many masters, and where the lane is not spent a crash leaves
+-- another master alive
+pub record MayComeTo {R : Type 0} (lane : LaneState R) (event : Event) : Type 0 where
+  pub may : MayHappen (new_world lane.number lane.masters (length lane.backups)) event
+  pub calm : (running : Running) → lane.running ≡ Some running → IsCalmEvent (world_with lane running []) event
+
+-- whether the call of a replica failed
+abbrev pub IsFailed : Called → Type 0
+IsFailed (Failed stored) = ⊤
+IsFailed called = ⊥
+
+-- a lane took an event, where what its backups store is what their replicas tell: the world after it is that of the lane after it. Where
+-- all of them tell it and none failed, the call of a replica came to what they tell
+pub record IsStepFrom {R : Type 0} (segments : R → Option Segments) (w : World) (event : Event) (called : Called) (new : LaneState R) (after : Running) (seen : Seen) : Type 0 where
+  pub backups : NumberMap Segments
+  pub stepped : step w event called ≡ Ok (record { world = world_with new after backups; seen = seen })
+  pub told : AreTold segments new.backups backups
+  pub given : (IsFailed called → ⊥) → numbers w.backups ≡ range_with_len 1 w.backup_count → called ≡ told_by_replica w event None
+
+-- how often the replica of each backup failed
+abbrev pub fault_counts : {R : Type 0} → (R → ℕ) → List (BackupLane R) → List ℕ
+fault_counts faults backups = map (λ backup. faults (replica_of backup)) backups
+
+-- the replica of one backup failed once more, and no other one did
+pub record OneFailed {R : Type 0} (faults : R → ℕ) (old new : List (BackupLane R)) : Type 0 where
+  pub place : ℕ
+  pub before : ℕ
+  pub now : ℕ
+  pub there : slice_get (fault_counts faults old) place ≡ Some before
+  pub counts : fault_counts faults new ≡ slice_set (fault_counts faults old) place now
+  pub rose : Rose before now
+
+-- the call of a replica failed only where the replica of one backup failed once more, and else no count of faults changed
+abbrev pub HasCause : {R : Type 0} → (R → ℕ) → Called → List (BackupLane R) → List (BackupLane R) → Type 0
+HasCause faults called old new =
+    (IsFailed called × OneFailed faults old new) ⊎ ((IsFailed called → ⊥) × (fault_counts faults new ≡ fault_counts faults old))
+
+-- a lane took an event: by what the call of a replica came to, if one was called, its world became just what the definitions make of
+-- it, and so is what it showed
+pub record IsStepOf {R : Type 0} (segments : R → Option Segments) (faults : R → ℕ) (event : Event) (old new : LaneState R) (seen : Seen) : Type 0 where
+  pub before : Running
+  pub after : Running
+  pub was : old.running ≡ Some before
+  pub is : new.running ≡ Some after
+  pub called : Called
+  pub may : MayCome called
+  pub cause : HasCause faults called old.backups new.backups
+  pub stepped : (backups : NumberMap Segments) → AreTold segments old.backups backups
+      → IsStepFrom segments (world_with old before backups) event called new after seen
+
+-- a lane refused an event, and is as it was; for want of memory it is spent, and its journal, the calls that were asked and the clients that
+-- were added are as they were
+pub record IsRefused {R : Type 0} (faults : R → ℕ) (event : Event) (old new : LaneState R) (error : StepError) : Type 0 where
+  pub cause : error ≢ errors.NoMemory → IsSomeAnd old.running (λ running. refusal (world_with old running []) event ≡ Some error)
+  pub same : error ≢ errors.NoMemory → new ≡ old
+  pub spent : error ≡ errors.NoMemory → new.running ≡ None
+  pub journal : new.ledger.journal ≡ old.ledger.journal
+  pub asked : new.ledger.asked ≡ old.ledger.asked
+  pub clients : new.ledger.clients ≡ old.ledger.clients
+  pub counts : fault_counts faults new.backups ≡ fault_counts faults old.backups

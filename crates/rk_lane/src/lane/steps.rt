@@ -1,0 +1,57 @@
+// How a lane takes events.
+ghost use Rattle.std.specs.Prelude.{◌≡◌, ◌≢◌, false, true, None, Err, IfOk, IfErr, IfSome};
+ghost use Rattle.rk_world.specs.Refusals.{comes_anyway};
+ghost use Rattle.rk_lane.specs.Events.{IsRefused, IsStepOf, MayComeTo};
+ghost use Rattle.rk_lane.specs.LaneState.{IsSameLane};
+ghost use Rattle.rk_lane.specs.Spent.{is_out_of_memory};
+
+use crate::events::happen;
+use crate::lane::Lane;
+use crate::seen::quiet;
+use rk_outside::Replica;
+use rk_world::{Event, Seen, StepError};
+
+impl<R: Replica + Drop> Lane<R> {
+    /// Takes an event: a message is delivered or lost, a node takes its turn, a tablet is made, moved or split, a client is
+    /// added or sends its request again, a master crashes or that is noticed. Each refusal but `NoMemory` leaves the lane as
+    /// it was. After `NoMemory`, which never comes of Crash or Forget, the lane is spent; its journal, the calls that were
+    /// asked and the clients that were added are as they were. A spent lane answers `NoMemory`, and to Crash and Forget that
+    /// nothing happened. The message was lost where its receiver had crashed, or where the replica failed that it called,
+    /// whose count of faults rose then. What the nodes take that work, and nothing that grows with the wire or the journal.
+    pub fn step(&mut self, event: Event) -> Result<Seen, StepError>
+        requires { MayComeTo self.old event }
+        ensures ok { IfSome self.old.running (λ _. IfOk result (IsStepOf R.segments R.faults event self.old self.new)) }
+        ensures refused { IfErr result (IsRefused R.faults event self.old self.new) }
+        ensures spent { self.old.running ≡ None → self.new ≡ self.old }
+        ensures never { self.old.running ≡ None → comes_anyway event ≡ false → result ≡ Err StepError.NoMemory }
+        ensures free { comes_anyway event ≡ true → result ≢ Err StepError.NoMemory }
+        ensures lane { IsSameLane self.old self.new }
+    {
+        if self.spent {
+            return nothing_happens(event);
+        }
+        let alloc = self.alloc();
+        let answer = happen(&mut self.parts, &mut self.backups, alloc, event);
+        self.spent = out_of_memory(&answer);
+        answer
+    }
+}
+
+// What a spent lane answers to an event.
+fn nothing_happens(event: Event) -> Result<Seen, StepError>
+    ensures memory { comes_anyway event ≡ false → result ≡ Err StepError.NoMemory }
+    ensures free { comes_anyway event ≡ true → result ≢ Err StepError.NoMemory }
+    ensures err { IfErr result (λ error. error ≡ StepError.NoMemory) }
+{
+    match event {
+        Event::Forget(_) | Event::Crash(_) => Ok(quiet()),
+        _ => Err(StepError::NoMemory),
+    }
+}
+
+// Whether memory was wanting.
+fn out_of_memory(answer: &Result<Seen, StepError>) -> bool
+    ensures { result ≡ is_out_of_memory answer.now }
+{
+    matches!(answer, Err(StepError::NoMemory))
+}

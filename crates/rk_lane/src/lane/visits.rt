@@ -1,0 +1,69 @@
+// How clients take their turns in a lane, and their answers.
+ghost use Rattle.std.specs.Prelude.{◌≡◌, ◌≢◌, [], None, Err, IfOk, IfErr, IfSome, OnErr};
+ghost use Rattle.rk_types.specs.NumberMap.{get};
+ghost use Rattle.rk_world.specs.Calls as calls;
+ghost use Rattle.rk_world.specs.Refusals.{accept_refusal, ask_refusal};
+ghost use Rattle.rk_lane.specs.LaneState.{world_with};
+ghost use Rattle.rk_lane.specs.Visits.{IsRefusedFor, IsVisitOf, MayActIn, MayHaveTurned};
+
+use crate::lane::Lane;
+use crate::visiting::{accept, ask, fits, is_asked_here};
+use rk_outside::Replica;
+use rk_session::Session;
+use rk_world::{Seen, StepError};
+
+impl<R: Replica + Drop> Lane<R> {
+    /// A client takes its turn here: what it sends for its outstanding call is put on the wire, and the call is noted as
+    /// asked. A session that does not fit changes nothing. After an error the lane is as it was, and so is the session; but
+    /// after `NoMemory` the session may have taken its turn. A spent lane answers `NoMemory`. A few searches, and the time to
+    /// copy the call and the request.
+    pub fn ask(&mut self, session: &mut Session) -> Result<Seen, StepError>
+        requires { MayActIn self.old session.old }
+        ensures ok { IfOk result (λ seen. IsVisitOf (λ w. calls.ask w session.old) self.old self.new session.new seen) }
+        ensures refused { IfErr result (λ e. e ≢ StepError.NoMemory → IsRefusedFor (λ w. ask_refusal w session.old) self.old e) }
+        ensures lane { OnErr result (self.new ≡ self.old) }
+        ensures session { IfErr result (λ e. e ≢ StepError.NoMemory → session.new ≡ session.old) }
+        ensures turned { OnErr result (MayHaveTurned session.old session.new) }
+        ensures acts { MayActIn self.new session.new }
+        ensures spent { self.old.running ≡ None → result ≡ Err StepError.NoMemory }
+    {
+        if self.spent {
+            return Err(StepError::NoMemory);
+        }
+        ask(&mut self.parts, session)
+    }
+
+    /// A client takes the message of a number. One whose call was not asked here ignores it; where the message answers its
+    /// call, the record is accepted. After an error, `NoMemory` too, lane and session are as they were. A spent lane answers
+    /// `NoMemory`. A few searches, and the time to copy the message.
+    pub fn accept(&mut self, number: u64, session: &mut Session) -> Result<Seen, StepError>
+        requires { MayActIn self.old session.old }
+        ensures ok { IfOk result (λ seen. IsVisitOf (λ w. calls.accept w number session.old) self.old self.new session.new seen) }
+        ensures refused { IfErr result (λ e. e ≢ StepError.NoMemory
+            → IsRefusedFor (λ w. accept_refusal w number session.old.client (get w.wire.messages number)) self.old e) }
+        ensures lane { OnErr result (self.new ≡ self.old) }
+        ensures session { OnErr result (session.new ≡ session.old) }
+        ensures acts { MayActIn self.new session.new }
+        ensures spent { self.old.running ≡ None → result ≡ Err StepError.NoMemory }
+    {
+        if self.spent {
+            return Err(StepError::NoMemory);
+        }
+        accept(&mut self.parts, number, session)
+    }
+
+    /// Whether the outstanding call of a session was asked in a lane that is not spent. A few searches.
+    pub fn asked_here(&self, session: &Session) -> bool
+        ensures { IfSome self.now.running (λ running. result ≡ calls.is_asked_here (world_with self.now running []) session.now) }
+    {
+        is_asked_here(&self.parts, session)
+    }
+
+    /// Whether a session fits a lane that is not spent: its client was added, and its outstanding call was asked here, or
+    /// its key lies here and the call comes next. A few searches.
+    pub fn fits(&self, session: &Session) -> bool
+        ensures { IfSome self.now.running (λ running. result ≡ calls.fits (world_with self.now running []) session.now) }
+    {
+        self.parts.ledger.is_added(session.client()) && fits(&self.parts, session)
+    }
+}

@@ -1,0 +1,389 @@
+// How clients take their turns in a lane, and their answers.
+ghost use Rattle.std.specs.Prelude.{◌≡◌, ◌≢◌, ◌<◌, ◌+◌, ◌-◌, ◌^◌, true, false, [], ◌∷◌, Some, None, IfOk, IfErr, IfSome, OnOk, OnErr};
+ghost use Rattle.std.specs.Option.{option_copied};
+ghost use Rattle.rk_types.specs.NumberMap.{get};
+ghost use Rattle.rk_world.specs.Calls as calls;
+ghost use Rattle.rk_world.specs.Client.{session_accept, session_turn};
+ghost use Rattle.rk_world.specs.Ledger.{asked_by, is_added};
+ghost use Rattle.rk_world.specs.Premises.{MayAct};
+ghost use Rattle.rk_world.specs.Refusals as refusals;
+ghost use Rattle.rk_message.specs.Wire.{with_message};
+ghost use Rattle.rk_lane.specs.Parts.{IsKept, world_of};
+ghost use Rattle.rk_lane.specs.Sends.{IsFitToSend};
+ghost use Rattle.rk_lane.specs.Visits.{IsVisited, MayHaveTurned};
+ghost use Rattle.rk_lane.specs.Visiting.{MayTurn, accepted_by, last_to_note, noted, place_told, request_told, saved};
+
+use crate::parts::{Parts, WORN_NUMBER};
+use crate::seen::quiet;
+use crate::short::is_short;
+use rk_ledger::LedgerLane;
+use rk_message::{Body, Message, Wire};
+use rk_session::Session;
+use rk_types::{Call, NoMemory, Node, Op, hash, lane_of};
+use rk_world::{LastCall, Seen, StepError, Taken};
+
+/// A client takes its turn in a lane: what it sends for its outstanding call is put on the wire, and the call is noted as
+/// asked. A session that does not fit changes nothing. After an error the lane is as it was, and so is the session; but
+/// after `NoMemory` the session may have taken its turn. A few searches, and the time to copy the call and the request.
+pub(crate) fn ask(parts: &mut Parts, session: &mut Session) -> Result<Seen, StepError>
+    requires kept { IsKept parts.old }
+    requires may { MayAct parts.old.coordinator.masters session.old }
+    ensures ok { IfOk result (IsVisited (λ w. calls.ask w session.old) parts.old parts.new session.new) }
+    ensures refused { IfErr result (λ e. e ≢ StepError.NoMemory → refusals.ask_refusal (world_of parts.old []) session.old ≡ Some e) }
+    ensures parts { OnErr result (parts.new ≡ parts.old) }
+    ensures session { IfErr result (λ e. e ≢ StepError.NoMemory → session.new ≡ session.old) }
+    ensures turned { OnErr result (MayHaveTurned session.old session.new) }
+{
+    if let Some(cause) = ask_refusal(parts, session) {
+        return Err(cause);
+    }
+    if !fits(parts, session) {
+        return Ok(quiet());
+    }
+    take_turn(parts, session)
+}
+
+/// A client takes the message of a number. One whose call was not asked here ignores it; where the message answers its
+/// call, the record is accepted. After an error lane and session are as they were. A few searches, and the time to copy the
+/// message.
+pub(crate) fn accept(
+    parts: &mut Parts,
+    number: u64,
+    session: &mut Session,
+) -> Result<Seen, StepError>
+    requires kept { IsKept parts.old }
+    requires may { MayAct parts.old.coordinator.masters session.old }
+    ensures ok { IfOk result (IsVisited (λ w. calls.accept w number session.old) parts.old parts.new session.new) }
+    ensures refused { IfErr result (λ e. e ≢ StepError.NoMemory
+        → refusals.accept_refusal (world_of parts.old []) number session.old.client (get parts.old.wire.messages number) ≡ Some e) }
+    ensures parts { OnErr result (parts.new ≡ parts.old) }
+    ensures session { OnErr result (session.new ≡ session.old) }
+{
+    if let Some(cause) = accept_refusal(parts, number, session.client()) {
+        return Err(cause);
+    }
+    if !is_asked_here(parts, session) {
+        return Ok(took(Taken::Ignored));
+    }
+    let Ok(message) = copy_of(&parts.wire, number) else {
+        return Err(StepError::NoMemory);
+    };
+    Ok(took(take(&mut parts.ledger, session, message)))
+}
+
+/// Whether the outstanding call of a session, if there is one, was asked in a lane. A few searches.
+pub(crate) fn is_asked_here(parts: &Parts, session: &Session) -> bool
+    ensures { result ≡ calls.is_asked_here (world_of parts.now []) session.now }
+{
+    let Some(call) = session.outstanding() else {
+        return false;
+    };
+    is_asked(&parts.ledger, session, call)
+}
+
+/// Whether a session fits a lane where its client was added: its call was asked there or comes next. A few searches.
+pub(crate) fn fits(parts: &Parts, session: &Session) -> bool
+    ensures { result ≡ calls.fits_by (world_of parts.now []) session.now session.now.outstanding }
+{
+    let Some(call) = session.outstanding() else {
+        return false;
+    };
+    is_asked(&parts.ledger, session, call)
+        || (lane_of(hash(call.key.bytes())) == parts.number
+            && is_next(&parts.ledger, session, call))
+}
+
+// Why a client's turn is refused in a lane.
+fn ask_refusal(parts: &Parts, session: &Session) -> Option<StepError>
+    requires { IsKept parts.now }
+    ensures { result ≡ refusals.ask_refusal (world_of parts.now []) session.now }
+{
+    if let Some(number) = parts.worn() {
+        return Some(StepError::Worn(number));
+    }
+    if let Some(number) = worn_session(session) {
+        return Some(StepError::Worn(number));
+    }
+    if !parts.ledger.is_added(session.client()) {
+        return Some(StepError::Stranger(session.client()));
+    }
+    None
+}
+
+// The first number of a session that is too great: the seq of its call, or the stamp that it has seen.
+fn worn_session(session: &Session) -> Option<u64>
+    ensures { result ≡ refusals.worn_session session.now session.now.outstanding }
+{
+    let Some(call) = session.outstanding() else {
+        return too_great(session.seen());
+    };
+    if call.seq >= WORN_NUMBER {
+        return Some(call.seq);
+    }
+    too_great(session.seen())
+}
+
+// A number that is too great.
+fn too_great(number: u64) -> Option<u64>
+    ensures { result ≡ refusals.too_great refusals.WORN_NUMBER number }
+{
+    if number >= WORN_NUMBER {
+        return Some(number);
+    }
+    None
+}
+
+// Why a client cannot take the message of a number: it is not on the wire, or is for another node, or the client was not
+// added.
+fn accept_refusal(parts: &Parts, number: u64, client: u32) -> Option<StepError>
+    ensures { result ≡ refusals.accept_refusal (world_of parts.now []) number client (get parts.now.wire.messages number) }
+{
+    let Ok(to) = parts.wire.address(number) else {
+        return Some(StepError::NoMessage(number));
+    };
+    if !is_for(client, to) {
+        return Some(StepError::Address(number));
+    }
+    if !parts.ledger.is_added(client) {
+        return Some(StepError::Stranger(client));
+    }
+    None
+}
+
+// Whether a node is this client.
+fn is_for(client: u32, node: Node) -> bool
+    ensures { result ≡ refusals.is_for client node }
+{
+    match node {
+        Node::Client(other) => other == client,
+        _ => false,
+    }
+}
+
+// Whether a client's call, with what it has seen, is the last that it asked here, and has no accepted record.
+fn is_asked(ledger: &LedgerLane, session: &Session, call: &Call) -> bool
+    ensures { result ≡ calls.is_asked ledger.now session.now call.now }
+{
+    is_last(call, session.seen(), ledger.last_call(session.client()))
+        && !ledger.is_accepted(session.client(), call.seq)
+}
+
+// Whether a call, with what its client has seen, is the last that this client asked.
+fn is_last(call: &Call, seen: u64, last: Option<&LastCall>) -> bool
+    ensures { result ≡ calls.is_last call.now seen (option_copied last.entry) }
+{
+    match last {
+        Some(asked) => is_call(&asked.call, call) && asked.seen == seen,
+        None => false,
+    }
+}
+
+// Whether two calls are one.
+fn is_call(a: &Call, b: &Call) -> bool
+    ensures { result ≡ calls.is_call a.now b.now }
+{
+    a.client == b.client
+        && a.seq == b.seq
+        && a.table == b.table
+        && a.key == b.key
+        && is_op(&a.op, &b.op)
+}
+
+// Whether two operations are one.
+fn is_op(a: &Op, b: &Op) -> bool
+    ensures { result ≡ calls.is_op a.now b.now }
+{
+    match (a, b) {
+        (Op::Get, Op::Get) => true,
+        (Op::Put(value), Op::Put(other)) => value == other,
+        (Op::CondPut(expected, value), Op::CondPut(version, other)) => {
+            expected == version && value == other
+        }
+        (Op::Delete, Op::Delete) => true,
+        _ => false,
+    }
+}
+
+// Whether a lane takes a new call of a client: it was asked none, or the one that it was asked is older and accepted.
+fn is_next(ledger: &LedgerLane, session: &Session, call: &Call) -> bool
+    ensures { result ≡ calls.is_next ledger.now session.now call.now (asked_by ledger.now session.now.client) }
+{
+    let client = session.client();
+    match ledger.last_call(client) {
+        Some(asked) => asked.call.seq < call.seq && ledger.is_accepted(client, asked.call.seq),
+        None => true,
+    }
+}
+
+// A client takes its turn in a lane that its session fits. `NoMemory` alone comes.
+fn take_turn(parts: &mut Parts, session: &mut Session) -> Result<Seen, StepError>
+    requires { MayTurn parts.old session.old }
+    ensures ok { IfOk result (IsVisited (λ w. calls.ask w session.old) parts.old parts.new session.new) }
+    ensures memory { IfErr result (λ e. e ≡ StepError.NoMemory) }
+    ensures parts { OnErr result (parts.new ≡ parts.old) }
+    ensures turned { OnErr result (MayHaveTurned session.old session.new) }
+{
+    let (client, seen) = (session.client(), session.seen());
+    let Ok(last) = to_note(&parts.ledger, session) else {
+        return Err(StepError::NoMemory);
+    };
+    let Ok(message) = turn(session) else {
+        return Err(StepError::NoMemory);
+    };
+    let Ok(request) = request_in(&message) else {
+        return Err(StepError::NoMemory);
+    };
+    let Ok(number) = send_one(&mut parts.wire, message) else {
+        return Err(StepError::NoMemory);
+    };
+    note(&mut parts.ledger, client, last);
+    save(&mut parts.ledger, client, request);
+    parts.raise(seen);
+    parts.raise(number);
+    Ok(one_sent(number))
+}
+
+// What a call that a client asks is noted by, where it was not asked yet.
+fn to_note(ledger: &LedgerLane, session: &Session) -> Result<Option<LastCall>, NoMemory>
+    ensures last { IfOk result (λ last. last ≡ last_to_note ledger.now session.now session.now.outstanding) }
+    ensures room { IfOk result (λ last. IfSome last (λ _. ledger.now.asked < 2 ^ 64 - 1)) }
+{
+    let Some(call) = session.outstanding() else {
+        return Ok(None);
+    };
+    if is_asked(ledger, session, call) {
+        return Ok(None);
+    }
+    if ledger.asked() == u64::MAX {
+        return Err(NoMemory);
+    }
+    Ok(Some(LastCall {
+        call: call.duplicate()?,
+        seen: session.seen(),
+    }))
+}
+
+// What a client sends on its turn; `NoMemory` comes also where no call is outstanding.
+fn turn(session: &mut Session) -> Result<Message, NoMemory>
+    ensures ok { IfOk result (λ message. session_turn session.old ≡ Some (record { session = session.new; message = message })) }
+    ensures err { OnErr result (MayHaveTurned session.old session.new) }
+{
+    let message = session.turn()?;
+    message.ok_or(NoMemory)
+}
+
+// A copy of a message that is a request.
+fn request_in(message: &Message) -> Result<Option<Message>, NoMemory>
+    ensures { IfOk result (λ request. request ≡ request_told message.now message.now.body) }
+{
+    let Body::Request(_) = &message.body else {
+        return Ok(None);
+    };
+    Ok(Some(message.duplicate()?))
+}
+
+// Puts a message on the wire, and answers its number. After `NoMemory`, which comes also where the message is too long for a
+// frame, the wire is as it was.
+fn send_one(wire: &mut Wire, message: Message) -> Result<u64, NoMemory>
+    requires { IsFitToSend wire.old (message ∷ []) }
+    ensures number { IfOk result (λ number. number ≡ wire.old.sent + 1) }
+    ensures sent { OnOk result (wire.new ≡ with_message message wire.old) }
+    ensures err { OnErr result (wire.new ≡ wire.old) }
+{
+    if !is_short(&message.body) {
+        return Err(NoMemory);
+    }
+    wire.send(message)
+}
+
+// Notes a call as its client's last, if there is one to note. Takes no memory.
+fn note(ledger: &mut LedgerLane, client: u32, last: Option<LastCall>)
+    requires added { is_added ledger.old client ≡ true }
+    requires room { IfSome last (λ _. ledger.old.asked < 2 ^ 64 - 1) }
+    ensures { ledger.new ≡ noted ledger.old client last }
+{
+    let Some(last) = last else {
+        return;
+    };
+    ledger.ask(client, last);
+}
+
+// Saves a request as its client's last, if there is one. Takes no memory.
+fn save(ledger: &mut LedgerLane, client: u32, request: Option<Message>)
+    requires { is_added ledger.old client ≡ true }
+    ensures { ledger.new ≡ saved ledger.old client request }
+{
+    let Some(request) = request else {
+        return;
+    };
+    ledger.save(client, request);
+}
+
+// What is seen where one message was sent, under this number.
+fn one_sent(number: u64) -> Seen
+    ensures { result ≡ record { first = number; sent = 1; lost = false; taken = None } }
+{
+    Seen {
+        first: number,
+        sent: 1,
+        lost: false,
+        taken: None,
+    }
+}
+
+// A copy of the message of a number.
+fn copy_of(wire: &Wire, number: u64) -> Result<Message, NoMemory>
+    ensures { IfOk result (λ message. get wire.now.messages number ≡ Some message) }
+{
+    let Ok(message) = wire.message(number) else {
+        return Err(NoMemory);
+    };
+    message.duplicate()
+}
+
+// A client takes a message; where that answers its call, the record is accepted. Takes no memory.
+fn take(ledger: &mut LedgerLane, session: &mut Session, message: Message) -> Taken
+    ensures taken { result ≡ (session_accept session.old message.body).taken }
+    ensures session { session.new ≡ (session_accept session.old message.body).session }
+    ensures ledger { ledger.new ≡ calls.ledger_taken ledger.old message.body (session_accept session.old message.body).taken }
+{
+    let place = place_in(&message.body);
+    let taken = session.accept(message);
+    accept_record(ledger, place, &taken);
+    taken
+}
+
+// The place of the record that a reply tells.
+fn place_in(body: &Body) -> Option<u64>
+    ensures { result ≡ place_told body.now }
+{
+    match body {
+        Body::Reply(reply) => Some(reply.place),
+        _ => None,
+    }
+}
+
+// The record that a reply told is accepted, where the client took it for the answer to its call. Takes no memory.
+fn accept_record(ledger: &mut LedgerLane, place: Option<u64>, taken: &Taken)
+    ensures { ledger.new ≡ accepted_by ledger.old place taken.now }
+{
+    let Some(place) = place else {
+        return;
+    };
+    let Taken::Done = taken else {
+        return;
+    };
+    ledger.accept(place);
+}
+
+// What is seen where a client took a message.
+fn took(taken: Taken) -> Seen
+    ensures { result ≡ record { first = 0; sent = 0; lost = false; taken = Some taken } }
+{
+    Seen {
+        first: 0,
+        sent: 0,
+        lost: false,
+        taken: Some(taken),
+    }
+}

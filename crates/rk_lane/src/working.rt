@@ -1,0 +1,152 @@
+// What a master of a lane makes of a message, and of its turn.
+ghost use Rattle.std.specs.Prelude.{◌≡◌, ◌≤◌, ◌<◌, ◌^◌, length, map, true, None, Some, IfOk, IfErr, OnOk, OnErr};
+ghost use Rattle.rk_message.specs.Wire.{receiver_of};
+ghost use Rattle.rk_world.specs.Backup.{Gave};
+ghost use Rattle.rk_world.specs.Premises.{IsMaster};
+ghost use Rattle.rk_world.specs.Replies.{filled};
+ghost use Rattle.rk_world.specs.declared.event.Event.TheVariants as events;
+ghost use Rattle.rk_master.specs.Parts.{marks_of};
+ghost use Rattle.rk_lane.specs.Made.{IsFault, IsMade, IsReady, KeepsLedger};
+ghost use Rattle.rk_lane.specs.Sends.{IsFitToSend};
+ghost use Rattle.rk_lane.specs.Working.{IsSettled, IsUnsettled, IsWeighed, ledger_noted, sends_worked};
+
+use crate::finishing::{finish, journal_length};
+use crate::masters::{bytes_at, counter_at, records_at, step_master, turn_master};
+use crate::parts::Parts;
+use crate::seen::lost;
+use rk_ledger::LedgerLane;
+use rk_master::Worked;
+use rk_message::Message;
+use rk_types::{NoMemory, Node};
+use rk_world::{Mark, Seen, Served, StepError};
+use std::alloc::Global;
+
+/// From here on the bytes of all logs of a lane have no room.
+const MOST_BYTES: u64 = 0x4000_0000;
+
+/// From here on the records of a master have no room.
+const MOST_RECORDS: u64 = 0x4000_0000;
+
+/// A message reaches a master; one that has crashed loses it. What the master takes of it.
+pub(crate) fn tell_master(parts: &mut Parts, number: u64, master: u8) -> Result<Seen, StepError>
+    requires ready { IsReady parts.old (events.Deliver number) }
+    requires to { receiver_of number parts.old.wire ≡ Some (Node.Master master) }
+    ensures ok { IfOk result (IsMade parts.old (events.Deliver number) (Gave None) parts.new) }
+    ensures err { IfErr result (IsFault parts.old (events.Deliver number) parts.new) }
+{
+    if parts.has_crashed(master) {
+        return Ok(lost());
+    }
+    let records = journal_length(&parts.ledger);
+    let before = bytes_at(&parts.masters, master);
+    let Ok((work, seen)) = step_master(&mut parts.wire, number, &mut parts.masters, master) else {
+        return Err(StepError::NoMemory);
+    };
+    if !weigh(parts, master, before) {
+        return Err(StepError::NoMemory);
+    }
+    settle(parts, master, seen, work, records)
+}
+
+/// A master takes its turn. What that takes of it.
+pub(crate) fn turn_at(parts: &mut Parts, master: u8) -> Result<Seen, StepError>
+    requires { IsReady parts.old (events.Turn (Node.Master master)) }
+    ensures ok { IfOk result (IsMade parts.old (events.Turn (Node.Master master)) (Gave None) parts.new) }
+    ensures err { IfErr result (IsFault parts.old (events.Turn (Node.Master master)) parts.new) }
+{
+    if parts.has_crashed(master) {
+        return Err(StepError::Dead(master));
+    }
+    let records = journal_length(&parts.ledger);
+    let before = bytes_at(&parts.masters, master);
+    let Ok(work) = turn_master(&mut parts.masters, master) else {
+        return Err(StepError::NoMemory);
+    };
+    if !weigh(parts, master, before) {
+        return Err(StepError::NoMemory);
+    }
+    settle(parts, master, 0, work, records)
+}
+
+/// Counts the bytes of all logs once a master has changed, whose log had so many before; and tells whether they and the
+/// master's records have room.
+pub(crate) fn weigh(parts: &mut Parts, master: u8, before: u64) -> bool
+    requires there { IsMaster (length parts.old.masters.items) master }
+    requires counted { before ≤ parts.old.log_bytes }
+    ensures parts { parts.new ≡ record parts.old { log_bytes = parts.new.log_bytes } }
+    ensures weighed { result ≡ true → IsWeighed parts.old master before parts.new.log_bytes }
+{
+    let rest = parts.log_bytes - before;
+    parts.log_bytes = rest.saturating_add(bytes_at(&parts.masters, master));
+    parts.log_bytes < MOST_BYTES && records_at(&parts.masters, master) < MOST_RECORDS
+}
+
+// What a master's work leaves beside it: served calls get their records, its piece is marked, and what it sends gets the
+// stamps and places of its records. `NoMemory` leaves the records, the calls and the clients of the ledger as they were.
+fn settle(
+    parts: &mut Parts,
+    master: u8,
+    seen: u64,
+    work: Worked,
+    records: usize,
+) -> Result<Seen, StepError>
+    requires there { IsMaster (length parts.old.masters.items) master }
+    requires records { records ≡ length parts.old.ledger.journal }
+    requires fits { IsFitToSend parts.old.wire (sends_worked parts.old.ledger seen work) }
+    ensures ok { IfOk result (IsSettled parts.old master seen work parts.new) }
+    ensures err { IfErr result (IsUnsettled parts.old parts.new) }
+{
+    let Worked {
+        sends,
+        served,
+        marked,
+    } = work;
+    let Ok(()) = note(&mut parts.ledger, seen, served.as_slice(), marked) else {
+        return Err(StepError::NoMemory);
+    };
+    let Ok(sends) = fill_all(&parts.ledger, served.as_slice(), sends) else {
+        parts.ledger.withdraw(records);
+        return Err(StepError::NoMemory);
+    };
+    let stamp = parts.ledger.last_stamp();
+    let counter = counter_at(&parts.masters, master);
+    parts.raise(stamp);
+    parts.raise(counter);
+    finish(parts, sends, records)
+}
+
+// Served calls get their records, and a piece is marked. After `NoMemory` nothing has changed.
+fn note(
+    ledger: &mut LedgerLane,
+    seen: u64,
+    served: &[Served],
+    marked: Option<Mark>,
+) -> Result<(), NoMemory>
+    ensures ok { OnOk result (ledger.new ≡ ledger_noted ledger.old seen served.now (marks_of marked)) }
+    ensures err { OnErr result (KeepsLedger ledger.old ledger.new) }
+{
+    let records = ledger.journal().len();
+    ledger.serve(seen, served)?;
+    if let Some(mark) = marked {
+        let Ok(()) = ledger.mark(&[mark]) else {
+            ledger.withdraw(records);
+            return Err(NoMemory);
+        };
+    }
+    Ok(())
+}
+
+// Messages with the stamps and places of their records filled in.
+fn fill_all(
+    ledger: &LedgerLane,
+    served: &[Served],
+    sends: Vec<Message>,
+) -> Result<Vec<Message>, NoMemory>
+    ensures { IfOk result (λ made. made.items ≡ map (filled ledger.now.journal served.now) sends.items) }
+{
+    let mut made = Vec::with_capacity(*sends.allocator(), sends.len())?;
+    for message in sends {
+        made.push(ledger.fill(served, message))?;
+    }
+    Ok(made)
+}
