@@ -1,38 +1,26 @@
--- A sound and well formed lane that has room stays sound when a Rebuilt is delivered: what its sender read and merged is all of the row.
-use Rattle.std.proofs.Common.{◌≡◌, ◌≤◌, ℕ, List, Option, Some, sym, subst}
+-- A sound and well formed lane that has room stays sound when a Rebuilt is delivered.
+use Rattle.std.proofs.Common.{◌≡◌, ◌≤◌, ℕ, Option, Some, sym, subst}
 use Rattle.std.specs.Prelude.{All, length}
 use Rattle.std.proofs.lemmas.List.Elements.{All-weaker}
 use Rattle.rk_types.specs.NumberMap.{get}
-use Rattle.rk_types.specs.declared.call.Ended.{Ended}
-use Rattle.rk_types.specs.declared.lineage.Member.{Member}
 use Rattle.rk_types.specs.declared.node.Node.TheVariants as nodes
-use Rattle.rk_entry.specs.declared.entry.Entry.{Entry}
 use Rattle.rk_message.specs.declared.message.Body.TheVariants as bodies
 use Rattle.rk_message.specs.declared.message.Message.{Message}
 use Rattle.rk_message.specs.declared.rebuilding.Rebuilt.{Rebuilt}
-use Rattle.rk_tablet_map.specs.Phase.{member as member_at}
-use Rattle.rk_tablet_map.specs.declared.row.Row.{Row}
-use Rattle.rk_transfer.specs.declared.role.Role.{Role}
 use Rattle.rk_world.specs.Backup.{Called}
 use Rattle.rk_world.specs.Formed.{IsFormedGathered, IsFormedRow, IsWellFormed}
-use Rattle.rk_world.specs.Gather.{LAST_MAIN_SEGMENT, by_member}
+use Rattle.rk_world.specs.Gather.{LAST_MAIN_SEGMENT}
 use Rattle.rk_world.specs.Limits.{limits_of}
-use Rattle.rk_world.specs.Rebuilds.{own_place}
 use Rattle.rk_world.specs.Room.{HasRoom}
 use Rattle.rk_world.specs.Step.{delivered, happened}
-use Rattle.rk_world.specs.Written.{member_material}
 use Rattle.rk_world.specs.World.{World, tablet_in}
 use Rattle.rk_world.specs.declared.event.Event.TheVariants as events
-use Rattle.rk_sound.specs.Moves.{HasSome, MayTakeRebuilt}
-use Rattle.rk_sound.specs.View.{View, view, truths, rests}
+use Rattle.rk_sound.specs.Moves.{HasSome}
+use Rattle.rk_sound.specs.View.{view}
 use Rattle.rk_sound.specs.Whole.{IsSound}
 use Rattle.rk_laws_crash.specs.Moves.{AreReadable}
 use Rattle.rk_laws_events.proofs.Crashing.{entries_lawful, gathered_formed, items_lawful, segments_left}
-use Rattle.rk_laws_lineage.proofs.RebuiltMaterial.{rebuilt_at}
-use Rattle.rk_laws_read.proofs.ReadBack.{read_of_rebuilt}
-use Rattle.rk_laws_read.specs.ReadBack.{IsReadBack}
-use Rattle.rk_laws_made.proofs.RebuiltEnds.{ends_known, ends_reach, made_is, others_tell, records_made}
-use Rattle.rk_laws_rebuilt.proofs.RebuiltOwned.{may_own, read_of}
+use Rattle.rk_laws_rebuilt.proofs.MayOwn.{owns_rebuilt}
 use Rattle.rk_laws_rebuilt.proofs.Told.{TellersMayOwn, sound_rebuilt}
 
 module _ (w : World) (sound : IsSound w) (formed : IsWellFormed w) (room : HasRoom w) where
@@ -49,26 +37,10 @@ module _ (w : World) (sound : IsSound w) (formed : IsWellFormed w) (room : HasRo
       All-weaker (IsFormedGathered (limits_of w)) (λ gathered. length gathered.main ≤ LAST_MAIN_SEGMENT) (λ gathered its. its.few)
       (tablet_in w master tablet).gather.members (gathered_formed w formed room master tablet)
 
-  -- what the master of a row has read is its truth and a first part of its rest
-  read_back : (row : Row) (lineage : List Member) (to place : ℕ) (ends : List Ended) → MayTakeRebuilt (view w) row lineage to place ends → IsReadBack (truths (view w) row) (rests (view w) row) (read_of (view w) row to place)
-  read_back row lineage to place ends may =
-      let v : View = view w in
-      let at = rebuilt_at (v.handovers to row.tablet).role (v.written to).applied place may.rebuilt in
-      subst
-      (λ (role : Role). IsReadBack (truths v row) (rests v row)
-      (by_member (v.gathers to row.tablet) (member_material v.written row.range (member_at to (own_place role)))))
-      at.role_is
-      (read_of_rebuilt v row lineage to place ends sound
-      (record { may = may; ranges = ranges; readable = readable; gathered = few to row.tablet }))
-
   tellers_may_own : TellersMayOwn w
   tellers_may_own row lineage to place ends may =
-      let v : View = view w in
-      let members : List (List Entry) = read_of v row to place in
-      let read : IsReadBack (truths v row) (rests v row) members = read_back row lineage to place ends may in
-      may_own v row lineage to place ends sound ranges may read (made_is v row members sound may.has_row read)
-      (ends_reach v row members sound may.has_row read) (ends_known v row members sound may.has_row read)
-      (records_made v row members sound may.has_row read) (others_tell v row members sound may.has_row read)
+      owns_rebuilt (view w) row lineage to place ends sound
+      (record { may = may; ranges = ranges; readable = readable; gathered = few to row.tablet })
 
 pub sound_rebuilt_delivered : (w : World) (number master : ℕ) (rebuilt : Rebuilt) (called : Called) → IsSound w → IsWellFormed w → HasRoom w
     → get w.wire.messages number ≡ Some (record { from = nodes.Master master; to = nodes.Coordinator; body = bodies.Rebuilt rebuilt })

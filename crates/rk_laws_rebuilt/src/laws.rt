@@ -1,7 +1,10 @@
-// The headline law of a Rebuilt. The function does nothing: its contract is the law.
-ghost use Rattle.std.specs.Prelude.{◌≡◌, ℕ, Some};
+// The headline laws of a Rebuilt. The function does nothing: its contract is the laws.
+ghost use Rattle.std.specs.Prelude.{◌≡◌, ℕ, List, Some};
 ghost use Rattle.rk_types.specs.NumberMap.{get};
+ghost use Rattle.rk_types.specs.declared.call.Ended.{Ended};
+ghost use Rattle.rk_types.specs.declared.lineage.Member.{Member};
 ghost use Rattle.rk_types.specs.declared.node.Node.TheVariants as nodes;
+ghost use Rattle.rk_tablet_map.specs.declared.row.Row.{Row};
 ghost use Rattle.rk_message.specs.declared.message.Body.TheVariants as bodies;
 ghost use Rattle.rk_message.specs.declared.rebuilding.Rebuilt.{Rebuilt};
 ghost use Rattle.rk_world.specs.declared.event.Event.TheVariants as events;
@@ -10,12 +13,18 @@ ghost use Rattle.rk_world.specs.Formed.{IsWellFormed};
 ghost use Rattle.rk_world.specs.Room.{HasRoom};
 ghost use Rattle.rk_world.specs.Step.{happened};
 ghost use Rattle.rk_world.specs.World.{World};
+ghost use Rattle.rk_sound.specs.View.{view};
 ghost use Rattle.rk_sound.specs.Whole.{IsSound};
+ghost use Rattle.rk_laws_lineage.specs.Rebuilt.{rebuilt_taken_in};
+ghost use Rattle.rk_laws_read.specs.Moves.{MayTakeRebuiltFormed};
 
-/// A sound and well formed lane that has room stays sound when the coordinator takes a Rebuilt: where a row awaits it the master that rebuilt
-/// the row owns it, the calls whose ends that merged get their records, and no log bears a mark of the tablet any more; the owner is told,
-/// or told once more; and else nothing changes.
+/// A sound lane stays sound when a rebuild is taken: the master that rebuilt a row owns it, the calls whose ends that merged get their
+/// records, and no log bears a mark of the tablet any more. A sound and well formed lane that has room stays sound when the coordinator takes
+/// a Rebuilt: where a row awaits it that rebuild is taken and the owner is told, an owner is told once more, and else nothing changes.
 pub fn rebuilts_keep_lanes_sound()
+    ensures taken { (w : World) (row : Row) (lineage : List Member) (to place : ℕ) (ends : List Ended)
+        → IsSound w → MayTakeRebuiltFormed (view w) row lineage to place ends
+        → IsSound (rebuilt_taken_in w row to place ends) }
     ensures delivered { (w : World) (number master : ℕ) (rebuilt : Rebuilt) (called : Called)
         → IsSound w → IsWellFormed w → HasRoom w
         → get w.wire.messages number
