@@ -71,7 +71,7 @@ abbrev pub HasAsked : World → Session → Call → Type 0
 HasAsked w session call = asked_by w.ledger session.client ≡ Some (record { call = call; seen = session.seen })
 
 -- by the test
-asked_is : (call : Call) (seen : ℕ) (asked : Option LastCall) → is_last call seen asked ≡ true → asked ≡ Some (record { call = call; seen = seen })
+pub asked_is : (call : Call) (seen : ℕ) (asked : Option LastCall) → is_last call seen asked ≡ true → asked ≡ Some (record { call = call; seen = seen })
 asked_is call seen None is = absurd (cc is)
 asked_is call seen (Some last) is =
     let parts = and_parts (is_call last.call call) (last.seen == seen) is in
@@ -213,13 +213,13 @@ module _ (w : World) (session : Session) (sound : IsSound w) (may : MayAct w.coo
 
 -- a client takes its answer, where that says that the call was carried out and this lane asked for it
 module _ (w : World) (number : ℕ) (session : Session) (call : Call) (sound : IsSound w) (asked : is_asked w.ledger session call ≡ true) (own : call.client ≡ session.client) where
-  is_last_there : HasAsked w session call
+  pub is_last_there : HasAsked w session call
   is_last_there = asked_is call session.seen (asked_by w.ledger session.client) (and_parts (is_last call session.seen (asked_by w.ledger session.client)) (not (is_accepted w.ledger.journal session.client call.seq)) asked).0
 
   none_accepted : is_accepted w.ledger.journal session.client call.seq ≡ false
   none_accepted = not-true _ (and_parts (is_last call session.seen (asked_by w.ledger session.client)) (not (is_accepted w.ledger.journal session.client call.seq)) asked).1
 
-  may_accept : (reply : Reply) (outcome : Outcome) → reply.seq ≡ call.seq → IsRecordAt w.ledger.journal session.client reply outcome → MayAccept (view w) reply.place
+  pub may_accept : (reply : Reply) (outcome : Outcome) → reply.seq ≡ call.seq → IsRecordAt w.ledger.journal session.client reply outcome → MayAccept (view w) reply.place
   may_accept reply outcome seq_is at =
       let stands = stands_there w.ledger.journal reply.place at.placed at.stands in
       let last : asked_by w.ledger at.placed.call.client ≡ Some (record { call = call; seen = session.seen }) = ap (asked_by w.ledger) at.client_is ∙ is_last_there in
@@ -281,7 +281,7 @@ module _ (w : World) (number : ℕ) (session : Session) (call : Call) (sound : I
 -- a client's answer
 module _ (w : World) (number : ℕ) (session : Session) (sound : IsSound w) (may : MayAct w.coordinator.masters session) where
   -- a message for a node that is this client
-  for_client : (to : Node) → is_for session.client to ≡ true → to ≡ nodes.Client session.client
+  pub for_client : (to : Node) → is_for session.client to ≡ true → to ≡ nodes.Client session.client
   for_client (nodes.Client other) is = ap nodes.Client (eqb-true other session.client is)
   for_client nodes.Coordinator is = absurd (cc is)
   for_client (nodes.Master master) is = absurd (cc is)

@@ -1,0 +1,12 @@
+pub mod Answers
+pub mod Lines
+pub mod Receipts
+pub mod Ordered
+pub mod GoesOn
+pub mod Agreeing
+pub mod Visits
+pub mod Clusters
+pub mod Occurring
+pub mod Histories
+pub mod Staying
+pub mod Runs

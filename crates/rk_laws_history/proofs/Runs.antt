@@ -1,0 +1,108 @@
+-- Runs of a new cluster: all lanes stay sound, they have one history, and what was acknowledged stays.
+use Rattle.std.proofs.Common.{◌≡◌, ℕ, ◌<◌, ◌≤◌, List, [], ◌∷◌, ◌++◌, Some, true, refl, sym, subst, ◌∙◌, arith}
+use Rattle.std.specs.List.{All}
+use Rattle.std.proofs.lemmas.List.Elements.{All-weaker}
+use Rattle.std.proofs.lemmas.List.FromFn.{length-map-range_with_len}
+use Rattle.rk_types.specs.declared.hashing.TheConstants.{LANES}
+use Rattle.rk_types.specs.declared.history.Placed.{Placed}
+use Rattle.rk_types.specs.declared.history.Receipt.{Receipt}
+use Rattle.rk_log.specs.declared.copied.TheConstants.{MOST_BACKUPS}
+use Rattle.rk_world.specs.Base.{Base, no_base}
+use Rattle.rk_world.specs.Cluster.{Cluster, HasOneHistory, Occurrence, cluster_after, cluster_run, lane_at, new_cluster, session_at}
+use Rattle.rk_world.specs.Formed.{IsWellFormed}
+use Rattle.rk_world.specs.Premises.{MOST_MASTERS}
+use Rattle.rk_world.specs.World.{new_world}
+use Rattle.rk_sound.specs.Truth.{IsTruth}
+use Rattle.rk_sound.specs.View.{truths, view}
+use Rattle.rk_sound.specs.Whole.{IsSound}
+use Rattle.rk_laws_steady.proofs.Lanes.{sealed_accepted, sealed_asked, sealed_event, sealed_new, tell_accepted, tell_asked, tell_event, tell_new}
+use Rattle.rk_laws_steps.specs.Steps.{IsSteady}
+use Rattle.rk_laws_steps.proofs.Stepped.{sound_event}
+use Rattle.rk_laws_history.specs.Runs.{IsKeptIn, IsRun}
+use Rattle.rk_laws_history.proofs.Clusters.{IsGood, IsGoodLane}
+use Rattle.rk_laws_history.proofs.Histories.{good_run, good_start, one_history}
+use Rattle.rk_laws_history.proofs.Occurring.{ClientsKeep, EventsKeep}
+use Rattle.rk_laws_history.proofs.Staying.{lanes_stay, records_stay}
+
+-- events keep lanes sound and steady
+events_keep : EventsKeep IsSteady
+events_keep w event called sound formed room steady may come told calm none fits = (
+  sound_event w event called sound
+      (record {
+        formed = formed;
+        room = room;
+        fits = fits;
+        may = may;
+        comes = come;
+        calm = calm;
+        none = none;
+        told = told;
+        steady = steady;
+      }),
+  record {
+    tell = tell_event w event called steady.tell;
+    sealed = sealed_event w event called formed steady.sealed;
+  },
+)
+
+-- and so do clients
+clients_keep : ClientsKeep IsSteady
+clients_keep = record {
+  asks = λ w session steady. record { tell = tell_asked w session steady.tell; sealed = sealed_asked w session steady.sealed };
+  accepts = λ w number session steady.
+      record { tell = tell_accepted w number session steady.tell; sealed = sealed_accepted w number session steady.sealed };
+}
+
+-- a run goes on where the first part of it ended
+runs_join : (cluster : Cluster) (before after : List Occurrence) → cluster_run cluster (before ++ after) ≡ cluster_run (cluster_run cluster before) after
+runs_join cluster [] after = refl
+runs_join cluster (occurrence ∷ before) after = runs_join (cluster_after cluster occurrence) before after
+
+module _ (masters backups : ℕ) (few : masters ≤ MOST_MASTERS) (backed : 1 ≤ backups) (few_backups : backups ≤ MOST_BACKUPS) where
+  abbrev start : Cluster
+  start = new_cluster masters backups
+
+  steady_start : (lane : ℕ) → IsSteady (new_world lane masters backups)
+  steady_start lane = record { tell = tell_new lane masters backups; sealed = sealed_new lane masters backups }
+
+  pub good_after : (list : List Occurrence) → IsRun start list → IsGood IsSteady masters (cluster_run start list)
+  good_after list run =
+      good_run IsSteady masters events_keep clients_keep start list
+      (good_start IsSteady masters backups few backed few_backups steady_start) run
+
+  lane_good : (list : List Occurrence) → IsRun start list → (lane : ℕ) → lane < LANES → IsGoodLane IsSteady masters lane (lane_at (cluster_run start list) lane)
+  lane_good list run lane inside =
+      (good_after list run).lanes lane
+      (let many = lanes_stay start list in
+      let first = length-map-range_with_len (λ (lane : ℕ). new_world lane masters backups) 0 LANES in
+      omega (arith, inside, many, first))
+
+  pub all_sound : (list : List Occurrence) → IsRun start list → (lane : ℕ) → lane < LANES → IsSound (lane_at (cluster_run start list) lane)
+  all_sound list run lane inside = (lane_good list run lane inside).sound
+
+  pub all_formed : (list : List Occurrence) → IsRun start list → (lane : ℕ) → lane < LANES → IsWellFormed (lane_at (cluster_run start list) lane)
+  all_formed list run lane inside = (lane_good list run lane inside).formed
+
+  pub has_history : (list : List Occurrence) → IsRun start list → HasOneHistory (cluster_run start list)
+  has_history list run = one_history IsSteady masters (cluster_run start list) (good_after list run)
+
+  pub all_true : (list : List Occurrence) → IsRun start list → (lane : ℕ) → lane < LANES
+      → All (λ row. IsTruth no_base row.range (truths (view (lane_at (cluster_run start list) lane)) row) (lane_at (cluster_run start list) lane).ledger.journal)
+      (lane_at (cluster_run start list) lane).coordinator.rows
+  all_true list run lane inside =
+      let good = lane_good list run lane inside in
+      subst
+      (λ (base : Base). All (λ row. IsTruth base row.range (truths (view (lane_at (cluster_run start list) lane)) row) (lane_at (cluster_run start list) lane).ledger.journal)
+      (lane_at (cluster_run start list) lane).coordinator.rows)
+      good.base_is good.sound.truth.true
+
+  -- what a receipt tells stands there, whatever comes after
+  pub acknowledged : (before after : List Occurrence) (client : ℕ) → IsRun start before → All (IsKeptIn (cluster_run start (before ++ after))) (session_at (cluster_run start before) client).receipts
+  acknowledged before after client run =
+      All-weaker (IsKeptIn (cluster_run start before)) (IsKeptIn (cluster_run start (before ++ after)))
+      (λ (receipt : Receipt) kept.
+      let old : Placed = record { call = receipt.call; outcome = receipt.outcome; stamp = receipt.stamp; accepted = true } in
+      let still = records_stay (cluster_run start before) after receipt.lane receipt.place old kept in
+      subst (λ (cluster : Cluster). IsKeptIn cluster receipt) (sym (runs_join start before after))
+      (still.stands ∙ (λ i. Some (record { call = still.call i; outcome = still.outcome i; stamp = still.stamp i; accepted = still.kept refl i }))))
+      (session_at (cluster_run start before) client).receipts ((good_after before run).agree client).recorded

@@ -1,0 +1,14 @@
+use Rattle.rk_laws_history.proofs.Runs.{all_formed, all_sound, all_true, has_history}
+use Rattle.rk_laws_history.proofs.laws.clusters_have_one_history.Goals as goal
+
+pub returns-clause-sound : goal.returns-clause-sound
+returns-clause-sound c = λ masters backups list few backed few_backups run. all_sound masters backups few backed few_backups list run
+
+pub returns-clause-formed : goal.returns-clause-formed
+returns-clause-formed c = λ masters backups list few backed few_backups run. all_formed masters backups few backed few_backups list run
+
+pub returns-clause-history : goal.returns-clause-history
+returns-clause-history c = λ masters backups list few backed few_backups run. has_history masters backups few backed few_backups list run
+
+pub returns-clause-truth : goal.returns-clause-truth
+returns-clause-truth c = λ masters backups list few backed few_backups run. all_true masters backups few backed few_backups list run

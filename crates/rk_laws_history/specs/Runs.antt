@@ -1,0 +1,49 @@
+-- Runs of a cluster whose replicas tell what they store and whose lanes have room, and what stays in them.
+use Rattle.std.specs.Prelude.{◌≡◌, ◌<◌, ℕ, true, List, [], ◌∷◌, length, Some, slice_get, ⊤}
+use Rattle.rk_types.specs.declared.history.Placed.{Placed}
+use Rattle.rk_types.specs.declared.history.Receipt.{Receipt}
+use Rattle.rk_world.specs.Cluster.{Cluster, ClusterMay, KeepsCalm, Occurrence, Happens, cluster_after, lane_at}
+use Rattle.rk_world.specs.Room.{HasRoom}
+use Rattle.rk_laws_steps.specs.Steps.{IsTold}
+
+-- an event comes with what replicas that tell their segments answer, one of which may fail
+abbrev pub ReplicasTell : Cluster → Occurrence → Type 0
+ReplicasTell cluster (Happens lane event called) = IsTold (lane_at cluster lane) event called
+ReplicasTell cluster occurrence = ⊤
+
+-- each lane of a cluster has room
+abbrev pub LanesHaveRoom : Cluster → Type 0
+LanesHaveRoom cluster = (lane : ℕ) → lane < length cluster.lanes → HasRoom (lane_at cluster lane)
+
+-- each of these may occur when it does, each crash among them comes only while another master lives, replicas tell what they store, and
+-- all lanes have room after each
+abbrev pub IsRun : Cluster → List Occurrence → Type 0
+IsRun cluster [] = ⊤
+IsRun cluster (occurrence ∷ later) =
+    ClusterMay cluster occurrence × KeepsCalm cluster occurrence × ReplicasTell cluster occurrence
+    × LanesHaveRoom (cluster_after cluster occurrence) × IsRun (cluster_after cluster occurrence) later
+
+-- a record stands at its place in a journal still, and is accepted where it was
+pub record IsStill (journal : List Placed) (place : ℕ) (placed : Placed) : Type 0 where
+  pub now : Placed
+  pub stands : slice_get journal place ≡ Some now
+  pub call : now.call ≡ placed.call
+  pub outcome : now.outcome ≡ placed.outcome
+  pub stamp : now.stamp ≡ placed.stamp
+  pub kept : placed.accepted ≡ true → now.accepted ≡ true
+
+-- each record of a journal stands in a later one still
+abbrev pub StandsStill : List Placed → List Placed → Type 0
+StandsStill before after =
+    (place : ℕ) (placed : Placed) → slice_get before place ≡ Some placed → IsStill after place placed
+
+-- the records of all lanes stand in a later cluster still
+abbrev pub RecordsStay : Cluster → Cluster → Type 0
+RecordsStay before after =
+    (lane : ℕ) → StandsStill (lane_at before lane).ledger.journal (lane_at after lane).ledger.journal
+
+-- what a receipt tells stands in the journal of its lane, at its place, accepted
+abbrev pub IsKeptIn : Cluster → Receipt → Type 0
+IsKeptIn cluster receipt =
+    slice_get (lane_at cluster receipt.lane).ledger.journal receipt.place
+    ≡ Some (record { call = receipt.call; outcome = receipt.outcome; stamp = receipt.stamp; accepted = true })

@@ -1,0 +1,44 @@
+// The headline laws of histories. Each function does nothing: its contract is the law.
+ghost use Rattle.std.specs.Prelude.{◌≤◌, ◌<◌, ◌++◌, ℕ, All, List};
+ghost use Rattle.rk_types.specs.declared.hashing.TheConstants.{LANES};
+ghost use Rattle.rk_log.specs.declared.copied.TheConstants.{MOST_BACKUPS};
+ghost use Rattle.rk_world.specs.Base.{no_base};
+ghost use Rattle.rk_world.specs.Cluster.{Cluster, HasOneHistory, Occurrence, cluster_run, lane_at, new_cluster, session_at};
+ghost use Rattle.rk_world.specs.Formed.{IsWellFormed};
+ghost use Rattle.rk_world.specs.Premises.{MOST_MASTERS};
+ghost use Rattle.rk_sound.specs.Truth.{IsTruth};
+ghost use Rattle.rk_sound.specs.View.{truths, view};
+ghost use Rattle.rk_sound.specs.Whole.{IsSound};
+ghost use Rattle.rk_laws_history.specs.Runs.{IsKeptIn, IsRun, RecordsStay};
+
+/// In every run of a new cluster, whatever is sent, lost, repeated or delayed and whichever masters crash while another one lives, each lane
+/// is sound and well formed. So the journals of all lanes merge into one lawful history of one map that starts empty, and that history is
+/// ordered with the sessions: each call that was acknowledged stands in it once, in its client's order, as its receipt says. What counts of
+/// the applied logs of a row's lineage leaves just the records that the journal of its lane leaves.
+pub fn clusters_have_one_history()
+    ensures sound { (masters backups : ℕ) (list : List Occurrence)
+        → masters ≤ MOST_MASTERS → 1 ≤ backups → backups ≤ MOST_BACKUPS → IsRun (new_cluster masters backups) list
+        → (lane : ℕ) → lane < LANES → IsSound (lane_at (cluster_run (new_cluster masters backups) list) lane) }
+    ensures formed { (masters backups : ℕ) (list : List Occurrence)
+        → masters ≤ MOST_MASTERS → 1 ≤ backups → backups ≤ MOST_BACKUPS → IsRun (new_cluster masters backups) list
+        → (lane : ℕ) → lane < LANES → IsWellFormed (lane_at (cluster_run (new_cluster masters backups) list) lane) }
+    ensures history { (masters backups : ℕ) (list : List Occurrence)
+        → masters ≤ MOST_MASTERS → 1 ≤ backups → backups ≤ MOST_BACKUPS → IsRun (new_cluster masters backups) list
+        → HasOneHistory (cluster_run (new_cluster masters backups) list) }
+    ensures truth { (masters backups : ℕ) (list : List Occurrence)
+        → masters ≤ MOST_MASTERS → 1 ≤ backups → backups ≤ MOST_BACKUPS → IsRun (new_cluster masters backups) list
+        → (lane : ℕ) → lane < LANES
+        → let w = lane_at (cluster_run (new_cluster masters backups) list) lane in
+        All (λ row. IsTruth no_base row.range (truths (view w) row) w.ledger.journal) w.coordinator.rows }
+{}
+
+/// A record of a journal stays for ever: whatever occurs, it stands at its place, of the same call, outcome and stamp, and is accepted once
+/// it was. So no call that a client was told of is lost: what each receipt of a run tells stands in the journals at its end, whatever comes
+/// after it.
+pub fn records_stay_for_ever()
+    ensures stay { (cluster : Cluster) (list : List Occurrence) → RecordsStay cluster (cluster_run cluster list) }
+    ensures acknowledged { (masters backups : ℕ) (before after : List Occurrence) (client : ℕ)
+        → masters ≤ MOST_MASTERS → 1 ≤ backups → backups ≤ MOST_BACKUPS → IsRun (new_cluster masters backups) before
+        → All (IsKeptIn (cluster_run (new_cluster masters backups) (before ++ after)))
+        (session_at (cluster_run (new_cluster masters backups) before) client).receipts }
+{}
