@@ -1,0 +1,4 @@
+pub mod MainStored
+pub mod SideStored
+pub mod LogBack
+pub mod Standing
