@@ -2,3 +2,4 @@ pub mod MainStored
 pub mod SideStored
 pub mod LogBack
 pub mod Standing
+pub mod Telling

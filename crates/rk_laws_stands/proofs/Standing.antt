@@ -1,10 +1,10 @@
 -- In a quiet lane no log bears a mark and all of each owner's log is applied, so what a backup stores of a row is the row's truth.
-use Rattle.std.proofs.Common.{◌≡◌, ℕ, zero, suc, ◌+◌, ◌<◌, ◌≤◌, Bool, true, false, List, [], ◌∷◌, ◌++◌, length, Option, Some, None, refl, sym, ap, subst, arith, length-drop}
+use Rattle.std.proofs.Common.{◌≡◌, ℕ, ◌<◌, ◌≤◌, Bool, true, false, List, [], ◌∷◌, ◌++◌, length, Option, Some, None, refl, sym, ap, subst, arith, length-drop}
 use Rattle.std.specs.Prelude.{is_some, not, unwrap_or}
-use Rattle.std.specs.List.{All, Contains, flat_map, range_with_len}
+use Rattle.std.specs.List.{All, Contains, flat_map}
 use Rattle.std.proofs.lemmas.Bool.{eq-eqb}
-use Rattle.std.proofs.lemmas.List.Elements.{All-contains, All-cons, All-head, All-nil, All-weaker}
-use Rattle.rk_types.specs.NumberMap.{EachIn, NumberMap, get, numbers}
+use Rattle.std.proofs.lemmas.List.Elements.{All-contains, All-head, All-nil, All-weaker}
+use Rattle.rk_types.specs.NumberMap.{EachIn, get}
 use Rattle.rk_types.specs.declared.range.Range.{Range}
 use Rattle.rk_outside.specs.Segments.{Segments, bytes_of as stored_bytes}
 use Rattle.rk_model.specs.History.{live_after}
@@ -43,15 +43,13 @@ use Rattle.rk_sound.specs.Truth.{IsTruth}
 use Rattle.rk_sound.specs.View.{truths, view}
 use Rattle.rk_sound.specs.Whole.{IsSound}
 use Rattle.rk_laws_formed.proofs.Backups.{lawful_of}
-use Rattle.rk_laws_formed.proofs.Lists.{all_before}
 use Rattle.rk_laws_formed.proofs.Maps.{All_pairs, each_from_pairs}
-use Rattle.rk_laws_formed.proofs.Numbered.{numbered_order}
 use Rattle.rk_laws_formed.proofs.Worlds.{room_of_master}
 use Rattle.rk_laws_parts.proofs.Joining.{stands_kept}
 use Rattle.rk_laws_parts.proofs.Lists.{all_by}
 use Rattle.rk_laws_parts.proofs.Segments.{segments_few}
 use Rattle.rk_laws_parts.proofs.Serving.{found_stands}
-use Rattle.rk_laws_stands.specs.Backups.{AreBackups, IsNumbered}
+use Rattle.rk_laws_stands.specs.Backups.{HasOwnBackups}
 use Rattle.rk_laws_stands.proofs.LogBack.{material_back}
 
 -- ---- marks
@@ -78,25 +76,6 @@ none_marked crashed rows master handovers live written (mark ∷ marks) owned kn
         owned_unmarked crashed row master (handovers row.tablet) live written mark
         (All-contains (λ (row : Row). IsOwnedLive crashed row.phase) rows row owned stands)
         (fits (sym (number_of rows mark.tablet row found)))
-
--- ---- backups
-
--- numbers that rise by one
-range_numbered : (count first size : ℕ) → 1 ≤ first → first + size ≤ 1 + count → All (IsNumbered count) (range_with_len first size)
-range_numbered count first zero some few = All-nil (IsNumbered count)
-range_numbered count first (suc size) some few =
-    All-cons (IsNumbered count) first (range_with_len (first + 1) size) (record { first = some; last = omega (arith, few) })
-    (range_numbered count (first + 1) size (omega arith) (omega (arith, few)))
-
--- where all of so many tell what they store, those that tell are they
-pub all_tell : (count : ℕ) (backups : NumberMap Segments) → numbers backups ≡ range_with_len 1 count → AreBackups count backups
-all_tell count backups are = record {
-  order = numbered_order backups count are;
-  numbered =
-      each_from_pairs (λ backup segments. IsNumbered count backup) backups
-      (all_before (IsNumbered count) (λ (pair : ℕ × Segments). pair.0) backups
-      (subst (All (IsNumbered count)) (sym are) (range_numbered count 1 count (omega arith) (omega arith))));
-}
 
 -- ---- what a well formed lane has
 
@@ -136,7 +115,7 @@ module _ (w : World) (formed : IsWellFormed w) where
 
 -- ---- a quiet lane
 
-module _ (w : World) (sessions : List Session) (sound : IsSound w) (formed : IsWellFormed w) (told : AreBackups w.backup_count w.backups) (quiet : IsQuiet w.coordinator.rows w.crashed (live_masters w) sessions) (few : (master : ℕ) → length (cut (log_in w master).entries) < FIRST_SIDE_SEGMENT) where
+module _ (w : World) (sessions : List Session) (sound : IsSound w) (formed : IsWellFormed w) (told : HasOwnBackups w) (quiet : IsQuiet w.coordinator.rows w.crashed (live_masters w) sessions) (few : (master : ℕ) → length (cut (log_in w master).entries) < FIRST_SIDE_SEGMENT) where
   abbrev rows : List Row
   rows = w.coordinator.rows
 
@@ -209,6 +188,6 @@ module _ (w : World) (sessions : List Session) (sound : IsSound w) (formed : IsW
       (λ number segments found. row_stands number segments found row has))
 
 -- so they do with room
-pub quiet_stands_in_room : (w : World) (sessions : List Session) → IsSound w → IsWellFormed w → HasRoom w → AreBackups w.backup_count w.backups → IsQuiet w.coordinator.rows w.crashed (live_masters w) sessions → Stands w
+pub quiet_stands_in_room : (w : World) (sessions : List Session) → IsSound w → IsWellFormed w → HasRoom w → HasOwnBackups w → IsQuiet w.coordinator.rows w.crashed (live_masters w) sessions → Stands w
 quiet_stands_in_room w sessions sound formed room told quiet =
     quiet_stands w sessions sound formed told quiet (segments_numbered w formed room)
