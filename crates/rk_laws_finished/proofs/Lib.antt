@@ -1,0 +1,3 @@
+pub mod OwnItems
+pub mod TargetAlone
+pub mod JoinedDelivered

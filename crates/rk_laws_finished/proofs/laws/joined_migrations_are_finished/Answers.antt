@@ -1,0 +1,8 @@
+use Rattle.rk_laws_finished.proofs.JoinedDelivered.{finishes}
+use Rattle.rk_laws_finished.proofs.laws.joined_migrations_are_finished.Goals as goal
+
+pub returns : goal.returns
+returns c = record {
+  finished = λ before number message stepped row source target sound found moving heard there for_coordinator tells.
+      finishes before number message row source target sound found moving heard there for_coordinator tells stepped;
+}
