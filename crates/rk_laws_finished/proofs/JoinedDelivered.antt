@@ -17,8 +17,9 @@ use Rattle.rk_message.specs.declared.message.Body.{Body}
 use Rattle.rk_message.specs.declared.message.Body.TheVariants as bodies
 use Rattle.rk_message.specs.declared.message.Message.{Message}
 use Rattle.rk_world.specs.declared.error.StepError.{StepError}
+use Rattle.rk_world.specs.declared.event.Event.{Event}
 use Rattle.rk_world.specs.declared.event.Event.TheVariants as events
-use Rattle.rk_world.specs.Backup.{Gave}
+use Rattle.rk_world.specs.Backup.{Called, Gave}
 use Rattle.rk_world.specs.Coordinator.{is_noticed, row_tenure}
 use Rattle.rk_world.specs.CoordinatorStep.{Coordinated, about, answered, at_term, coordinator_step, joined_in, own_to, release_to, row_for, row_owned, told_coordinator, unanswered}
 use Rattle.rk_world.specs.Finished.{Finishes, IsFinished, own_entries}
@@ -36,9 +37,10 @@ use Rattle.rk_laws_parts.proofs.TurnedRows.{new_stands, stands_found}
 use Rattle.rk_laws_finished.proofs.TargetAlone.{finished}
 
 -- an event that is not refused happened
-happened_is : (w : World) (stepped : Stepped) (number : ℕ) (refused : Option StepError) → stepped_by w (events.Deliver number) (Gave None) refused ≡ Ok stepped → happened w (events.Deliver number) (Gave None) ≡ stepped
-happened_is w stepped number None is = cc is
-happened_is w stepped number (Some error) is = absurd (cc is)
+pub happened_is : (w : World) (event : Event) (called : Called) (stepped : Stepped) (refused : Option StepError) → stepped_by w event called refused ≡ Ok stepped
+    → (refused ≡ None) × (happened w event called ≡ stepped)
+happened_is w event called stepped None is = let same : happened w event called ≡ stepped = cc is in (refl, same)
+happened_is w event called stepped (Some error) is = absurd (cc is)
 
 module _ (w : World) (number : ℕ) (message : Message) (row : Row) (source target : Member) (sound : IsSound w) (found : row_of w.coordinator.rows row.tablet ≡ Some row) (moving : row.phase ≡ Moving source.master source.from target.master target.from) (heard : is_noticed w.coordinator target.master ≡ false) (there : get w.wire.messages number ≡ Some message) (for_coordinator : message.to ≡ nodes.Coordinator) (tells : message.body ≡ bodies.Joined (row_tenure row)) where
   has_row : Contains w.coordinator.rows row
@@ -136,7 +138,7 @@ module _ (w : World) (number : ℕ) (message : Message) (row : Row) (source targ
   pub finishes : (stepped : Stepped) → step w (events.Deliver number) (Gave None) ≡ Ok stepped → Finishes w number stepped row source target
   finishes stepped is =
       let made : coordinated taken ≡ stepped =
-      sym delivered_is ∙ happened_is w stepped number (refusal w (events.Deliver number)) is in
+      sym delivered_is ∙ (happened_is w (events.Deliver number) (Gave None) stepped (refusal w (events.Deliver number)) is).1 in
       let left : Leaves stepped.world = subst (λ (s : Stepped). Leaves s.world) made leaves in
       record {
         has_row = found;
