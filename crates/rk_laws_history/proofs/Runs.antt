@@ -1,5 +1,5 @@
 -- Runs of a new cluster: all lanes stay sound, they have one history, and what was acknowledged stays.
-use Rattle.std.proofs.Common.{◌≡◌, ℕ, ◌<◌, ◌≤◌, List, [], ◌∷◌, ◌++◌, Some, true, refl, sym, subst, ◌∙◌, arith}
+use Rattle.std.proofs.Common.{◌≡◌, ℕ, ◌<◌, ◌≤◌, List, [], ◌∷◌, ◌++◌, Option, Some, length, map, refl, sym, subst, ◌∙◌, arith, true}
 use Rattle.std.specs.List.{All}
 use Rattle.std.proofs.lemmas.List.Elements.{All-weaker}
 use Rattle.std.proofs.lemmas.List.FromFn.{length-map-range_with_len}
@@ -8,14 +8,21 @@ use Rattle.rk_types.specs.declared.history.Placed.{Placed}
 use Rattle.rk_types.specs.declared.history.Receipt.{Receipt}
 use Rattle.rk_log.specs.declared.copied.TheConstants.{MOST_BACKUPS}
 use Rattle.rk_world.specs.Base.{Base, no_base}
-use Rattle.rk_world.specs.Cluster.{Cluster, HasOneHistory, Occurrence, cluster_after, cluster_run, lane_at, new_cluster, session_at}
+use Rattle.rk_world.specs.Cluster.{Cluster, HasOneHistory, IsQuietCluster, Occurrence, cluster_after, cluster_run, lane_at, new_cluster, session_at}
 use Rattle.rk_world.specs.Formed.{IsWellFormed}
 use Rattle.rk_world.specs.Premises.{MOST_MASTERS}
-use Rattle.rk_world.specs.World.{new_world}
+use Rattle.rk_world.specs.Runs.{Accepts, Asks, Happens, world_stepped}
+use Rattle.rk_world.specs.Stands.{Stands}
+use Rattle.rk_world.specs.Step.{stepped_by}
+use Rattle.rk_world.specs.declared.error.StepError.{StepError}
+use Rattle.rk_world.specs.World.{World, new_world}
 use Rattle.rk_sound.specs.Truth.{IsTruth}
 use Rattle.rk_sound.specs.View.{truths, view}
 use Rattle.rk_sound.specs.Whole.{IsSound}
 use Rattle.rk_laws_steady.proofs.Lanes.{sealed_accepted, sealed_asked, sealed_event, sealed_new, tell_accepted, tell_asked, tell_event, tell_new}
+use Rattle.rk_laws_stands.specs.Backups.{AllBackupsTell}
+use Rattle.rk_laws_stands.proofs.Standing.{quiet_stands_in_room}
+use Rattle.rk_laws_stands.proofs.Telling.{all_after, all_new, own_where_all_tell}
 use Rattle.rk_laws_steps.specs.Steps.{IsSteady}
 use Rattle.rk_laws_steps.proofs.Stepped.{sound_event}
 use Rattle.rk_laws_history.specs.Runs.{IsKeptIn, IsRun}
@@ -24,9 +31,13 @@ use Rattle.rk_laws_history.proofs.Histories.{good_run, good_start, one_history}
 use Rattle.rk_laws_history.proofs.Occurring.{ClientsKeep, EventsKeep}
 use Rattle.rk_laws_history.proofs.Staying.{lanes_stay, records_stay}
 
+-- what is so of a lane from its start on, beside the invariant
+abbrev pub Lasts : World → Type 0
+Lasts w = IsSteady w × AllBackupsTell w
+
 -- events keep lanes sound and steady
-events_keep : EventsKeep IsSteady
-events_keep w event called sound formed room steady may come told calm none fits = (
+events_keep : EventsKeep Lasts
+events_keep w event called sound formed room (steady, all) may come told calm none fits = (
   sound_event w event called sound
       (record {
         formed = formed;
@@ -39,18 +50,27 @@ events_keep w event called sound formed room steady may come told calm none fits
         told = told;
         steady = steady;
       }),
-  record {
-    tell = tell_event w event called steady.tell;
-    sealed = sealed_event w event called formed steady.sealed;
-  },
+  (
+    record {
+      tell = tell_event w event called steady.tell;
+      sealed = sealed_event w event called formed steady.sealed;
+    },
+    subst (λ (refused : Option StepError). AllBackupsTell (world_stepped w (stepped_by w event called refused))) none
+        (all_after w (Happens event called) all),
+  ),
 )
 
 -- and so do clients
-clients_keep : ClientsKeep IsSteady
+clients_keep : ClientsKeep Lasts
 clients_keep = record {
-  asks = λ w session steady. record { tell = tell_asked w session steady.tell; sealed = sealed_asked w session steady.sealed };
-  accepts = λ w number session steady.
-      record { tell = tell_accepted w number session steady.tell; sealed = sealed_accepted w number session steady.sealed };
+  asks = λ w session lasts. (
+    record { tell = tell_asked w session lasts.0.tell; sealed = sealed_asked w session lasts.0.sealed },
+    all_after w (Asks session) lasts.1,
+  );
+  accepts = λ w number session lasts. (
+    record { tell = tell_accepted w number session lasts.0.tell; sealed = sealed_accepted w number session lasts.0.sealed },
+    all_after w (Accepts number session) lasts.1,
+  );
 }
 
 -- a run goes on where the first part of it ended
@@ -62,20 +82,23 @@ module _ (masters backups : ℕ) (few : masters ≤ MOST_MASTERS) (backed : 1 �
   abbrev start : Cluster
   start = new_cluster masters backups
 
-  steady_start : (lane : ℕ) → IsSteady (new_world lane masters backups)
-  steady_start lane = record { tell = tell_new lane masters backups; sealed = sealed_new lane masters backups }
+  lasts_start : (lane : ℕ) → Lasts (new_world lane masters backups)
+  lasts_start lane = (record { tell = tell_new lane masters backups; sealed = sealed_new lane masters backups }, all_new lane masters backups)
 
-  pub good_after : (list : List Occurrence) → IsRun start list → IsGood IsSteady masters (cluster_run start list)
+  pub good_after : (list : List Occurrence) → IsRun start list → IsGood Lasts masters (cluster_run start list)
   good_after list run =
-      good_run IsSteady masters events_keep clients_keep start list
-      (good_start IsSteady masters backups few backed few_backups steady_start) run
+      good_run Lasts masters events_keep clients_keep start list
+      (good_start Lasts masters backups few backed few_backups lasts_start) run
 
-  lane_good : (list : List Occurrence) → IsRun start list → (lane : ℕ) → lane < LANES → IsGoodLane IsSteady masters lane (lane_at (cluster_run start list) lane)
-  lane_good list run lane inside =
-      (good_after list run).lanes lane
-      (let many = lanes_stay start list in
+  -- each lane is there
+  within : (list : List Occurrence) (lane : ℕ) → lane < LANES → lane < length (cluster_run start list).lanes
+  within list lane inside =
+      let many = lanes_stay start list in
       let first = length-map-range_with_len (λ (lane : ℕ). new_world lane masters backups) 0 LANES in
-      omega (arith, inside, many, first))
+      omega (arith, inside, many, first)
+
+  lane_good : (list : List Occurrence) → IsRun start list → (lane : ℕ) → lane < LANES → IsGoodLane Lasts masters lane (lane_at (cluster_run start list) lane)
+  lane_good list run lane inside = (good_after list run).lanes lane (within list lane inside)
 
   pub all_sound : (list : List Occurrence) → IsRun start list → (lane : ℕ) → lane < LANES → IsSound (lane_at (cluster_run start list) lane)
   all_sound list run lane inside = (lane_good list run lane inside).sound
@@ -84,7 +107,7 @@ module _ (masters backups : ℕ) (few : masters ≤ MOST_MASTERS) (backed : 1 �
   all_formed list run lane inside = (lane_good list run lane inside).formed
 
   pub has_history : (list : List Occurrence) → IsRun start list → HasOneHistory (cluster_run start list)
-  has_history list run = one_history IsSteady masters (cluster_run start list) (good_after list run)
+  has_history list run = one_history Lasts masters (cluster_run start list) (good_after list run)
 
   pub all_true : (list : List Occurrence) → IsRun start list → (lane : ℕ) → lane < LANES
       → All (λ row. IsTruth no_base row.range (truths (view (lane_at (cluster_run start list) lane)) row) (lane_at (cluster_run start list) lane).ledger.journal)
@@ -95,6 +118,14 @@ module _ (masters backups : ℕ) (few : masters ≤ MOST_MASTERS) (backed : 1 �
       (λ (base : Base). All (λ row. IsTruth base row.range (truths (view (lane_at (cluster_run start list) lane)) row) (lane_at (cluster_run start list) lane).ledger.journal)
       (lane_at (cluster_run start list) lane).coordinator.rows)
       good.base_is good.sound.truth.true
+
+  -- where nothing is left to do the stored logs alone give the map
+  pub all_stand : (list : List Occurrence) → IsRun start list → IsQuietCluster (cluster_run start list) → (lane : ℕ) → lane < LANES → Stands (lane_at (cluster_run start list) lane)
+  all_stand list run quiet lane inside =
+      let good = lane_good list run lane inside in
+      quiet_stands_in_room (lane_at (cluster_run start list) lane) (map (λ entry. entry.1) (cluster_run start list).sessions) good.sound good.formed
+      good.room (own_where_all_tell (lane_at (cluster_run start list) lane) good.steady.1)
+      (quiet lane (new_world lane 0 0) (within list lane inside))
 
   -- what a receipt tells stands there, whatever comes after
   pub acknowledged : (before after : List Occurrence) (client : ℕ) → IsRun start before → All (IsKeptIn (cluster_run start (before ++ after))) (session_at (cluster_run start before) client).receipts

@@ -3,9 +3,10 @@ ghost use Rattle.std.specs.Prelude.{◌≤◌, ◌<◌, ◌++◌, ℕ, All, List
 ghost use Rattle.rk_types.specs.declared.hashing.TheConstants.{LANES};
 ghost use Rattle.rk_log.specs.declared.copied.TheConstants.{MOST_BACKUPS};
 ghost use Rattle.rk_world.specs.Base.{no_base};
-ghost use Rattle.rk_world.specs.Cluster.{Cluster, HasOneHistory, Occurrence, cluster_run, lane_at, new_cluster, session_at};
+ghost use Rattle.rk_world.specs.Cluster.{Cluster, HasOneHistory, IsQuietCluster, Occurrence, cluster_run, lane_at, new_cluster, session_at};
 ghost use Rattle.rk_world.specs.Formed.{IsWellFormed};
 ghost use Rattle.rk_world.specs.Premises.{MOST_MASTERS};
+ghost use Rattle.rk_world.specs.Stands.{Stands};
 ghost use Rattle.rk_sound.specs.Truth.{IsTruth};
 ghost use Rattle.rk_sound.specs.View.{truths, view};
 ghost use Rattle.rk_sound.specs.Whole.{IsSound};
@@ -14,7 +15,8 @@ ghost use Rattle.rk_laws_history.specs.Runs.{IsKeptIn, IsRun, RecordsStay};
 /// In every run of a new cluster, whatever is sent, lost, repeated or delayed and whichever masters crash while another one lives, each lane
 /// is sound and well formed. So the journals of all lanes merge into one lawful history of one map that starts empty, and that history is
 /// ordered with the sessions: each call that was acknowledged stands in it once, in its client's order, as its receipt says. What counts of
-/// the applied logs of a row's lineage leaves just the records that the journal of its lane leaves.
+/// the applied logs of a row's lineage leaves just the records that the journal of its lane leaves; and where nothing is left to do, so does
+/// what is read back of what each backup stores.
 pub fn clusters_have_one_history()
     ensures sound { (masters backups : ℕ) (list : List Occurrence)
         → masters ≤ MOST_MASTERS → 1 ≤ backups → backups ≤ MOST_BACKUPS → IsRun (new_cluster masters backups) list
@@ -30,6 +32,10 @@ pub fn clusters_have_one_history()
         → (lane : ℕ) → lane < LANES
         → let w = lane_at (cluster_run (new_cluster masters backups) list) lane in
         All (λ row. IsTruth no_base row.range (truths (view w) row) w.ledger.journal) w.coordinator.rows }
+    ensures stored { (masters backups : ℕ) (list : List Occurrence)
+        → masters ≤ MOST_MASTERS → 1 ≤ backups → backups ≤ MOST_BACKUPS → IsRun (new_cluster masters backups) list
+        → IsQuietCluster (cluster_run (new_cluster masters backups) list)
+        → (lane : ℕ) → lane < LANES → Stands (lane_at (cluster_run (new_cluster masters backups) list) lane) }
 {}
 
 /// A record of a journal stays for ever: whatever occurs, it stands at its place, of the same call, outcome and stamp, and is accepted once

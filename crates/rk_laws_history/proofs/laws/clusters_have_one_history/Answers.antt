@@ -1,4 +1,4 @@
-use Rattle.rk_laws_history.proofs.Runs.{all_formed, all_sound, all_true, has_history}
+use Rattle.rk_laws_history.proofs.Runs.{all_formed, all_sound, all_stand, all_true, has_history}
 use Rattle.rk_laws_history.proofs.laws.clusters_have_one_history.Goals as goal
 
 pub returns-clause-sound : goal.returns-clause-sound
@@ -12,3 +12,6 @@ returns-clause-history c = λ masters backups list few backed few_backups run. h
 
 pub returns-clause-truth : goal.returns-clause-truth
 returns-clause-truth c = λ masters backups list few backed few_backups run. all_true masters backups few backed few_backups list run
+
+pub returns-clause-stored : goal.returns-clause-stored
+returns-clause-stored c = λ masters backups list few backed few_backups run quiet. all_stand masters backups few backed few_backups list run quiet
