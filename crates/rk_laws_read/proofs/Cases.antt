@@ -44,7 +44,8 @@ none_told : (others : List Entry) → AreAmong [] others
 none_told others = (λ item at. absurd (omega (arith, at.1)), λ end at. absurd (omega (arith, at.1)))
 
 -- what side segments of the last of two members have is the first one's
-sides_of_two : (written : ℕ → Written) (range : Range) (first last : Member) → NamedFit written range (first ∷ last ∷ []) → (others : List Entry) → ((e : Entry) → Contains (member_truth written range first) e → Contains others e) → AreAmong (side_part range last.from (written last.master) (written last.master).entries) others
+sides_of_two : (written : ℕ → Written) (range : Range) (first last : Member) → NamedFit written range (first ∷ last ∷ []) → (others : List Entry) → ((e : Entry) → Contains (member_truth written range first) e
+    → Contains others e) → AreAmong (side_part range last.from (written last.master) (written last.master).entries) others
 sides_of_two written range first last named others has =
     items_among (side_part range last.from (written last.master) (written last.master).entries) others
     (λ e at.
@@ -72,7 +73,8 @@ module _ (v : View) (row : Row) (to place : ℕ) (ends : List Ended) (sound : So
       (by_member (v.gathers to row.tablet) (member_material v.written row.range (member_at to (own_place (v.handovers to row.tablet).role))))
 
   -- by the lineage, and by those that were gathered
-  conclude : (lineage : List Member) (members : List Gathered) (lists : List (List Entry)) → MayTakeRebuilt v row lineage to place ends → (v.gathers to row.tablet).members ≡ members → by_member (gather_of row.range to own lineage members) own ≡ lists → IsReadBack (lineage_truth v.base v.written row.range lineage) (lineage_rest v.written row.range lineage) lists → IsBack
+  conclude : (lineage : List Member) (members : List Gathered) (lists : List (List Entry)) → MayTakeRebuilt v row lineage to place ends → (v.gathers to row.tablet).members ≡ members
+      → by_member (gather_of row.range to own lineage members) own ≡ lists → IsReadBack (lineage_truth v.base v.written row.range lineage) (lineage_rest v.written row.range lineage) lists → IsBack
   conclude lineage members lists may are by back =
       let its = (rebuilder v row lineage to place ends sound some may).gather in
       let same : by_member gather own ≡ lists =
@@ -184,7 +186,8 @@ module _ (v : View) (row : Row) (to place : ℕ) (ends : List Ended) (sound : So
       (Contains-append_cases (member_truth v.written row.range first) (member_truth v.written row.range last ++ []) e at)
 
   -- so it was read, where what was read has all that is applied of the first
-  read_or_last : (first last : Member) (read : List Entry) → ((e : Entry) → Contains (member_truth v.written row.range first) e → Contains read e) → (e : Entry) → Contains (lineage_truth v.base v.written row.range (first ∷ last ∷ [])) e → Contains (all_of (read ∷ [])) e ⊎ Contains (member_truth v.written row.range last) e
+  read_or_last : (first last : Member) (read : List Entry) → ((e : Entry) → Contains (member_truth v.written row.range first) e → Contains read e) → (e : Entry)
+      → Contains (lineage_truth v.base v.written row.range (first ∷ last ∷ [])) e → Contains (all_of (read ∷ [])) e ⊎ Contains (member_truth v.written row.range last) e
   read_or_last first last read has e at =
       ⊎_elim (λ (its : Contains (member_truth v.written row.range first) e). inl (Contains-append_left read [] e (has e its)))
       (λ (its : Contains (member_truth v.written row.range last) e). inr its) (of_two first last e at)

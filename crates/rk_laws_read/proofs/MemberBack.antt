@@ -76,7 +76,8 @@ sides_applied range from w none e at =
 
 -- ---- one member
 
-module _ (v : View) (row : Row) (lineage : List Member) (to place : ℕ) (ends : List Ended) (sound : SoundView v) (readable : AreReadable v.logs v.written) (some : row.range.first ≤ row.range.last) (few : All (λ gathered. length gathered.main ≤ LAST_MAIN_SEGMENT) (v.gathers to row.tablet).members) (may : MayTakeRebuilt v row lineage to place ends) (gathered : Gathered) (there : Contains (v.gathers to row.tablet).members gathered) where
+module _ (v : View) (row : Row) (lineage : List Member) (to place : ℕ) (ends : List Ended) (sound : SoundView v) (readable : AreReadable v.logs v.written) (some : row.range.first ≤ row.range.last) (few : All
+    (λ gathered. length gathered.main ≤ LAST_MAIN_SEGMENT) (v.gathers to row.tablet).members) (may : MayTakeRebuilt v row lineage to place ends) (gathered : Gathered) (there : Contains (v.gathers to row.tablet).members gathered) where
   abbrev m : Member
   m = gathered.member
 
@@ -114,7 +115,8 @@ module _ (v : View) (row : Row) (lineage : List Member) (to place : ℕ) (ends :
   truth_of_it = member_truth v.written row.range gathered.member
 
   -- a marked entry tells nothing that is not told by others, where it tells nothing that is not told by these and by the member
-  marked_told : (others front : List Entry) → AreAmong (member_marked v.written row.range m) (front ++ member_material v.written row.range m) → AreAmong front others → AreAmong (free_part row.range m.from w main) others → AreAmong (side_part row.range m.from w w.entries) others → AreAmong marked others
+  marked_told : (others front : List Entry) → AreAmong (member_marked v.written row.range m) (front ++ member_material v.written row.range m) → AreAmong front others → AreAmong (free_part row.range m.from w main) others
+      → AreAmong (side_part row.range m.from w w.entries) others → AreAmong marked others
   marked_told others front tells first second third = (
     pieces_among items_in marked (member_marked v.written row.range m) front (free_part row.range m.from w w.entries) (free_part row.range m.from w main)
         (side_part row.range m.from w w.entries) others (marked_of_all row.range m.from w main (side_read gathered) log) tells.0 first.0 second.0 third.0
@@ -125,7 +127,8 @@ module _ (v : View) (row : Row) (lineage : List Member) (to place : ℕ) (ends :
   )
 
   -- what was read and bears no mark is applied, or of the part
-  pub free_read : (others : List Entry) → ((e : Entry) → Contains (member_truth v.written row.range gathered.member) e → Contains others e) → ((e : Entry) → Contains part e → Contains others e) → (e : Entry) → Contains (free_part row.range gathered.member.from (v.written gathered.member.master) main) e → Contains others e
+  pub free_read : (others : List Entry) → ((e : Entry) → Contains (member_truth v.written row.range gathered.member) e → Contains others e) → ((e : Entry) → Contains part e → Contains others e) → (e : Entry)
+      → Contains (free_part row.range gathered.member.from (v.written gathered.member.master) main) e → Contains others e
   free_read others truths parts e at =
       ⊎_elim
       (λ (here : Contains sure e). truths e (Contains-append_left sure (side_part row.range m.from w (applied_entries w)) e here))
