@@ -1,0 +1,257 @@
+-- What a master makes of a message that comes late: it stays as it is, and at most says again what it said before.
+use Rattle.std.proofs.Common.{◌≡◌, ◌≤◌, ◌<◌, ◌&&◌, ℕ, Bool, true, false, cond, [], Option, None, refl, sym, ap, subst, inl, ◌∙◌, arith}
+use Rattle.std.specs.Prelude.{◌==◌}
+use Rattle.std.proofs.lemmas.Bool.{eq-eqb, le-ltb, ne_eqb}
+use Rattle.rk_types.specs.declared.node.Node.{Node}
+use Rattle.rk_types.specs.declared.node.Node.TheVariants as nodes
+use Rattle.rk_transfer.specs.Handover.{in_role, role_closed, role_granted, role_owned, role_released}
+use Rattle.rk_transfer.specs.declared.handover.Handover.{Handover}
+use Rattle.rk_transfer.specs.declared.role.Role.{Role}
+use Rattle.rk_transfer.specs.declared.role.Role.TheVariants as roles
+use Rattle.rk_message.specs.declared.handover.Grant.{Grant}
+use Rattle.rk_message.specs.declared.handover.Prepare.{Prepare}
+use Rattle.rk_message.specs.declared.handover.Tenure.{Tenure}
+use Rattle.rk_message.specs.declared.message.Body.{Body}
+use Rattle.rk_message.specs.declared.message.Body.TheVariants as bodies
+use Rattle.rk_message.specs.declared.message.Message.{Message}
+use Rattle.rk_message.specs.declared.pulling.Got.{Got}
+use Rattle.rk_message.specs.declared.pulling.Pull.{Pull}
+use Rattle.rk_message.specs.declared.pulling.Pulled.{Pulled}
+use Rattle.rk_message.specs.declared.pulling.Want.{Want}
+use Rattle.rk_message.specs.declared.rebuilding.CopySegment.{CopySegment}
+use Rattle.rk_message.specs.declared.rebuilding.Rebuild.{Rebuild}
+use Rattle.rk_world.specs.Gather.{is_awaited, next_reading}
+use Rattle.rk_world.specs.Handovers.{close_taken, closing, grant_taken, granting, own_taken, owning, prepare_taken, preparing, ready, ready_again, release_taken, releasing, transfer, transferring}
+use Rattle.rk_world.specs.Master.{Master, tablet_at}
+use Rattle.rk_world.specs.MasterStep.{backup_message, client_message, order, peer_message, told_master}
+use Rattle.rk_world.specs.Pulls.{got_taken, is_token, pull_taken, pulled_taken, want_taken}
+use Rattle.rk_world.specs.Rebuilds.{beginning, copy_taken, rebuild_taken}
+use Rattle.rk_world.specs.RoleTests.{is_frozen, is_frozen_at, is_gathering, is_receiving, is_receiving_at}
+use Rattle.rk_world.specs.Tablet.{Tablet}
+use Rattle.rk_world.specs.Worked.{Worked, changed, sending}
+use Rattle.rk_laws_late.specs.Late.{IsLate, IsOfOtherTerm, IsOlder, IsSurpassed, kept_term}
+use Rattle.rk_laws_late.proofs.Tests.{first_fails, middle_fails, not_at, not_greater, other_term, second_fails}
+
+-- ---- what stays
+
+-- a master stays as it is, serves no call and marks no piece of its log
+pub record Stays (master : Master) (worked : Worked) : Type 0 where
+  pub same : worked.master ≡ master
+  pub served : worked.served ≡ []
+  pub marked : worked.marked ≡ []
+
+pub stays_quiet : (master : Master) (worked : Worked) → worked ≡ changed master → Stays master worked
+stays_quiet master worked quiet = subst (Stays master) (sym quiet) (record { same = refl; served = refl; marked = refl })
+
+says : (master : Master) (message : Message) → Stays master (sending master message)
+says master message = record { same = refl; served = refl; marked = refl }
+
+at_most_says : (master : Master) (b : Bool) (message : Message) → Stays master (cond b (sending master message) (changed master))
+at_most_says master true message = says master message
+at_most_says master false message = stays_quiet master (changed master) refl
+
+-- a test that fails leaves the other branch
+otherwise : (b : Bool) (one other : Worked) → b ≡ false → cond b one other ≡ other
+otherwise b one other is = ap (λ (t : Bool). cond t one other) is
+
+-- ---- orders at another term
+
+module _ (master : Master) where
+  pub grant_late : (grant : Grant) → IsOfOtherTerm master grant.tenure → grant_taken master grant ≡ changed master
+  grant_late grant late =
+      let handover : Handover = (tablet_at master grant.tenure.tablet).handover in
+      ap (granting master grant)
+      (not_at handover.term grant.tenure.term (in_role (record handover { counter = grant.floor }) (role_granted handover.role)) late)
+
+  pub own_late : (tenure : Tenure) → IsOfOtherTerm master tenure → own_taken master tenure ≡ changed master
+  own_late tenure late =
+      let handover : Handover = (tablet_at master tenure.tablet).handover in
+      ap (owning master tenure.tablet)
+      (not_at handover.term tenure.term (in_role handover (role_owned master.applied handover.role)) late)
+
+  pub release_late : (tenure : Tenure) → IsOfOtherTerm master tenure → release_taken master tenure ≡ changed master
+  release_late tenure late =
+      let handover : Handover = (tablet_at master tenure.tablet).handover in
+      ap (releasing master tenure.tablet) (not_at handover.term tenure.term (in_role handover (role_released handover.role)) late)
+
+  -- ---- pulls and copies at another term
+
+  frozen_late : (tablet : ℕ) (term : ℕ) → (kept_term master tablet ≡ term → ⊥) → is_frozen_at (tablet_at master tablet) term ≡ false
+  frozen_late tablet term late =
+      second_fails (is_frozen (tablet_at master tablet).handover.role) (kept_term master tablet == term)
+      (ne_eqb (kept_term master tablet) term late)
+
+  receiving_late : (tablet : ℕ) (term : ℕ) → (kept_term master tablet ≡ term → ⊥) → is_receiving_at (tablet_at master tablet) term ≡ false
+  receiving_late tablet term late =
+      second_fails (is_receiving (tablet_at master tablet).handover.role) (kept_term master tablet == term)
+      (ne_eqb (kept_term master tablet) term late)
+
+  pub pull_late : (sender : Node) (pull : Pull) → IsOfOtherTerm master pull.tenure → pull_taken master sender pull ≡ changed master
+  pull_late sender pull late = otherwise _ _ (changed master) (frozen_late pull.tenure.tablet pull.tenure.term late)
+
+  pub want_late : (sender : Node) (want : Want) → IsOfOtherTerm master want.tenure → want_taken master sender want ≡ changed master
+  want_late sender want late = otherwise _ _ (changed master) (frozen_late want.tenure.tablet want.tenure.term late)
+
+  pub pulled_late : (pulled : Pulled) → IsOfOtherTerm master pulled.tenure → pulled_taken master pulled ≡ changed master
+  pulled_late pulled late =
+      otherwise _ _ (changed master)
+      (first_fails _ (is_token pulled.token (tablet_at master pulled.tenure.tablet).pulling.token)
+      (receiving_late pulled.tenure.tablet pulled.tenure.term late))
+
+  pub got_late : (message : Got) → IsOfOtherTerm master message.tenure → got_taken master message ≡ changed master
+  got_late message late =
+      otherwise _ _ (changed master)
+      (first_fails _ _ (receiving_late message.tenure.tablet message.tenure.term late))
+
+  pub copy_late : (copy : CopySegment) → IsOfOtherTerm master copy.tenure → copy_taken master copy ≡ changed master
+  copy_late copy late =
+      let tablet : Tablet = tablet_at master copy.tenure.tablet in
+      otherwise _ _ (changed master)
+      (middle_fails (is_gathering tablet.handover.role) (tablet.handover.term == copy.tenure.term)
+      (is_awaited (next_reading tablet.gather) copy.master copy.segment)
+      (ne_eqb tablet.handover.term copy.tenure.term late))
+
+  -- ---- orders that bring a term
+
+  pub rebuild_late : (rebuild : Rebuild) → IsSurpassed master rebuild.tenure rebuild.range → rebuild_taken master rebuild ≡ changed master
+  rebuild_late rebuild late = otherwise _ (beginning master rebuild) (changed master) (not_greater master rebuild.tenure rebuild.range late)
+
+  -- a Prepare that comes late is at most answered as before
+  pub prepare_late : (prepare : Prepare) → IsSurpassed master prepare.tenure prepare.range
+      → prepare_taken master prepare
+      ≡ ready_again master prepare.tenure (tablet_at master prepare.tenure.tablet).handover.role (kept_term master prepare.tenure.tablet)
+  prepare_late prepare late = otherwise _ (preparing master prepare) _ (not_greater master prepare.tenure prepare.range late)
+
+  ready_stays : (tenure : Tenure) (role : Role) (term : ℕ) → Stays master (ready_again master tenure role term)
+  ready_stays tenure (roles.Wanting from) term = at_most_says master (term == tenure.term) (ready master tenure from)
+  ready_stays tenure _ term = stays_quiet master (changed master) refl
+
+  ready_quiet : (tenure : Tenure) (role : Role) (term : ℕ) → (term ≡ tenure.term → ⊥) → ready_again master tenure role term ≡ changed master
+  ready_quiet tenure (roles.Wanting from) term other = otherwise _ _ (changed master) (ne_eqb term tenure.term other)
+  ready_quiet tenure _ term other = refl
+
+  -- a Close that comes late is at most answered as before
+  pub close_late : (tenure : Tenure) → tenure.term ≤ kept_term master tenure.tablet → close_taken master tenure ≡ transferring master tenure
+  close_late tenure late =
+      let handover : Handover = (tablet_at master tenure.tablet).handover in
+      ap (λ (moved : Option Handover). transferring (closing master tenure.tablet moved) tenure)
+      (ap (λ (b : Bool). cond b (in_role (record handover { term = tenure.term }) (role_closed handover.role)) None)
+      (le-ltb handover.term tenure.term late))
+
+  -- ---- all messages
+
+  prepare_stays : (prepare : Prepare) → IsSurpassed master prepare.tenure prepare.range → Stays master (prepare_taken master prepare)
+  prepare_stays prepare late =
+      subst (Stays master) (sym (prepare_late prepare late))
+      (ready_stays prepare.tenure (tablet_at master prepare.tenure.tablet).handover.role (kept_term master prepare.tenure.tablet))
+
+  close_stays : (tenure : Tenure) → tenure.term ≤ kept_term master tenure.tablet → Stays master (close_taken master tenure)
+  close_stays tenure late =
+      subst (Stays master) (sym (close_late tenure late))
+      (at_most_says master (is_frozen_at (tablet_at master tenure.tablet) tenure.term) (transfer master tenure (tablet_at master tenure.tablet)))
+
+  from_client : (client : ℕ) (body : Body) → IsLate master body → Stays master (client_message master client body)
+  from_client client (bodies.Request request) late = absurd late
+  from_client client _ late = stays_quiet master (changed master) refl
+
+  from_backup : (backup : ℕ) (body : Body) → IsLate master body → Stays master (backup_message master backup body)
+  from_backup backup (bodies.Stored stored) late = absurd late
+  from_backup backup (bodies.Copy copy) late = stays_quiet master (copy_taken master copy) (copy_late copy late)
+  from_backup backup _ late = stays_quiet master (changed master) refl
+
+  from_peer : (sender : Node) (body : Body) → IsLate master body → Stays master (peer_message master sender body)
+  from_peer sender (bodies.Pull pull) late = stays_quiet master (pull_taken master sender pull) (pull_late sender pull late)
+  from_peer sender (bodies.Pulled pulled) late = stays_quiet master (pulled_taken master pulled) (pulled_late pulled late)
+  from_peer sender (bodies.Want want) late = stays_quiet master (want_taken master sender want) (want_late sender want late)
+  from_peer sender (bodies.Got message) late = stays_quiet master (got_taken master message) (got_late message late)
+  from_peer sender _ late = stays_quiet master (changed master) refl
+
+  from_coordinator : (body : Body) → IsLate master body → Stays master (order master body)
+  from_coordinator (bodies.Prepare prepare) late = prepare_stays prepare late
+  from_coordinator (bodies.Close tenure) late = close_stays tenure late
+  from_coordinator (bodies.Grant grant) late = stays_quiet master (grant_taken master grant) (grant_late grant late)
+  from_coordinator (bodies.Own tenure) late = stays_quiet master (own_taken master tenure) (own_late tenure late)
+  from_coordinator (bodies.Release tenure) late = stays_quiet master (release_taken master tenure) (release_late tenure late)
+  from_coordinator (bodies.Rebuild rebuild) late = stays_quiet master (rebuild_taken master rebuild) (rebuild_late rebuild late)
+  from_coordinator _ late = stays_quiet master (changed master) refl
+
+  pub late_stays : (sender : Node) (body : Body) → IsLate master body → Stays master (told_master master sender body)
+  late_stays (nodes.Client client) body late = from_client client body late
+  late_stays nodes.Coordinator body late = from_coordinator body late
+  late_stays (nodes.Master other) body late = from_peer (nodes.Master other) body late
+  late_stays (nodes.Backup backup) body late = from_backup backup body late
+
+  -- ---- messages of a smaller term
+
+  abbrev Older : Tenure → Type 0
+  Older tenure = tenure.term < kept_term master tenure.tablet
+
+  other : (tenure : Tenure) → Older tenure → IsOfOtherTerm master tenure
+  other tenure older = other_term (kept_term master tenure.tablet) tenure.term older
+
+  below : (tenure : Tenure) → Older tenure → tenure.term ≤ kept_term master tenure.tablet
+  below tenure older = omega (arith, older)
+
+  prepare_older : (prepare : Prepare) → Older prepare.tenure → prepare_taken master prepare ≡ changed master
+  prepare_older prepare older =
+      prepare_late prepare (inl (below prepare.tenure older))
+      ∙ ready_quiet prepare.tenure (tablet_at master prepare.tenure.tablet).handover.role (kept_term master prepare.tenure.tablet)
+      (other prepare.tenure older)
+
+  close_older : (tenure : Tenure) → Older tenure → close_taken master tenure ≡ changed master
+  close_older tenure older =
+      close_late tenure (below tenure older)
+      ∙ otherwise _ _ (changed master) (frozen_late tenure.tablet tenure.term (other tenure older))
+
+  client_older : (client : ℕ) (body : Body) → IsOlder master body → client_message master client body ≡ changed master
+  client_older client (bodies.Request request) older = absurd older
+  client_older client _ older = refl
+
+  backup_older : (backup : ℕ) (body : Body) → IsOlder master body → backup_message master backup body ≡ changed master
+  backup_older backup (bodies.Stored stored) older = absurd older
+  backup_older backup (bodies.Copy copy) older = copy_late copy (other copy.tenure older)
+  backup_older backup _ older = refl
+
+  peer_older : (sender : Node) (body : Body) → IsOlder master body → peer_message master sender body ≡ changed master
+  peer_older sender (bodies.Pull pull) older = pull_late sender pull (other pull.tenure older)
+  peer_older sender (bodies.Pulled pulled) older = pulled_late pulled (other pulled.tenure older)
+  peer_older sender (bodies.Want want) older = want_late sender want (other want.tenure older)
+  peer_older sender (bodies.Got message) older = got_late message (other message.tenure older)
+  peer_older sender _ older = refl
+
+  order_older : (body : Body) → IsOlder master body → order master body ≡ changed master
+  order_older (bodies.Prepare prepare) older = prepare_older prepare older
+  order_older (bodies.Close tenure) older = close_older tenure older
+  order_older (bodies.Grant grant) older = grant_late grant (other grant.tenure older)
+  order_older (bodies.Own tenure) older = own_late tenure (other tenure older)
+  order_older (bodies.Release tenure) older = release_late tenure (other tenure older)
+  order_older (bodies.Rebuild rebuild) older = rebuild_late rebuild (inl (below rebuild.tenure older))
+  order_older _ older = refl
+
+  pub older_quiet : (sender : Node) (body : Body) → IsOlder master body → told_master master sender body ≡ changed master
+  older_quiet (nodes.Client client) body older = client_older client body older
+  older_quiet nodes.Coordinator body older = order_older body older
+  older_quiet (nodes.Master other) body older = peer_older (nodes.Master other) body older
+  older_quiet (nodes.Backup backup) body older = backup_older backup body older
+
+  -- ---- what is said again
+
+  -- a target that waits for its grant says again that it is ready
+  pub says_ready : (prepare : Prepare) (from : ℕ) → kept_term master prepare.tenure.tablet ≡ prepare.tenure.term
+      → (tablet_at master prepare.tenure.tablet).handover.role ≡ roles.Wanting from
+      → prepare_taken master prepare ≡ sending master (ready master prepare.tenure from)
+  says_ready prepare from same wanting =
+      let tenure : Tenure = prepare.tenure in
+      let kept : ℕ = kept_term master tenure.tablet in
+      prepare_late prepare (inl (omega (arith, same)))
+      ∙ ap (λ (role : Role). ready_again master tenure role kept) wanting
+      ∙ ap (λ (b : Bool). cond b (sending master (ready master tenure from)) (changed master)) (eq-eqb kept tenure.term same)
+
+  -- a source that is frozen hands its tablet over again
+  pub says_transfer : (tenure : Tenure) → kept_term master tenure.tablet ≡ tenure.term
+      → (tablet_at master tenure.tablet).handover.role ≡ roles.Frozen
+      → close_taken master tenure ≡ sending master (transfer master tenure (tablet_at master tenure.tablet))
+  says_transfer tenure same freeze =
+      close_late tenure (omega (arith, same))
+      ∙ ap (λ (b : Bool). cond b (sending master (transfer master tenure (tablet_at master tenure.tablet))) (changed master))
+      (λ i. is_frozen (freeze i) && eq-eqb (kept_term master tenure.tablet) tenure.term same i)

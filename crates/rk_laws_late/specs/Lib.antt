@@ -1,0 +1,4 @@
+pub mod Late
+pub mod Unchanged
+pub mod Sent
+pub mod Refused
