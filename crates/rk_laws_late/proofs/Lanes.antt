@@ -29,10 +29,10 @@ use Rattle.rk_world.specs.Step.{Stepped, delivered, delivered_to, happened, ledg
 use Rattle.rk_world.specs.Worked.{Worked, changed}
 use Rattle.rk_world.specs.World.{World, has_crashed, master_at, tablet_in, with_coordinator, with_ledger}
 use Rattle.rk_laws_parts.proofs.Masters.{same_of_each}
-use Rattle.rk_laws_late.specs.Late.{IsLate, IsLateReport, IsOlder, is_told_again, is_waited_for}
+use Rattle.rk_laws_late.specs.Late.{IsLateReport, IsOlder, IsPassedOver, is_told_again, is_waited_for, says_again}
 use Rattle.rk_laws_late.specs.Sent.{IsToldToOwn, order_to, report_of}
 use Rattle.rk_laws_late.specs.Unchanged.{IsUnchanged, IsUntouched}
-use Rattle.rk_laws_late.proofs.Orders.{Stays, late_stays, older_quiet, says_ready, says_transfer, stays_quiet}
+use Rattle.rk_laws_late.proofs.Orders.{Stays, older_quiet, passed_quiet, passed_stays, says_ready, says_transfer, stays_quiet}
 use Rattle.rk_laws_late.proofs.Reports.{report_late, report_told_again, report_unawaited}
 
 -- ---- a message that is delivered
@@ -109,14 +109,24 @@ module _ (w : World) (number master : ℕ) where
       (untouched w master (seen_in message.body) (master_step (master_at w master) message)
       (older_quiet (master_at w master) message.from message.body older)))
 
-  pub late_changes_nothing : (message : Message) (called : Called)
-      → get w.wire.messages number ≡ Some message → message.to ≡ nodes.Master master → IsLate (master_at w master) message.body
+  pub passed_changes_nothing : (message : Message) (called : Called)
+      → get w.wire.messages number ≡ Some message → message.to ≡ nodes.Master master → IsPassedOver (master_at w master) message.body
       → IsUnchanged w (happened w (events.Deliver number) called).world
-  late_changes_nothing message called there its late =
+  passed_changes_nothing message called there its passed =
       comes_to (IsUnchanged w) w number master message called there its
       (reaches (IsUnchanged w) w master message (lost w).unchanged
       (unchanged w master (seen_in message.body) (master_step (master_at w master) message)
-      (late_stays (master_at w master) message.from message.body late)))
+      (passed_stays (master_at w master) message.from message.body passed)))
+
+  pub passed_is_silent : (message : Message) (called : Called)
+      → get w.wire.messages number ≡ Some message → message.to ≡ nodes.Master master → IsPassedOver (master_at w master) message.body
+      → says_again (master_at w master) message.body ≡ false
+      → IsUntouched w (happened w (events.Deliver number) called).world
+  passed_is_silent message called there its passed untold =
+      comes_to (IsUntouched w) w number master message called there its
+      (reaches (IsUntouched w) w master message (lost w)
+      (untouched w master (seen_in message.body) (master_step (master_at w master) message)
+      (passed_quiet (master_at w master) message.from message.body passed untold)))
 
   -- what a living master makes of an order
   sends_as : (body : Body) (called : Called) (message : Message) → get w.wire.messages number ≡ Some (order_to master body)

@@ -1,10 +1,10 @@
 -- What a master makes of a message that comes late: it stays as it is, and at most says again what it said before.
-use Rattle.std.proofs.Common.{◌≡◌, ◌≤◌, ◌<◌, ◌&&◌, ℕ, Bool, true, false, cond, [], Option, None, refl, sym, ap, subst, inl, ◌∙◌, arith}
-use Rattle.std.specs.Prelude.{◌==◌}
+use Rattle.std.proofs.Common.{◌≡◌, ◌≤◌, ◌<◌, ◌&&◌, ℕ, Bool, true, false, cond, [], Option, None, refl, sym, ap, subst, inl, inr, ⊎_elim, ◌∙◌, arith}
+use Rattle.std.specs.Prelude.{◌⊎◌, ◌==◌}
 use Rattle.std.proofs.lemmas.Bool.{eq-eqb, le-ltb, ne_eqb}
 use Rattle.rk_types.specs.declared.node.Node.{Node}
 use Rattle.rk_types.specs.declared.node.Node.TheVariants as nodes
-use Rattle.rk_transfer.specs.Handover.{in_role, role_closed, role_granted, role_owned, role_released}
+use Rattle.rk_transfer.specs.Handover.{closed, in_role, role_closed, role_granted, role_owned, role_released}
 use Rattle.rk_transfer.specs.declared.handover.Handover.{Handover}
 use Rattle.rk_transfer.specs.declared.role.Role.{Role}
 use Rattle.rk_transfer.specs.declared.role.Role.TheVariants as roles
@@ -20,6 +20,7 @@ use Rattle.rk_message.specs.declared.pulling.Pulled.{Pulled}
 use Rattle.rk_message.specs.declared.pulling.Want.{Want}
 use Rattle.rk_message.specs.declared.rebuilding.CopySegment.{CopySegment}
 use Rattle.rk_message.specs.declared.rebuilding.Rebuild.{Rebuild}
+use Rattle.rk_sound.specs.Handing.{is_wanting}
 use Rattle.rk_world.specs.Gather.{is_awaited, next_reading}
 use Rattle.rk_world.specs.Handovers.{close_taken, closing, grant_taken, granting, own_taken, owning, prepare_taken, preparing, ready, ready_again, release_taken, releasing, transfer, transferring}
 use Rattle.rk_world.specs.Master.{Master, tablet_at}
@@ -29,7 +30,7 @@ use Rattle.rk_world.specs.Rebuilds.{beginning, copy_taken, rebuild_taken}
 use Rattle.rk_world.specs.RoleTests.{is_frozen, is_frozen_at, is_gathering, is_receiving, is_receiving_at}
 use Rattle.rk_world.specs.Tablet.{Tablet}
 use Rattle.rk_world.specs.Worked.{Worked, changed, sending}
-use Rattle.rk_laws_late.specs.Late.{IsLate, IsOfOtherTerm, IsOlder, IsSurpassed, kept_term}
+use Rattle.rk_laws_late.specs.Late.{DoesNotMove, IsLate, IsOfOtherTerm, IsOlder, IsPassedOver, IsSurpassed, kept_term, move_asked, says_again}
 use Rattle.rk_laws_late.proofs.Tests.{first_fails, middle_fails, not_at, not_greater, other_term, second_fails}
 
 -- ---- what stays
@@ -130,56 +131,132 @@ module _ (master : Master) where
   ready_quiet tenure (roles.Wanting from) term other = otherwise _ _ (changed master) (ne_eqb term tenure.term other)
   ready_quiet tenure _ term other = refl
 
-  -- a Close that comes late is at most answered as before
+  -- a Close that the tablet does not follow is at most answered as before
+  close_passed : (tenure : Tenure) → closed (tablet_at master tenure.tablet).handover tenure.term ≡ None
+      → close_taken master tenure ≡ transferring master tenure
+  close_passed tenure none = ap (λ (moved : Option Handover). transferring (closing master tenure.tablet moved) tenure) none
+
   pub close_late : (tenure : Tenure) → tenure.term ≤ kept_term master tenure.tablet → close_taken master tenure ≡ transferring master tenure
   close_late tenure late =
       let handover : Handover = (tablet_at master tenure.tablet).handover in
-      ap (λ (moved : Option Handover). transferring (closing master tenure.tablet moved) tenure)
+      close_passed tenure
       (ap (λ (b : Bool). cond b (in_role (record handover { term = tenure.term }) (role_closed handover.role)) None)
       (le-ltb handover.term tenure.term late))
 
-  -- ---- all messages
+  -- ---- all messages that are passed over
 
-  prepare_stays : (prepare : Prepare) → IsSurpassed master prepare.tenure prepare.range → Stays master (prepare_taken master prepare)
-  prepare_stays prepare late =
-      subst (Stays master) (sym (prepare_late prepare late))
-      (ready_stays prepare.tenure (tablet_at master prepare.tenure.tablet).handover.role (kept_term master prepare.tenure.tablet))
+  -- what a master says again of an order that it passes over
+  abbrev again : Body → Worked
+  again (bodies.Prepare prepare) =
+      ready_again master prepare.tenure (tablet_at master prepare.tenure.tablet).handover.role (kept_term master prepare.tenure.tablet)
+  again (bodies.Close tenure) = transferring master tenure
+  again _ = changed master
 
-  close_stays : (tenure : Tenure) → tenure.term ≤ kept_term master tenure.tablet → Stays master (close_taken master tenure)
-  close_stays tenure late =
-      subst (Stays master) (sym (close_late tenure late))
-      (at_most_says master (is_frozen_at (tablet_at master tenure.tablet) tenure.term) (transfer master tenure (tablet_at master tenure.tablet)))
+  again_stays : (body : Body) → Stays master (again body)
+  again_stays (bodies.Prepare prepare) =
+      ready_stays prepare.tenure (tablet_at master prepare.tenure.tablet).handover.role (kept_term master prepare.tenure.tablet)
+  again_stays (bodies.Close tenure) =
+      at_most_says master (is_frozen_at (tablet_at master tenure.tablet) tenure.term) (transfer master tenure (tablet_at master tenure.tablet))
+  again_stays _ = stays_quiet master (changed master) refl
 
-  from_client : (client : ℕ) (body : Body) → IsLate master body → Stays master (client_message master client body)
-  from_client client (bodies.Request request) late = absurd late
-  from_client client _ late = stays_quiet master (changed master) refl
+  unwanted : (tenure : Tenure) (role : Role) (term : ℕ) → (is_wanting role && (term == tenure.term)) ≡ false
+      → ready_again master tenure role term ≡ changed master
+  unwanted tenure (roles.Wanting from) term other = otherwise _ _ (changed master) other
+  unwanted tenure _ term other = refl
 
-  from_backup : (backup : ℕ) (body : Body) → IsLate master body → Stays master (backup_message master backup body)
-  from_backup backup (bodies.Stored stored) late = absurd late
-  from_backup backup (bodies.Copy copy) late = stays_quiet master (copy_taken master copy) (copy_late copy late)
-  from_backup backup _ late = stays_quiet master (changed master) refl
+  again_quiet : (body : Body) → says_again master body ≡ false → again body ≡ changed master
+  again_quiet (bodies.Prepare prepare) untold =
+      unwanted prepare.tenure (tablet_at master prepare.tenure.tablet).handover.role (kept_term master prepare.tenure.tablet) untold
+  again_quiet (bodies.Close tenure) untold = otherwise _ _ (changed master) untold
+  again_quiet _ untold = refl
 
-  from_peer : (sender : Node) (body : Body) → IsLate master body → Stays master (peer_message master sender body)
-  from_peer sender (bodies.Pull pull) late = stays_quiet master (pull_taken master sender pull) (pull_late sender pull late)
-  from_peer sender (bodies.Pulled pulled) late = stays_quiet master (pulled_taken master pulled) (pulled_late pulled late)
-  from_peer sender (bodies.Want want) late = stays_quiet master (want_taken master sender want) (want_late sender want late)
-  from_peer sender (bodies.Got message) late = stays_quiet master (got_taken master message) (got_late message late)
-  from_peer sender _ late = stays_quiet master (changed master) refl
+  -- what comes late
+  late_order : (body : Body) → IsLate master body → order master body ≡ again body
+  late_order (bodies.Prepare prepare) late = prepare_late prepare late
+  late_order (bodies.Close tenure) late = close_late tenure late
+  late_order (bodies.Grant grant) late = grant_late grant late
+  late_order (bodies.Own tenure) late = own_late tenure late
+  late_order (bodies.Release tenure) late = release_late tenure late
+  late_order (bodies.Rebuild rebuild) late = rebuild_late rebuild late
+  late_order _ late = refl
 
-  from_coordinator : (body : Body) → IsLate master body → Stays master (order master body)
-  from_coordinator (bodies.Prepare prepare) late = prepare_stays prepare late
-  from_coordinator (bodies.Close tenure) late = close_stays tenure late
-  from_coordinator (bodies.Grant grant) late = stays_quiet master (grant_taken master grant) (grant_late grant late)
-  from_coordinator (bodies.Own tenure) late = stays_quiet master (own_taken master tenure) (own_late tenure late)
-  from_coordinator (bodies.Release tenure) late = stays_quiet master (release_taken master tenure) (release_late tenure late)
-  from_coordinator (bodies.Rebuild rebuild) late = stays_quiet master (rebuild_taken master rebuild) (rebuild_late rebuild late)
-  from_coordinator _ late = stays_quiet master (changed master) refl
+  late_of_client : (client : ℕ) (body : Body) → IsLate master body → client_message master client body ≡ changed master
+  late_of_client client (bodies.Request request) late = absurd late
+  late_of_client client _ late = refl
 
-  pub late_stays : (sender : Node) (body : Body) → IsLate master body → Stays master (told_master master sender body)
-  late_stays (nodes.Client client) body late = from_client client body late
-  late_stays nodes.Coordinator body late = from_coordinator body late
-  late_stays (nodes.Master other) body late = from_peer (nodes.Master other) body late
-  late_stays (nodes.Backup backup) body late = from_backup backup body late
+  late_of_backup : (backup : ℕ) (body : Body) → IsLate master body → backup_message master backup body ≡ changed master
+  late_of_backup backup (bodies.Stored stored) late = absurd late
+  late_of_backup backup (bodies.Copy copy) late = copy_late copy late
+  late_of_backup backup _ late = refl
+
+  late_of_peer : (sender : Node) (body : Body) → IsLate master body → peer_message master sender body ≡ changed master
+  late_of_peer sender (bodies.Pull pull) late = pull_late sender pull late
+  late_of_peer sender (bodies.Pulled pulled) late = pulled_late pulled late
+  late_of_peer sender (bodies.Want want) late = want_late sender want late
+  late_of_peer sender (bodies.Got message) late = got_late message late
+  late_of_peer sender _ late = refl
+
+  -- what asks for a move that is not made
+  abbrev Unmoved : Body → Type 0
+  Unmoved body = DoesNotMove master (move_asked master body)
+
+  unmoved_order : (body : Body) → Unmoved body → order master body ≡ again body
+  unmoved_order (bodies.Close tenure) none = close_passed tenure none
+  unmoved_order (bodies.Grant grant) none = ap (granting master grant) none
+  unmoved_order (bodies.Own tenure) none = ap (owning master tenure.tablet) none
+  unmoved_order (bodies.Release tenure) none = ap (releasing master tenure.tablet) none
+  unmoved_order _ none = absurd none
+
+  unmoved_of_client : (client : ℕ) (body : Body) → Unmoved body → client_message master client body ≡ changed master
+  unmoved_of_client client (bodies.Request request) none = absurd none
+  unmoved_of_client client _ none = refl
+
+  unmoved_of_backup : (backup : ℕ) (body : Body) → Unmoved body → backup_message master backup body ≡ changed master
+  unmoved_of_backup backup (bodies.Stored stored) none = absurd none
+  unmoved_of_backup backup (bodies.Copy copy) none = absurd none
+  unmoved_of_backup backup _ none = refl
+
+  unmoved_of_peer : (sender : Node) (body : Body) → Unmoved body → peer_message master sender body ≡ changed master
+  unmoved_of_peer sender (bodies.Pull pull) none = absurd none
+  unmoved_of_peer sender (bodies.Pulled pulled) none = absurd none
+  unmoved_of_peer sender (bodies.Want want) none = absurd none
+  unmoved_of_peer sender (bodies.Got message) none = absurd none
+  unmoved_of_peer sender _ none = refl
+
+  -- at most what was said is said again
+  abbrev AtMost : Node → Body → Type 0
+  AtMost sender body = (told_master master sender body ≡ changed master) ⊎ (told_master master sender body ≡ again body)
+
+  late_at_most : (sender : Node) (body : Body) → IsLate master body → AtMost sender body
+  late_at_most (nodes.Client client) body late = inl (late_of_client client body late)
+  late_at_most nodes.Coordinator body late = inr (late_order body late)
+  late_at_most (nodes.Master other) body late = inl (late_of_peer (nodes.Master other) body late)
+  late_at_most (nodes.Backup backup) body late = inl (late_of_backup backup body late)
+
+  unmoved_at_most : (sender : Node) (body : Body) → Unmoved body → AtMost sender body
+  unmoved_at_most (nodes.Client client) body none = inl (unmoved_of_client client body none)
+  unmoved_at_most nodes.Coordinator body none = inr (unmoved_order body none)
+  unmoved_at_most (nodes.Master other) body none = inl (unmoved_of_peer (nodes.Master other) body none)
+  unmoved_at_most (nodes.Backup backup) body none = inl (unmoved_of_backup backup body none)
+
+  at_most : (sender : Node) (body : Body) → IsPassedOver master body → AtMost sender body
+  at_most sender body passed =
+      ⊎_elim (λ (late : IsLate master body). late_at_most sender body late) (λ (none : Unmoved body). unmoved_at_most sender body none) passed
+
+  pub passed_stays : (sender : Node) (body : Body) → IsPassedOver master body → Stays master (told_master master sender body)
+  passed_stays sender body passed =
+      ⊎_elim
+      (λ (quiet : told_master master sender body ≡ changed master). stays_quiet master (told_master master sender body) quiet)
+      (λ (said : told_master master sender body ≡ again body). subst (Stays master) (sym said) (again_stays body))
+      (at_most sender body passed)
+
+  pub passed_quiet : (sender : Node) (body : Body) → IsPassedOver master body → says_again master body ≡ false
+      → told_master master sender body ≡ changed master
+  passed_quiet sender body passed untold =
+      ⊎_elim
+      (λ (quiet : told_master master sender body ≡ changed master). quiet)
+      (λ (said : told_master master sender body ≡ again body). said ∙ again_quiet body untold)
+      (at_most sender body passed)
 
   -- ---- messages of a smaller term
 

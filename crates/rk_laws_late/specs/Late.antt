@@ -1,17 +1,20 @@
 -- Messages that come too late: of another term than what their receiver has of the tablet.
-use Rattle.std.specs.Prelude.{◌≡◌, ◌≤◌, ◌<◌, ◌⊎◌, ◌==◌, ℕ, Bool, true, false, Option, Some, None, Contains}
+use Rattle.std.specs.Prelude.{◌≡◌, ◌≤◌, ◌<◌, ◌⊎◌, ◌==◌, ◌&&◌, ℕ, Bool, true, false, Option, Some, None, Contains}
 use Rattle.rk_types.specs.Range.{meets}
 use Rattle.rk_types.specs.declared.range.Range.{Range}
 use Rattle.rk_tablet_map.specs.Rows.{row_of}
 use Rattle.rk_tablet_map.specs.declared.phase.Phase.{Phase}
 use Rattle.rk_tablet_map.specs.declared.phase.Phase.TheVariants.{Owned, Opening, Moving, Rebuilding}
 use Rattle.rk_tablet_map.specs.declared.row.Row.{Row}
+use Rattle.rk_transfer.specs.Handover.{Move, Close, Grant, Own, Release, moved}
 use Rattle.rk_message.specs.declared.handover.Tenure.{Tenure}
 use Rattle.rk_message.specs.declared.message.Body.{Body}
 use Rattle.rk_message.specs.declared.message.Body.TheVariants as bodies
+use Rattle.rk_sound.specs.Handing.{is_wanting}
 use Rattle.rk_sound.specs.Terms.{tenure_in}
 use Rattle.rk_world.specs.Coordinator.{Coordinator, is_noticed}
 use Rattle.rk_world.specs.Master.{Master, tablet_at}
+use Rattle.rk_world.specs.RoleTests.{is_frozen_at}
 use Rattle.rk_world.specs.Tablet.{Tablet}
 
 -- ---- at a master
@@ -61,6 +64,31 @@ IsLate master (bodies.Pulled pulled) = IsOfOtherTerm master pulled.tenure
 IsLate master (bodies.Want want) = IsOfOtherTerm master want.tenure
 IsLate master (bodies.Got message) = IsOfOtherTerm master message.tenure
 IsLate master _ = ⊥
+
+-- the tablet and the move that an order asks for of a role that stands; a Prepare and a Rebuild begin anew
+abbrev pub move_asked : Master → Body → Option (ℕ × Move)
+move_asked master (bodies.Close tenure) = Some (tenure.tablet, Close tenure.term)
+move_asked master (bodies.Grant grant) = Some (grant.tenure.tablet, Grant grant.tenure.term grant.floor)
+move_asked master (bodies.Own tenure) = Some (tenure.tablet, Own tenure.term master.applied)
+move_asked master (bodies.Release tenure) = Some (tenure.tablet, Release tenure.term)
+move_asked master _ = None
+
+-- a tablet does not make a move
+abbrev pub DoesNotMove : Master → Option (ℕ × Move) → Type 0
+DoesNotMove master None = ⊥
+DoesNotMove master (Some (tablet, move)) = moved (tablet_at master tablet).handover move ≡ None
+
+-- a master passes a message over: it comes late, or it asks for a move that the tablet does not make in its role at its term
+abbrev pub IsPassedOver : Master → Body → Type 0
+IsPassedOver master body = IsLate master body ⊎ DoesNotMove master (move_asked master body)
+
+-- whether a master says again what it said when it followed an order: where it waits for its grant since that very Prepare, and where it
+-- is frozen since that very Close
+abbrev pub says_again : Master → Body → Bool
+says_again master (bodies.Prepare prepare) =
+    is_wanting (tablet_at master prepare.tenure.tablet).handover.role && (kept_term master prepare.tenure.tablet == prepare.tenure.term)
+says_again master (bodies.Close tenure) = is_frozen_at (tablet_at master tenure.tablet) tenure.term
+says_again master _ = false
 
 -- ---- at the coordinator
 

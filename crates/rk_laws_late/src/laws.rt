@@ -5,7 +5,6 @@ ghost use Rattle.rk_types.specs.declared.call.Answer.TheVariants as answers;
 ghost use Rattle.rk_types.specs.declared.call.Call.{Call};
 ghost use Rattle.rk_types.specs.declared.node.Node.TheVariants as nodes;
 ghost use Rattle.rk_tablet_map.specs.Rows.{row_of};
-ghost use Rattle.rk_tablet_map.specs.declared.phase.Phase.TheVariants.{Owned};
 ghost use Rattle.rk_tablet_map.specs.declared.row.Row.{Row};
 ghost use Rattle.rk_transfer.specs.declared.role.Role.TheVariants as roles;
 ghost use Rattle.rk_message.specs.Wire.{with_message};
@@ -28,29 +27,30 @@ ghost use Rattle.rk_world.specs.Step.{happened};
 ghost use Rattle.rk_world.specs.World.{World, has_crashed, master_at, tablet_in};
 ghost use Rattle.rk_world.specs.declared.choice.Choice.TheVariants.{Redirects, Wants};
 ghost use Rattle.rk_world.specs.declared.event.Event.TheVariants as events;
-ghost use Rattle.rk_laws_late.specs.Late.{IsLate, IsLateReport, IsOlder, is_told_again, is_waited_for};
+ghost use Rattle.rk_laws_late.specs.Late.{IsLateReport, IsOlder, IsPassedOver, is_told_again, is_waited_for, says_again};
 ghost use Rattle.rk_laws_late.specs.Refused.{IsPutOff};
 ghost use Rattle.rk_laws_late.specs.Sent.{IsMade, IsToldToOwn, order_to, report_of};
 ghost use Rattle.rk_laws_late.specs.Unchanged.{IsUnchanged, IsUntouched};
 
-/// Whatever lane it is: an order, a report or a pull of an older term, whenever it comes, changes no role, no table and no row.
+/// Whatever lane it is: an order, a pull or a report of an older term, whenever it comes, changes no role, no table and no row.
 ///
-/// A message to a master of a smaller term than the master keeps for the tablet does nothing at all (`older`). One that comes late, at the
-/// term that is kept too where it would begin something anew, changes nothing (`late`); at that very term a target that waits for its grant
-/// tells again that it is ready (`ready_again`), and a source that is frozen hands its tablet over again (`handed_again`).
-///
-/// A report about a tablet without a row or of another term than the row's, or of a master that was noticed dead, does nothing at all
-/// (`late_report`). One at the row's term that the row does not wait for does nothing either (`unawaited`), but that the owner is told again
-/// that it owns the tablet, where it says that it has ended its work (`told_again`).
-pub fn late_messages_change_nothing()
+/// A message to a master of a smaller term than the master keeps for the tablet does nothing at all (`older`). One that the master passes
+/// over, since it comes late or asks for a move that the tablet does not make, changes nothing (`passed_over`), and but for two cases sends
+/// nothing (`silent`): a target that waits for its grant since that very Prepare tells again that it is ready (`ready_again`), and a source
+/// that is frozen since that very Close hands its tablet over again (`handed_again`).
+pub fn late_orders_change_nothing()
     ensures older { (w : World) (number master : ℕ) (message : Message) (called : Called)
         → get w.wire.messages number ≡ Some message → message.to ≡ nodes.Master master
         → IsOlder (master_at w master) message.body
         → IsUntouched w (happened w (events.Deliver number) called).world }
-    ensures late { (w : World) (number master : ℕ) (message : Message) (called : Called)
+    ensures passed_over { (w : World) (number master : ℕ) (message : Message) (called : Called)
         → get w.wire.messages number ≡ Some message → message.to ≡ nodes.Master master
-        → IsLate (master_at w master) message.body
+        → IsPassedOver (master_at w master) message.body
         → IsUnchanged w (happened w (events.Deliver number) called).world }
+    ensures silent { (w : World) (number master : ℕ) (message : Message) (called : Called)
+        → get w.wire.messages number ≡ Some message → message.to ≡ nodes.Master master
+        → IsPassedOver (master_at w master) message.body → says_again (master_at w master) message.body ≡ false
+        → IsUntouched w (happened w (events.Deliver number) called).world }
     ensures ready_again { (w : World) (number master : ℕ) (prepare : Prepare) (from : ℕ) (called : Called)
         → get w.wire.messages number ≡ Some (order_to master (bodies.Prepare prepare)) → has_crashed w master ≡ false
         → (tablet_in w master prepare.tenure.tablet).handover.term ≡ prepare.tenure.term
@@ -63,7 +63,13 @@ pub fn late_messages_change_nothing()
         → (tablet_in w master tenure.tablet).handover.role ≡ roles.Frozen
         → (happened w (events.Deliver number) called).world.wire
         ≡ with_message (transfer (master_at w master) tenure (tablet_in w master tenure.tablet)) w.wire }
-    ensures late_report { (w : World) (number sender : ℕ) (body : Body) (tenure : Tenure) (called : Called)
+{}
+
+/// A report about a tablet without a row or of another term than the row's, or of a master that was noticed dead, does nothing at all
+/// (`late`): the coordinator, the journal and the wire stay as they are. One that the row does not wait for does nothing either
+/// (`unawaited`), but that the owner is told again that it owns the tablet where it reports that it has ended its work (`told_again`).
+pub fn late_reports_change_nothing()
+    ensures late { (w : World) (number sender : ℕ) (body : Body) (tenure : Tenure) (called : Called)
         → get w.wire.messages number ≡ Some (report_of sender body) → tenure_in body ≡ Some tenure
         → IsLateReport w.coordinator sender tenure
         → IsUntouched w (happened w (events.Deliver number) called).world }

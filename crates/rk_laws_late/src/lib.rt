@@ -5,6 +5,6 @@
 //! no soundness. It has no code: its headline laws are contracts of functions that do nothing.
 #![tactic(auto)]
 
-pub use laws::{late_messages_change_nothing, refusals_are_justified};
+pub use laws::{late_orders_change_nothing, late_reports_change_nothing, refusals_are_justified};
 
 mod laws;

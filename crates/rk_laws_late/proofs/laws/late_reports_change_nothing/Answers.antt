@@ -1,13 +1,9 @@
-use Rattle.rk_laws_late.proofs.Lanes.{late_changes_nothing, late_report_changes_nothing, older_changes_nothing, owner_told_again, ready_again_sent, transfer_sent, unawaited_changes_nothing}
-use Rattle.rk_laws_late.proofs.laws.late_messages_change_nothing.Goals as goal
+use Rattle.rk_laws_late.proofs.Lanes.{late_report_changes_nothing, owner_told_again, unawaited_changes_nothing}
+use Rattle.rk_laws_late.proofs.laws.late_reports_change_nothing.Goals as goal
 
 pub returns : goal.returns
 returns c = record {
-  older = older_changes_nothing;
-  late = late_changes_nothing;
-  ready_again = ready_again_sent;
-  handed_again = transfer_sent;
-  late_report = λ w number sender body tenure called there speaks late.
+  late = λ w number sender body tenure called there speaks late.
       late_report_changes_nothing w number sender body tenure called there speaks late;
   unawaited = λ w number sender body tenure row called there speaks found other untold.
       unawaited_changes_nothing w number sender body tenure called there speaks row found other untold;
