@@ -43,7 +43,7 @@ with_same : (reply : Reply) (place : ℕ) (there : Option Placed) → (reply_wit
 with_same reply place None = refl
 with_same reply place (Some placed) = refl
 
-at_same : (journal : List Placed) (reply : Reply) (place : Option ℕ) → (reply_at journal reply place).answer ≡ reply.answer
+pub at_same : (journal : List Placed) (reply : Reply) (place : Option ℕ) → (reply_at journal reply place).answer ≡ reply.answer
 at_same journal reply None = refl
 at_same journal reply (Some place) = with_same reply place (slice_get journal place)
 

@@ -4,3 +4,5 @@ pub mod Reports
 pub mod Lanes
 pub mod Refusals
 pub mod Answered
+pub mod Plain
+pub mod Sources

@@ -1,5 +1,5 @@
 // The headline laws of what comes late and of what is refused. The functions do nothing: their contracts are the laws.
-ghost use Rattle.std.specs.Prelude.{◌≡◌, ℕ, List, true, false, Some};
+ghost use Rattle.std.specs.Prelude.{◌≡◌, ℕ, List, true, false, None, Some};
 ghost use Rattle.rk_types.specs.NumberMap.{get, IsInOrder};
 ghost use Rattle.rk_types.specs.declared.call.Answer.TheVariants as answers;
 ghost use Rattle.rk_types.specs.declared.call.Call.{Call};
@@ -16,6 +16,7 @@ ghost use Rattle.rk_message.specs.declared.message.Body.{Body};
 ghost use Rattle.rk_message.specs.declared.message.Body.TheVariants as bodies;
 ghost use Rattle.rk_message.specs.declared.message.Message.{Message};
 ghost use Rattle.rk_sound.specs.Terms.{tenure_in};
+ghost use Rattle.rk_sound.specs.Whole.{IsSound};
 ghost use Rattle.rk_world.specs.Backup.{Called};
 ghost use Rattle.rk_world.specs.Coordinator.{is_noticed};
 ghost use Rattle.rk_world.specs.Formed.{IsWellFormed};
@@ -26,9 +27,10 @@ ghost use Rattle.rk_world.specs.Requests.{call_of, choice_of};
 ghost use Rattle.rk_world.specs.Step.{happened};
 ghost use Rattle.rk_world.specs.World.{World, has_crashed, master_at, tablet_in};
 ghost use Rattle.rk_world.specs.declared.choice.Choice.TheVariants.{Redirects, Wants};
+ghost use Rattle.rk_world.specs.declared.event.Event.{Event};
 ghost use Rattle.rk_world.specs.declared.event.Event.TheVariants as events;
 ghost use Rattle.rk_laws_late.specs.Late.{IsLateReport, IsOlder, IsPassedOver, is_told_again, is_waited_for, says_again};
-ghost use Rattle.rk_laws_late.specs.Refused.{IsPutOff};
+ghost use Rattle.rk_laws_late.specs.Refused.{HasPlainRequests, IsPutOff, WasRefused};
 ghost use Rattle.rk_laws_late.specs.Sent.{IsMade, IsToldToOwn, order_to, report_of};
 ghost use Rattle.rk_laws_late.specs.Unchanged.{IsUnchanged, IsUntouched};
 
@@ -102,4 +104,20 @@ pub fn refusals_are_justified()
         → IsMade w number new master client request message called
         → message.body ≡ bodies.Reply reply → reply.answer ≡ answers.NotYet key
         → IsPutOff (master_at w master) (call_of client request) }
+{}
+
+/// Whatever happens in a lane, each Moved or NotYet that comes on the wire by it is the answer to a Request that was delivered just then to a
+/// master that may answer so (`moved`, `not_yet`). The lane has no refusal among the requests that its clients may send again; a sound lane
+/// has none (`sound`).
+pub fn each_refusal_is_justified()
+    ensures moved { (w : World) (event : Event) (new tablet : ℕ) (message : Message) (reply : Reply) (called : Called)
+        → HasPlainRequests w → get w.wire.messages new ≡ None → get (happened w event called).world.wire.messages new ≡ Some message
+        → message.body ≡ bodies.Reply reply → reply.answer ≡ answers.Moved tablet
+        → WasRefused w event MayAnswerMoved }
+    ensures not_yet { (w : World) (event : Event) (new : ℕ) (message : Message) (reply : Reply) (key : List ℕ) (called : Called)
+        → HasPlainRequests w → IsWellFormed w
+        → get w.wire.messages new ≡ None → get (happened w event called).world.wire.messages new ≡ Some message
+        → message.body ≡ bodies.Reply reply → reply.answer ≡ answers.NotYet key
+        → WasRefused w event IsPutOff }
+    ensures sound { (w : World) → IsSound w → HasPlainRequests w }
 {}
