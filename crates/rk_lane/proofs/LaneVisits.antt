@@ -1,12 +1,13 @@
 -- A visit to the parts of a lane is one to the lane.
 use Rattle.std.proofs.Common.{◌≡◌, ℕ, Bool, false, cond, length, None, Some, refl, sym, ap, ◌∙◌}
-use Rattle.std.specs.Prelude.{Ok, Result}
+use Rattle.std.specs.Prelude.{Err, IfOk, Ok, OnErr, Result}
 use Rattle.rk_world.specs.Calls.{Visited}
 use Rattle.rk_world.specs.Client.{Session}
 use Rattle.rk_world.specs.World.{World}
 use Rattle.rk_world.specs.declared.error.StepError.{StepError}
 use Rattle.rk_world.specs.declared.event.Seen.{Seen}
 use Rattle.rk_lane.specs.Lane.{lane_of}
+use Rattle.rk_lane.specs.LaneState.{IsSameLane}
 use Rattle.rk_lane.specs.Parts.{running_of, world_of}
 use Rattle.rk_lane.specs.Visits.{IsVisitOf, IsVisited}
 use Rattle.rk_lane.specs.declared.lane.Lane.TheInside.{Inside}
@@ -26,3 +27,11 @@ visit_in_lane visit lane parts session seen live count visited = record {
       ∙ ap (λ (backups : ℕ). Ok (record { world = record (world_of parts stored) { backup_count = backups }; session = session; seen = seen }))
       (visited.lane.backups ∙ sym count);
 }
+
+-- it is one lane still, where the visit was refused too
+pub same_by_visit : {R : Type 0} (visit : World → Result Visited StepError) (lane : Inside R) (parts : Parts) (session : Session) (answer : Result Seen StepError)
+    → IfOk answer (IsVisited visit lane.parts parts session) → OnErr answer (parts ≡ lane.parts) → IsSameLane (lane_of lane) (lane_of (record lane { parts = parts }))
+same_by_visit visit lane parts session (Ok seen) visited same =
+    record { number = visited.lane.number; masters = visited.lane.masters; backups = refl }
+same_by_visit visit lane parts session (Err error) visited same =
+    record { number = ap (λ (p : Parts). p.number) same; masters = ap (λ (p : Parts). length p.masters.items) same; backups = refl }

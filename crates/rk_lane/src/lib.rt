@@ -24,6 +24,8 @@ mod seen;
 mod sends;
 mod short;
 mod splits;
+#[cfg(test)]
+mod tests;
 mod turns;
 mod visiting;
 mod working;

@@ -3,7 +3,7 @@ ghost use Rattle.std.specs.Prelude.{◌≡◌, ◌≢◌, [], None, Err, IfOk, I
 ghost use Rattle.rk_types.specs.NumberMap.{get};
 ghost use Rattle.rk_world.specs.Calls as calls;
 ghost use Rattle.rk_world.specs.Refusals.{accept_refusal, ask_refusal};
-ghost use Rattle.rk_lane.specs.LaneState.{world_with};
+ghost use Rattle.rk_lane.specs.LaneState.{IsSameLane, world_with};
 ghost use Rattle.rk_lane.specs.Visits.{IsRefusedFor, IsVisitOf, MayActIn, MayHaveTurned};
 
 use crate::lane::Lane;
@@ -21,10 +21,11 @@ impl<R: Replica + Drop> Lane<R> {
         requires { MayActIn self.old session.old }
         ensures ok { IfOk result (λ seen. IsVisitOf (λ w. calls.ask w session.old) self.old self.new session.new seen) }
         ensures refused { IfErr result (λ e. e ≢ StepError.NoMemory → IsRefusedFor (λ w. ask_refusal w session.old) self.old e) }
-        ensures lane { OnErr result (self.new ≡ self.old) }
+        ensures kept { OnErr result (self.new ≡ self.old) }
         ensures session { IfErr result (λ e. e ≢ StepError.NoMemory → session.new ≡ session.old) }
         ensures turned { OnErr result (MayHaveTurned session.old session.new) }
         ensures acts { MayActIn self.new session.new }
+        ensures lane { IsSameLane self.old self.new }
         ensures spent { self.old.running ≡ None → result ≡ Err StepError.NoMemory }
     {
         if self.spent {
@@ -41,9 +42,10 @@ impl<R: Replica + Drop> Lane<R> {
         ensures ok { IfOk result (λ seen. IsVisitOf (λ w. calls.accept w number session.old) self.old self.new session.new seen) }
         ensures refused { IfErr result (λ e. e ≢ StepError.NoMemory
             → IsRefusedFor (λ w. accept_refusal w number session.old.client (get w.wire.messages number)) self.old e) }
-        ensures lane { OnErr result (self.new ≡ self.old) }
+        ensures kept { OnErr result (self.new ≡ self.old) }
         ensures session { OnErr result (session.new ≡ session.old) }
         ensures acts { MayActIn self.new session.new }
+        ensures lane { IsSameLane self.old self.new }
         ensures spent { self.old.running ≡ None → result ≡ Err StepError.NoMemory }
     {
         if self.spent {

@@ -3,10 +3,10 @@ use Rattle.std.proofs.lemmas.Result.{IfOk-weaker}
 use Rattle.rk_world.specs.Calls as calls
 use Rattle.rk_world.specs.Premises.{MayAct}
 use Rattle.rk_lane.specs.Lane.{lane_of}
-use Rattle.rk_lane.specs.LaneState.{LaneState}
+use Rattle.rk_lane.specs.LaneState.{IsSameLane, LaneState}
 use Rattle.rk_lane.specs.Visits.{IsVisitOf}
 use Rattle.rk_lane.proofs.Acting.{acts_there, acts_by_answer}
-use Rattle.rk_lane.proofs.LaneVisits.{visit_in_lane}
+use Rattle.rk_lane.proofs.LaneVisits.{same_by_visit, visit_in_lane}
 use Rattle.rk_lane.proofs.lane.Lane.accept.Goals as goal
 
 pub accept-requires-clause-may : goal.accept-requires-clause-may
@@ -28,3 +28,8 @@ returns-clause-ok g c =
     c.self.view_is
     (visit_in_lane (λ w. calls.accept w c.args.number c.args.session.now) c.self.inside c.accept.new.parts c.accept.new.session seen c.if-self.false c.self.invariant.count visited))
     c.accept.ensures.ok
+
+pub returns-clause-lane : goal.returns-clause-lane
+returns-clause-lane g c =
+    subst (λ lane. IsSameLane lane (lane_of (record c.self.inside { parts = c.accept.new.parts }))) c.self.view_is
+    (same_by_visit (λ w. calls.accept w c.args.number c.args.session.now) c.self.inside c.accept.new.parts c.accept.new.session c.accept.result c.accept.ensures.ok c.accept.ensures.parts)

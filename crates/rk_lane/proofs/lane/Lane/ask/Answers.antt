@@ -3,10 +3,10 @@ use Rattle.std.proofs.lemmas.Result.{IfOk-weaker}
 use Rattle.rk_world.specs.Calls as calls
 use Rattle.rk_world.specs.Premises.{MayAct}
 use Rattle.rk_lane.specs.Lane.{lane_of}
-use Rattle.rk_lane.specs.LaneState.{LaneState}
+use Rattle.rk_lane.specs.LaneState.{IsSameLane, LaneState}
 use Rattle.rk_lane.specs.Visits.{IsVisitOf}
 use Rattle.rk_lane.proofs.Acting.{acts_there, acts_by_turn}
-use Rattle.rk_lane.proofs.LaneVisits.{visit_in_lane}
+use Rattle.rk_lane.proofs.LaneVisits.{same_by_visit, visit_in_lane}
 use Rattle.rk_lane.proofs.lane.Lane.ask.Goals as goal
 
 pub ask-requires-clause-may : goal.ask-requires-clause-may
@@ -28,3 +28,8 @@ returns-clause-ok g c =
     c.self.view_is
     (visit_in_lane (λ w. calls.ask w c.args.session.now) c.self.inside c.ask.new.parts c.ask.new.session seen c.if-self.false c.self.invariant.count visited))
     c.ask.ensures.ok
+
+pub returns-clause-lane : goal.returns-clause-lane
+returns-clause-lane g c =
+    subst (λ lane. IsSameLane lane (lane_of (record c.self.inside { parts = c.ask.new.parts }))) c.self.view_is
+    (same_by_visit (λ w. calls.ask w c.args.session.now) c.self.inside c.ask.new.parts c.ask.new.session c.ask.result c.ask.ensures.ok c.ask.ensures.parts)
