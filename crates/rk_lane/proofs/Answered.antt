@@ -122,7 +122,7 @@ within_segment : (number master : ℕ) (append : Append) (after : ℕ) (message 
     → after ≤ SEGMENT_BYTES
 within_segment number master append after message is within =
     let sends = ap (λ (b : Backed). b.sends) is in
-    let same : (record { from = nodes.Backup number; to = nodes.Master master; body = bodies.Stored (record { segment = append.segment; length = after }) }) ≡ message = cc sends in
+    let same : (record { from = nodes.Backup number; to = nodes.Master master; body = bodies.Stored (record { segment = append.segment; length = after }) }) ≡ message = cc in
     subst IsWithinSegment (sym (ap (λ (m : Message). m.body) same)) within
 
 module _ {R : Type 0} (segments : R → Option Segments) (faults : R → ℕ) (old new : BackupLane R) (master : ℕ) (append : Append) (before after : ℕ) (log : ℕ → ℕ → List ℕ)

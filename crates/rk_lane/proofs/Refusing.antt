@@ -13,8 +13,3 @@ refused_fresh w event fresh = go (comes_anyway event)
     go : (anyway : Bool) → cond anyway (fault_of w event) (option_or (option_map errors.Worn (worn w)) (fault_of w event)) ≡ fault_of w event
     go true = refl
     go false = ap (λ (o : Option ℕ). option_or (option_map errors.Worn o) (fault_of w event)) fresh
-
--- and where an event comes anyway it does so too
-pub refused_anyway : (w : World) (event : Event) → comes_anyway event ≡ true → refusal w event ≡ fault_of w event
-refused_anyway w event anyway =
-    ap (λ (b : Bool). cond b (fault_of w event) (option_or (option_map errors.Worn (worn w)) (fault_of w event))) anyway
