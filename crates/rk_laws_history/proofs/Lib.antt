@@ -10,3 +10,4 @@ pub mod Occurring
 pub mod Histories
 pub mod Staying
 pub mod Runs
+pub mod Finishing

@@ -2,8 +2,15 @@
 use Rattle.std.specs.Prelude.{◌≡◌, ◌<◌, ℕ, true, List, [], ◌∷◌, length, Some, slice_get, ⊤}
 use Rattle.rk_types.specs.declared.history.Placed.{Placed}
 use Rattle.rk_types.specs.declared.history.Receipt.{Receipt}
+use Rattle.rk_types.specs.declared.lineage.Member.{Member}
+use Rattle.rk_tablet_map.specs.declared.row.Row.{Row}
 use Rattle.rk_world.specs.Cluster.{Cluster, ClusterMay, KeepsCalm, Occurrence, Happens, cluster_after, lane_at}
+use Rattle.rk_world.specs.Finished.{Finishes}
 use Rattle.rk_world.specs.Room.{HasRoom}
+use Rattle.rk_world.specs.Step.{Stepped}
+use Rattle.rk_world.specs.World.{World}
+use Rattle.rk_world.specs.declared.event.Event.{Event}
+use Rattle.rk_world.specs.declared.event.Event.TheVariants as events
 use Rattle.rk_laws_steps.specs.Steps.{IsTold}
 
 -- an event comes with what replicas that tell their segments answer, one of which may fail
@@ -47,3 +54,9 @@ abbrev pub IsKeptIn : Cluster → Receipt → Type 0
 IsKeptIn cluster receipt =
     slice_get (lane_at cluster receipt.lane).ledger.journal receipt.place
     ≡ Some (record { call = receipt.call; outcome = receipt.outcome; stamp = receipt.stamp; accepted = true })
+
+-- an event finishes the migration of a row: it is the delivery of its target's Joined
+pub record IsFinishedBy (w : World) (event : Event) (stepped : Stepped) (row : Row) (source target : Member) : Type 0 where
+  pub number : ℕ
+  pub event_is : event ≡ events.Deliver number
+  pub finishes : Finishes w number stepped row source target

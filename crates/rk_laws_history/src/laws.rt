@@ -1,16 +1,23 @@
 // The headline laws of histories. Each function does nothing: its contract is the law.
-ghost use Rattle.std.specs.Prelude.{◌≤◌, ◌<◌, ◌++◌, ℕ, All, List};
+ghost use Rattle.std.specs.Prelude.{◌≡◌, ◌≤◌, ◌<◌, ◌++◌, ℕ, All, List, Ok, Some};
 ghost use Rattle.rk_types.specs.declared.hashing.TheConstants.{LANES};
+ghost use Rattle.rk_types.specs.declared.lineage.Member.{Member};
+ghost use Rattle.rk_tablet_map.specs.Rows.{row_of};
+ghost use Rattle.rk_tablet_map.specs.declared.phase.Phase.TheVariants.{Moving, Owned};
+ghost use Rattle.rk_tablet_map.specs.declared.row.Row.{Row};
 ghost use Rattle.rk_log.specs.declared.copied.TheConstants.{MOST_BACKUPS};
+ghost use Rattle.rk_world.specs.Backup.{Called};
 ghost use Rattle.rk_world.specs.Base.{no_base};
 ghost use Rattle.rk_world.specs.Cluster.{Cluster, HasOneHistory, IsQuietCluster, Occurrence, cluster_run, lane_at, new_cluster, session_at};
 ghost use Rattle.rk_world.specs.Formed.{IsWellFormed};
 ghost use Rattle.rk_world.specs.Premises.{MOST_MASTERS};
 ghost use Rattle.rk_world.specs.Stands.{Stands};
+ghost use Rattle.rk_world.specs.Step.{Stepped, step};
+ghost use Rattle.rk_world.specs.declared.event.Event.{Event};
 ghost use Rattle.rk_sound.specs.Truth.{IsTruth};
 ghost use Rattle.rk_sound.specs.View.{truths, view};
 ghost use Rattle.rk_sound.specs.Whole.{IsSound};
-ghost use Rattle.rk_laws_history.specs.Runs.{IsKeptIn, IsRun, RecordsStay};
+ghost use Rattle.rk_laws_history.specs.Runs.{IsFinishedBy, IsKeptIn, IsRun, RecordsStay};
 
 /// In every run of a new cluster, whatever is sent, lost, repeated or delayed and whichever masters crash while another one lives, each lane
 /// is sound and well formed. So the journals of all lanes merge into one lawful history of one map that starts empty, and that history is
@@ -47,4 +54,18 @@ pub fn records_stay_for_ever()
         → masters ≤ MOST_MASTERS → 1 ≤ backups → backups ≤ MOST_BACKUPS → IsRun (new_cluster masters backups) before
         → All (IsKeptIn (cluster_run (new_cluster masters backups) (before ++ after)))
         (session_at (cluster_run (new_cluster masters backups) before) client).receipts }
+{}
+
+/// In every run of a new cluster a row that moves comes to be owned by one event alone, the delivery of its target's Joined; and what counts
+/// of the target alone has then the records of what counted of the source, overlaid by the target's own writes.
+pub fn moved_tablets_are_finished()
+    ensures { (masters backups lane : ℕ) (list : List Occurrence) (event : Event) (called : Called) (stepped : Stepped) (row now : Row)
+        (source target : Member) (owner from : ℕ)
+        → masters ≤ MOST_MASTERS → 1 ≤ backups → backups ≤ MOST_BACKUPS → IsRun (new_cluster masters backups) list → lane < LANES
+        → let w = lane_at (cluster_run (new_cluster masters backups) list) lane in
+        row_of w.coordinator.rows row.tablet ≡ Some row
+        → row.phase ≡ Moving source.master source.from target.master target.from
+        → step w event called ≡ Ok stepped
+        → row_of stepped.world.coordinator.rows row.tablet ≡ Some now → now.phase ≡ Owned owner from
+        → IsFinishedBy w event stepped row source target }
 {}

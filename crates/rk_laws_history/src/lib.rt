@@ -4,6 +4,6 @@
 //! It stands on the laws of events, joined in `rk_laws_steps`, and has no code: its headline laws are contracts of functions that do nothing.
 #![tactic(auto)]
 
-pub use laws::{clusters_have_one_history, records_stay_for_ever};
+pub use laws::{clusters_have_one_history, moved_tablets_are_finished, records_stay_for_ever};
 
 mod laws;
