@@ -1,0 +1,65 @@
+-- Worked examples: serve and settle answer a put, and advance brings a migration to its grant.
+use Rattle.std.specs.Prelude.{◌≡◌, [], ◌∷◌, length, refl, replicate, true}
+use Rattle.rk_types.specs.Hashing.{hash_of}
+use Rattle.rk_types.specs.Held.{spelled_of}
+use Rattle.rk_types.specs.declared.call.Outcome.TheVariants.{Written}
+use Rattle.rk_types.specs.declared.node.Said.TheVariants as says
+use Rattle.rk_transfer.specs.declared.role.Role.TheVariants as roles
+use Rattle.rk_tablet_map.specs.declared.phase.Phase.TheVariants.{Moving}
+use Rattle.rk_entry.specs.Ends.{range_bytes, outcome_bytes, end_bytes}
+use Rattle.rk_entry.specs.Entries.{spelled_all}
+use Rattle.rk_entry.specs.Lists.{ends_bytes, segments_bytes}
+use Rattle.rk_entry.specs.Numbers.{number_bytes}
+use Rattle.rk_entry.specs.Spelling.{head_bytes, held_bytes, refused_bytes, carried_bytes, joined_bytes, body_length, front_bytes, spelled, mark_of}
+use Rattle.rk_entry.specs.Texts.{key_bytes, value_bytes}
+use Rattle.rk_settle.specs.Advance.{advance}
+use Rattle.rk_settle.specs.declared.reach.Reach.TheVariants.{Granted}
+use Rattle.rk_settle.specs.Rest.{is_at_rest}
+use Rattle.rk_settle.specs.Serve.{serve}
+use Rattle.rk_settle.specs.Settle.{settle}
+use Rattle.rk_settle.proofs.Scene.{calling, course_after, migrating, phases_of, roles_at}
+
+-- serve brings a put to its end
+served_ends : (course_after 60 calling (serve calling 1)).tasks ≡ []
+unfolding hash_of spelled_of spelled_all spelled front_bytes body_length head_bytes held_bytes refused_bytes carried_bytes joined_bytes mark_of number_bytes key_bytes value_bytes range_bytes outcome_bytes end_bytes ends_bytes segments_bytes
+served_ends = refl
+
+-- the client says the answer
+served_says : (course_after 60 calling (serve calling 1)).said ≡ says.Reply 1 1 (Written 1) ∷ []
+unfolding hash_of spelled_of spelled_all spelled front_bytes body_length head_bytes held_bytes refused_bytes carried_bytes joined_bytes mark_of number_bytes key_bytes value_bytes range_bytes outcome_bytes end_bytes ends_bytes segments_bytes
+served_says = refl
+
+-- it took nineteen occurrences
+served_occurred : length (course_after 60 calling (serve calling 1)).occurred ≡ 19
+unfolding hash_of spelled_of spelled_all spelled front_bytes body_length head_bytes held_bytes refused_bytes carried_bytes joined_bytes mark_of number_bytes key_bytes value_bytes range_bytes outcome_bytes end_bytes ends_bytes segments_bytes
+served_occurred = refl
+
+-- settle comes to its end
+settled_ends : (course_after 220 calling (settle calling)).tasks ≡ []
+unfolding hash_of spelled_of spelled_all spelled front_bytes body_length head_bytes held_bytes refused_bytes carried_bytes joined_bytes mark_of number_bytes key_bytes value_bytes range_bytes outcome_bytes end_bytes ends_bytes segments_bytes
+settled_ends = refl
+
+-- the client says the answer
+settled_says : (course_after 220 calling (settle calling)).said ≡ says.Reply 1 1 (Written 1) ∷ []
+unfolding hash_of spelled_of spelled_all spelled front_bytes body_length head_bytes held_bytes refused_bytes carried_bytes joined_bytes mark_of number_bytes key_bytes value_bytes range_bytes outcome_bytes end_bytes ends_bytes segments_bytes
+settled_says = refl
+
+-- the cluster is at rest
+settled_rests : is_at_rest (course_after 220 calling (settle calling)).cluster ≡ true
+unfolding hash_of spelled_of spelled_all spelled front_bytes body_length head_bytes held_bytes refused_bytes carried_bytes joined_bytes mark_of number_bytes key_bytes value_bytes range_bytes outcome_bytes end_bytes ends_bytes segments_bytes
+settled_rests = refl
+
+-- advance brings the migration to its grant, in all lanes
+granted_ends : (course_after 500 migrating (advance migrating 1 Granted)).tasks ≡ []
+unfolding hash_of spelled_of spelled_all spelled front_bytes body_length head_bytes held_bytes refused_bytes carried_bytes joined_bytes mark_of number_bytes key_bytes value_bytes range_bytes outcome_bytes end_bytes ends_bytes segments_bytes
+granted_ends = refl
+
+-- the rows move
+granted_rows : phases_of (course_after 500 migrating (advance migrating 1 Granted)).cluster ≡ replicate 8 (Moving 1 0 2 0 ∷ [])
+unfolding hash_of spelled_of spelled_all spelled front_bytes body_length head_bytes held_bytes refused_bytes carried_bytes joined_bytes mark_of number_bytes key_bytes value_bytes range_bytes outcome_bytes end_bytes ends_bytes segments_bytes
+granted_rows = refl
+
+-- the targets answer calls
+granted_targets : roles_at (course_after 500 migrating (advance migrating 1 Granted)).cluster 2 ≡ replicate 8 roles.Receiving
+unfolding hash_of spelled_of spelled_all spelled front_bytes body_length head_bytes held_bytes refused_bytes carried_bytes joined_bytes mark_of number_bytes key_bytes value_bytes range_bytes outcome_bytes end_bytes ends_bytes segments_bytes
+granted_targets = refl

@@ -1,0 +1,2 @@
+pub mod Scene
+mod Examples

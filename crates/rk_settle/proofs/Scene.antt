@@ -1,0 +1,63 @@
+-- A scene for worked examples: a cluster with one tablet and a client, whose replicas tell what they store and never fail, and the course
+-- of a command there.
+use Rattle.std.specs.Prelude.{ℕ, List, [], ◌∷◌, fold, map, None}
+use Rattle.std.specs.List.{range_with_len}
+use Rattle.rk_types.specs.declared.call.Op.TheVariants.{Put}
+use Rattle.rk_transfer.specs.declared.role.Role.{Role}
+use Rattle.rk_tablet_map.specs.declared.phase.Phase.{Phase}
+use Rattle.rk_world.specs.Backup.{Called, Gave}
+use Rattle.rk_world.specs.Cluster.{Calls, Cluster, cluster_after, cluster_run, lane_at, new_cluster}
+use Rattle.rk_world.specs.World.{tablet_in}
+use Rattle.rk_world.specs.Step.{told_by_replica}
+use Rattle.rk_world.specs.declared.event.Event.TheVariants as events
+use Rattle.rk_cluster.specs.Makes.{client_makes, migrate_makes, table_makes}
+use Rattle.rk_settle.specs.Course.{Course, course_of, moved}
+use Rattle.rk_settle.specs.Tasks.{Task, Delivers}
+
+-- what a replica tells at the next move
+abbrev pub told_next : Cluster → List Task → Called
+told_next cluster (Delivers lane number ∷ rest) = told_by_replica (lane_at cluster lane) (events.Deliver number) None
+told_next cluster tasks = Gave None
+
+-- the course after one move more
+abbrev pub moved_on : Course → ℕ → Course
+moved_on course move = moved course (told_next course.cluster course.tasks)
+
+-- the course of these tasks after so many moves
+abbrev pub course_after : ℕ → Cluster → List Task → Course
+course_after moves cluster tasks = fold moved_on (course_of cluster tasks) (range_with_len 0 moves)
+
+-- a key of lane 4, and a value
+abbrev pub a : List ℕ
+a = 97 ∷ []
+
+abbrev pub x : List ℕ
+x = 120 ∷ []
+
+-- tablet 1 of table 1 is at master 1
+abbrev pub with_table : Cluster → Cluster
+with_table cluster = cluster_run cluster (table_makes cluster 1 1)
+
+-- client 1 has a session
+abbrev pub with_client_one : Cluster → Cluster
+with_client_one cluster = cluster_run cluster (client_makes cluster 1)
+
+-- two masters and two backups, tablet 1, and client 1
+abbrev pub start : Cluster
+start = with_client_one (with_table (new_cluster 2 2))
+
+-- client 1 asks that a hold x
+abbrev pub calling : Cluster
+calling = cluster_after start (Calls 1 1 a (Put x))
+
+-- tablet 1 is to move to master 2
+abbrev pub migrating : Cluster
+migrating = cluster_run start (migrate_makes start 1 2)
+
+-- where the rows of all lanes are
+abbrev pub phases_of : Cluster → List (List Phase)
+phases_of cluster = map (λ w. map (λ row. row.phase) w.coordinator.rows) cluster.lanes
+
+-- the roles of tablet 1 at a master, in all lanes
+abbrev pub roles_at : Cluster → ℕ → List Role
+roles_at cluster master = map (λ w. (tablet_in w master 1).handover.role) cluster.lanes

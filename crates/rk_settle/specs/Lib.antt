@@ -1,0 +1,11 @@
+pub mod Topics
+pub mod Tasks
+pub mod Rest
+pub mod Exchange
+pub mod Settle
+pub mod Serve
+pub mod Priority
+pub mod Reaches
+pub mod Advance
+pub mod Unfolding
+pub mod Course

@@ -1,0 +1,96 @@
+-- serve: the outstanding call of a client is brought on. Where the client does not know who owns its key, it asks; then it sends its
+-- request to that owner. After a Moved it tries once more. Last, log exchanges of the master that was asked run while the call is
+-- outstanding and staged there.
+use Rattle.std.specs.Prelude.{ℕ, ◌==◌, ◌&&◌, Bool, true, false, is_some, is_none, if◌then◌else◌, List, [], ◌∷◌, ◌++◌, Option, Some, None}
+use Rattle.rk_types.specs.declared.call.Call.{Call}
+use Rattle.rk_types.specs.declared.node.Node.TheVariants as nodes
+use Rattle.rk_message.specs.declared.calls.Located.{Located}
+use Rattle.rk_message.specs.declared.message.Body.{Body}
+use Rattle.rk_message.specs.declared.message.Body.TheVariants as bodies
+use Rattle.rk_world.specs.Client.{ClientTurn, Session, call_lane, range_of, session_turn}
+use Rattle.rk_world.specs.Cluster.{Asks, Cluster, session_at}
+use Rattle.rk_world.specs.Master.{is_staged}
+use Rattle.rk_world.specs.World.{World, lives, master_at}
+use Rattle.rk_settle.specs.Tasks.{Task, Exchanges, Tries, Requests, Hears, Commits, round_of, turn_exchange}
+use Rattle.rk_settle.specs.Topics.{OfCall, OfLog}
+
+-- how many times a call is tried
+abbrev pub MOST_TRIES : ℕ
+MOST_TRIES = 2
+
+-- whether a message asks where a key is
+abbrev pub is_lookup : Body → Bool
+is_lookup (bodies.Lookup lookup) = true
+is_lookup body = false
+
+-- whether a client's turn, if it takes one, asks where its key is
+abbrev pub looks_up_by : Option ClientTurn → Bool
+looks_up_by None = false
+looks_up_by (Some turned) = is_lookup turned.message.body
+
+-- whether a client asks on its turn where its key is
+abbrev pub looks_up : Session → Bool
+looks_up session = looks_up_by (session_turn session)
+
+-- the owner of a range, if one is cached
+abbrev pub cached_owner : Option Located → Option ℕ
+cached_owner None = None
+cached_owner (Some located) = located.owner
+
+-- who owns the key of a call, as far as its client knows
+abbrev pub owner_by_call : Session → Option Call → Option ℕ
+owner_by_call session None = None
+owner_by_call session (Some call) = cached_owner (range_of session call)
+
+-- who owns the key of the outstanding call, as far as the client knows
+abbrev pub known_owner : Session → Option ℕ
+known_owner session = owner_by_call session session.outstanding
+
+-- a client takes its turn, and what comes of that is delivered
+abbrev pub ask_exchange : ℕ → ℕ → Task
+ask_exchange lane client = Exchanges lane OfCall (Asks lane client)
+
+-- a call is tried: first the owner is asked for, where the client's turn does that
+abbrev pub try_tasks : Session → ℕ → ℕ → ℕ → List Task
+try_tasks session lane client times =
+    (if looks_up session then ask_exchange lane client ∷ [] else []) ++ Requests lane client times ∷ []
+
+-- the request is sent to the owner; where there is none the command ends
+abbrev pub request_by : ℕ → ℕ → ℕ → Option ℕ → List Task
+request_by lane client times None = []
+request_by lane client times (Some owner) = ask_exchange lane client ∷ Hears lane client times owner ∷ []
+
+-- the request is sent to the owner that the client knows
+abbrev pub request_tasks : Session → ℕ → ℕ → ℕ → List Task
+request_tasks session lane client times = request_by lane client times (known_owner session)
+
+-- whether the client was told that the tablet has moved: its call is outstanding still, and it knows no owner any more
+abbrev pub was_moved : Session → Bool
+was_moved session = is_some session.outstanding && is_none (known_owner session)
+
+-- after a Moved the call is tried once more, and else it is committed
+abbrev pub hear_tasks : Session → ℕ → ℕ → ℕ → ℕ → List Task
+hear_tasks session lane client times asked =
+    if times == MOST_TRIES then Commits lane client asked ∷ []
+    else (if was_moved session then Tries lane client MOST_TRIES ∷ [] else Commits lane client asked ∷ [])
+
+-- whether a client's call, if one is outstanding, is staged at a master that lives
+abbrev pub is_staged_by : World → ℕ → ℕ → Option Call → Bool
+is_staged_by w client asked None = false
+is_staged_by w client asked (Some call) = lives w asked && is_staged (master_at w asked) client call.seq
+
+-- a log exchange, and then the next, while the call is outstanding and staged
+abbrev pub commit_tasks : World → Session → ℕ → ℕ → ℕ → List Task
+commit_tasks w session lane client asked =
+    if is_staged_by w client asked session.outstanding
+    then round_of (turn_exchange lane OfLog (nodes.Master asked) ∷ []) ++ Commits lane client asked ∷ []
+    else []
+
+-- a call, if one is outstanding, is tried in its lane
+abbrev pub serve_by : ℕ → Option Call → List Task
+serve_by client None = []
+serve_by client (Some call) = Tries (call_lane call) client 1 ∷ []
+
+-- serve
+abbrev pub serve : Cluster → ℕ → List Task
+serve cluster client = serve_by client (session_at cluster client).outstanding
