@@ -49,6 +49,11 @@ settled_rests : is_at_rest (course_after 220 calling (settle calling)).cluster �
 unfolding hash_of spelled_of spelled_all spelled front_bytes body_length head_bytes held_bytes refused_bytes carried_bytes joined_bytes mark_of number_bytes key_bytes value_bytes range_bytes outcome_bytes end_bytes ends_bytes segments_bytes
 settled_rests = refl
 
+-- in ninety-three occurrences
+settled_occurred : length (course_after 220 calling (settle calling)).occurred ≡ 93
+unfolding hash_of spelled_of spelled_all spelled front_bytes body_length head_bytes held_bytes refused_bytes carried_bytes joined_bytes mark_of number_bytes key_bytes value_bytes range_bytes outcome_bytes end_bytes ends_bytes segments_bytes
+settled_occurred = refl
+
 -- advance brings the migration to its grant, in all lanes
 granted_ends : (course_after 500 migrating (advance migrating 1 Granted)).tasks ≡ []
 unfolding hash_of spelled_of spelled_all spelled front_bytes body_length head_bytes held_bytes refused_bytes carried_bytes joined_bytes mark_of number_bytes key_bytes value_bytes range_bytes outcome_bytes end_bytes ends_bytes segments_bytes
@@ -63,3 +68,8 @@ granted_rows = refl
 granted_targets : roles_at (course_after 500 migrating (advance migrating 1 Granted)).cluster 2 ≡ replicate 8 roles.Receiving
 unfolding hash_of spelled_of spelled_all spelled front_bytes body_length head_bytes held_bytes refused_bytes carried_bytes joined_bytes mark_of number_bytes key_bytes value_bytes range_bytes outcome_bytes end_bytes ends_bytes segments_bytes
 granted_targets = refl
+
+-- it took seventeen occurrences in each lane
+granted_occurred : length (course_after 500 migrating (advance migrating 1 Granted)).occurred ≡ 136
+unfolding hash_of spelled_of spelled_all spelled front_bytes body_length head_bytes held_bytes refused_bytes carried_bytes joined_bytes mark_of number_bytes key_bytes value_bytes range_bytes outcome_bytes end_bytes ends_bytes segments_bytes
+granted_occurred = refl
