@@ -1,5 +1,5 @@
 -- Worked examples: serve and settle answer a put, and advance brings a migration to its grant.
-use Rattle.std.specs.Prelude.{◌≡◌, [], ◌∷◌, length, refl, replicate, true}
+use Rattle.std.specs.Prelude.{Some, ◌≡◌, [], ◌∷◌, length, refl, replicate, true}
 use Rattle.rk_types.specs.Hashing.{hash_of}
 use Rattle.rk_types.specs.Held.{spelled_of}
 use Rattle.rk_types.specs.declared.call.Outcome.TheVariants.{Written}
@@ -14,6 +14,9 @@ use Rattle.rk_entry.specs.Spelling.{head_bytes, held_bytes, refused_bytes, carri
 use Rattle.rk_entry.specs.Texts.{key_bytes, value_bytes}
 use Rattle.rk_settle.specs.Advance.{advance}
 use Rattle.rk_settle.specs.declared.reach.Reach.TheVariants.{Granted}
+use Rattle.rk_settle.specs.Course.{course_of, error_of}
+use Rattle.rk_settle.specs.Tasks.{Begins}
+use Rattle.rk_settle.specs.declared.error.SettleError.TheVariants.{Replica}
 use Rattle.rk_settle.specs.Rest.{is_at_rest}
 use Rattle.rk_settle.specs.Serve.{serve}
 use Rattle.rk_settle.specs.Settle.{settle}
@@ -73,3 +76,7 @@ granted_targets = refl
 granted_occurred : length (course_after 500 migrating (advance migrating 1 Granted)).occurred ≡ 136
 unfolding hash_of spelled_of spelled_all spelled front_bytes body_length head_bytes held_bytes refused_bytes carried_bytes joined_bytes mark_of number_bytes key_bytes value_bytes range_bytes outcome_bytes end_bytes ends_bytes segments_bytes
 granted_occurred = refl
+
+-- where replicas have failed in a hundred rounds, no further round begins
+limit_stops : error_of (record (course_of calling (Begins ∷ [])) { faults = 100 }) ≡ Some (Replica 100)
+limit_stops = refl

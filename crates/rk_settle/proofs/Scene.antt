@@ -1,31 +1,19 @@
 -- A scene for worked examples: a cluster with one tablet and a client, whose replicas tell what they store and never fail, and the course
 -- of a command there.
-use Rattle.std.specs.Prelude.{ℕ, List, [], ◌∷◌, fold, map, None}
-use Rattle.std.specs.List.{range_with_len}
+use Rattle.std.specs.Prelude.{replicate, ℕ, List, [], ◌∷◌, map, None}
 use Rattle.rk_types.specs.declared.call.Op.TheVariants.{Put}
 use Rattle.rk_transfer.specs.declared.role.Role.{Role}
 use Rattle.rk_tablet_map.specs.declared.phase.Phase.{Phase}
-use Rattle.rk_world.specs.Backup.{Called, Gave}
-use Rattle.rk_world.specs.Cluster.{Calls, Cluster, cluster_after, cluster_run, lane_at, new_cluster}
+use Rattle.rk_world.specs.Cluster.{Calls, Cluster, cluster_after, cluster_run, new_cluster}
 use Rattle.rk_world.specs.World.{tablet_in}
-use Rattle.rk_world.specs.Step.{told_by_replica}
-use Rattle.rk_world.specs.declared.event.Event.TheVariants as events
 use Rattle.rk_cluster.specs.Makes.{client_makes, migrate_makes, table_makes}
-use Rattle.rk_settle.specs.Course.{Course, course_of, moved}
-use Rattle.rk_settle.specs.Tasks.{Task, Delivers}
-
--- what a replica tells at the next move
-abbrev pub told_next : Cluster → List Task → Called
-told_next cluster (Delivers lane number ∷ rest) = told_by_replica (lane_at cluster lane) (events.Deliver number) None
-told_next cluster tasks = Gave None
-
--- the course after one move more
-abbrev pub moved_on : Course → ℕ → Course
-moved_on course move = moved course (told_next course.cluster course.tasks)
+use Rattle.rk_settle.specs.Course.{Course, course_of}
+use Rattle.rk_settle.specs.Told.{moved_with_all}
+use Rattle.rk_settle.specs.Tasks.{Task}
 
 -- the course of these tasks after so many moves
 abbrev pub course_after : ℕ → Cluster → List Task → Course
-course_after moves cluster tasks = fold moved_on (course_of cluster tasks) (range_with_len 0 moves)
+course_after moves cluster tasks = moved_with_all (course_of cluster tasks) (replicate moves None)
 
 -- a key of lane 4, and a value
 abbrev pub a : List ℕ

@@ -9,3 +9,4 @@ pub mod Reaches
 pub mod Advance
 pub mod Unfolding
 pub mod Course
+pub mod Told
