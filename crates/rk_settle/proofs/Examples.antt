@@ -20,7 +20,7 @@ use Rattle.rk_settle.specs.declared.error.SettleError.TheVariants.{Replica}
 use Rattle.rk_settle.specs.Rest.{is_at_rest}
 use Rattle.rk_settle.specs.Serve.{serve}
 use Rattle.rk_settle.specs.Settle.{settle}
-use Rattle.rk_settle.proofs.Scene.{calling, course_after, migrating, phases_of, roles_at}
+use Rattle.rk_settle.proofs.Scene.{calling, course_after, migrating, shown_of}
 
 -- serve brings a put to its end
 served_ends : (course_after 60 calling (serve calling 1)).tasks ≡ []
@@ -57,25 +57,18 @@ settled_occurred : length (course_after 220 calling (settle calling)).occurred �
 unfolding hash_of spelled_of spelled_all spelled front_bytes body_length head_bytes held_bytes refused_bytes carried_bytes joined_bytes mark_of number_bytes key_bytes value_bytes range_bytes outcome_bytes end_bytes ends_bytes segments_bytes
 settled_occurred = refl
 
--- advance brings the migration to its grant, in all lanes
-granted_ends : (course_after 500 migrating (advance migrating 1 Granted)).tasks ≡ []
+-- advance brings the migration to its grant, in seventeen occurrences in each lane: no task is left, the rows move, and the targets answer
+-- calls
+granted :
+    shown_of (course_after 500 migrating (advance migrating 1 Granted))
+    ≡ record {
+      left = 0;
+      occurrences = 136;
+      phases = replicate 8 (Moving 1 0 2 0 ∷ []);
+      targets = replicate 8 roles.Receiving;
+    }
 unfolding hash_of spelled_of spelled_all spelled front_bytes body_length head_bytes held_bytes refused_bytes carried_bytes joined_bytes mark_of number_bytes key_bytes value_bytes range_bytes outcome_bytes end_bytes ends_bytes segments_bytes
-granted_ends = refl
-
--- the rows move
-granted_rows : phases_of (course_after 500 migrating (advance migrating 1 Granted)).cluster ≡ replicate 8 (Moving 1 0 2 0 ∷ [])
-unfolding hash_of spelled_of spelled_all spelled front_bytes body_length head_bytes held_bytes refused_bytes carried_bytes joined_bytes mark_of number_bytes key_bytes value_bytes range_bytes outcome_bytes end_bytes ends_bytes segments_bytes
-granted_rows = refl
-
--- the targets answer calls
-granted_targets : roles_at (course_after 500 migrating (advance migrating 1 Granted)).cluster 2 ≡ replicate 8 roles.Receiving
-unfolding hash_of spelled_of spelled_all spelled front_bytes body_length head_bytes held_bytes refused_bytes carried_bytes joined_bytes mark_of number_bytes key_bytes value_bytes range_bytes outcome_bytes end_bytes ends_bytes segments_bytes
-granted_targets = refl
-
--- it took seventeen occurrences in each lane
-granted_occurred : length (course_after 500 migrating (advance migrating 1 Granted)).occurred ≡ 136
-unfolding hash_of spelled_of spelled_all spelled front_bytes body_length head_bytes held_bytes refused_bytes carried_bytes joined_bytes mark_of number_bytes key_bytes value_bytes range_bytes outcome_bytes end_bytes ends_bytes segments_bytes
-granted_occurred = refl
+granted = refl
 
 -- where replicas have failed in a hundred rounds, no further round begins
 limit_stops : error_of (record (course_of calling (Begins ∷ [])) { faults = 100 }) ≡ Some (Replica 100)

@@ -1,6 +1,6 @@
 -- A scene for worked examples: a cluster with one tablet and a client, whose replicas tell what they store and never fail, and the course
 -- of a command there.
-use Rattle.std.specs.Prelude.{replicate, ℕ, List, [], ◌∷◌, map, None}
+use Rattle.std.specs.Prelude.{length, replicate, ℕ, List, [], ◌∷◌, map, None}
 use Rattle.rk_types.specs.declared.call.Op.TheVariants.{Put}
 use Rattle.rk_transfer.specs.declared.role.Role.{Role}
 use Rattle.rk_tablet_map.specs.declared.phase.Phase.{Phase}
@@ -42,10 +42,18 @@ calling = cluster_after start (Calls 1 1 a (Put x))
 abbrev pub migrating : Cluster
 migrating = cluster_run start (migrate_makes start 1 2)
 
--- where the rows of all lanes are
-abbrev pub phases_of : Cluster → List (List Phase)
-phases_of cluster = map (λ w. map (λ row. row.phase) w.coordinator.rows) cluster.lanes
+-- what is to be seen of a migration to master 2
+pub record Shown : Type 0 where
+  pub left : ℕ
+  pub occurrences : ℕ
+  pub phases : List (List Phase)
+  pub targets : List Role
 
--- the roles of tablet 1 at a master, in all lanes
-abbrev pub roles_at : Cluster → ℕ → List Role
-roles_at cluster master = map (λ w. (tablet_in w master 1).handover.role) cluster.lanes
+-- how many tasks are left, how many occurrences there were, and in each lane the phases of rows and the role of the target
+abbrev pub shown_of : Course → Shown
+shown_of course = record {
+  left = length course.tasks;
+  occurrences = length course.occurred;
+  phases = map (λ w. map (λ row. row.phase) w.coordinator.rows) course.cluster.lanes;
+  targets = map (λ w. (tablet_in w 2 1).handover.role) course.cluster.lanes;
+}
