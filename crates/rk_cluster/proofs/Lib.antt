@@ -1,0 +1,9 @@
+pub mod Worlds
+pub mod Happenings
+pub mod Heard
+pub mod Carrying
+pub mod Deeds
+pub mod Coming
+pub mod Joining
+pub mod Forgetting
+pub mod Noticing

@@ -1,15 +1,14 @@
 -- The codes of each call of a user, in the order in which they are tested: the first that applies is the answer, and a call without
 -- one is carried out.
-use Rattle.std.specs.Prelude.{ℕ, ◌+◌, ◌||◌, Bool, not, nat_le, nat_lt, List, [], ◌∷◌, length, Option, Some, None, is_some, is_none, if◌then◌else◌}
+use Rattle.std.specs.Prelude.{ℕ, ◌||◌, Bool, not, nat_le, nat_lt, List, [], ◌∷◌, length, Option, Some, None, is_some, is_none, if◌then◌else◌}
 use Rattle.std.specs.Option.{option_or}
 use Rattle.rk_tablet_map.specs.Rows.{row_of}
-use Rattle.rk_world.specs.Client.{Session}
 use Rattle.rk_world.specs.Cluster.{Cluster, lane_at, session_at}
 use Rattle.rk_world.specs.Refusals.{MOST_CLIENTS}
 use Rattle.rk_message.specs.Wire.{number_at}
 use Rattle.rk_cluster.specs.declared.code.Code.{Code}
 use Rattle.rk_cluster.specs.declared.code.Code.TheVariants.{Alive, BadSplit, Busy, Crashed, LastMaster, Limit, NoPlace, NotOwned, NothingSent, OwnsAll, Taken, TooLate, Unknown}
-use Rattle.rk_cluster.specs.Looks.{calls_asked, has_dead_owner, has_inside, has_table, is_client, is_dead, is_master, is_other_alive, is_owned, is_tablet, lanes_without, rows_of, tables_of}
+use Rattle.rk_cluster.specs.Looks.{all_lanes, calls_asked, has_dead_owner, has_inside, has_table, is_client, is_dead, is_master, is_other_alive, is_owned, is_tablet, lanes_without, rows_of, tables_of}
 
 -- as many tables, tablets and calls as there may be
 abbrev pub MOST_TABLES : ℕ
@@ -74,7 +73,7 @@ migrate_code cluster tablet to =
     code_where (not (is_tablet cluster tablet) || not (is_master cluster to)) Unknown
     ∷ code_where (not (is_owned cluster tablet)) NotOwned
     ∷ code_where (nat_le (length concerned) 0) OwnsAll
-    ∷ code_where (is_dead cluster to || has_dead_owner concerned tablet) Crashed
+    ∷ code_where (is_dead cluster to || has_dead_owner cluster concerned tablet) Crashed
     ∷ [])
 
 -- a tablet is split at a hash
@@ -83,7 +82,7 @@ split_code cluster tablet at =
     first_code (
     code_where (not (is_tablet cluster tablet)) Unknown
     ∷ code_where (not (is_owned cluster tablet)) NotOwned
-    ∷ code_where (has_dead_owner cluster.lanes tablet) Crashed
+    ∷ code_where (has_dead_owner cluster (all_lanes cluster) tablet) Crashed
     ∷ code_where (nat_le MOST_TABLETS (length (rows_of cluster))) Limit
     ∷ code_where (not (has_inside (row_of (rows_of cluster) tablet) at)) BadSplit
     ∷ [])

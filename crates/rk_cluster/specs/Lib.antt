@@ -3,3 +3,8 @@ pub mod Looks
 pub mod Codes
 pub mod Makes
 pub mod Acted
+pub mod State
+pub mod Effects
+pub mod Steps
+pub mod Inside
+pub mod Visits

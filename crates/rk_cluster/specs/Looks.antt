@@ -1,13 +1,13 @@
 -- What a call of a user looks at. Each tablet has a row in every lane, and a master that has crashed has crashed in all of them, so
 -- lane 0 tells of all.
-use Rattle.std.specs.Prelude.{ℕ, ◌==◌, ◌&&◌, Bool, false, not, nat_le, if◌then◌else◌, List, [], ◌∷◌, filter, map, sum, Option, Some, None, is_some}
+use Rattle.std.specs.Prelude.{ℕ, ◌+◌, ◌==◌, ◌&&◌, Bool, false, not, nat_le, if◌then◌else◌, List, [], ◌∷◌, filter, length, map, sum, Option, Some, None, is_some}
 use Rattle.std.specs.List.{list_all, list_any, range_with_len}
 use Rattle.rk_types.specs.NumberMap.{get}
-use Rattle.rk_types.specs.declared.range.Range.{Range}
 use Rattle.rk_tablet_map.specs.Rows.{row_of}
 use Rattle.rk_tablet_map.specs.declared.phase.Phase.{Phase}
 use Rattle.rk_tablet_map.specs.declared.phase.Phase.TheVariants.{Owned}
 use Rattle.rk_tablet_map.specs.declared.row.Row.{Row}
+use Rattle.rk_world.specs.Client.{Session}
 use Rattle.rk_world.specs.Cluster.{Cluster, lane_at}
 use Rattle.rk_world.specs.World.{World, has_crashed}
 
@@ -53,9 +53,13 @@ tables_of (row ∷ rows) = if has_table rows row.range.table then tables_of rows
 abbrev pub is_tablet : Cluster → ℕ → Bool
 is_tablet cluster tablet = is_some (row_of (rows_of cluster) tablet)
 
--- how many calls the clients asked: each counts its own from 1
+-- how many calls a client asked: those that were answered, and the outstanding one
+abbrev pub calls_of : Session → ℕ
+calls_of session = length session.receipts + (if is_some session.outstanding then 1 else 0)
+
+-- how many calls the clients asked
 abbrev pub calls_asked : Cluster → ℕ
-calls_asked cluster = sum (map (λ entry. entry.1.last) cluster.sessions)
+calls_asked cluster = sum (map (λ entry. calls_of entry.1) cluster.sessions)
 
 -- the owner by a phase; none while the tablet moves or is rebuilt
 abbrev pub owner_by : Phase → Option ℕ
@@ -85,13 +89,21 @@ is_dead_owner w (Some owner) = has_crashed w owner
 abbrev pub is_owned : Cluster → ℕ → Bool
 is_owned cluster tablet = list_all (λ w. is_some (owner_in w tablet)) cluster.lanes
 
+-- the owner of a tablet in the lane of a number
+abbrev pub owner_at : Cluster → ℕ → ℕ → Option ℕ
+owner_at cluster tablet lane = owner_in (lane_at cluster lane) tablet
+
+-- the numbers of all lanes
+abbrev pub all_lanes : Cluster → List ℕ
+all_lanes cluster = range_with_len 0 (length cluster.lanes)
+
 -- the lanes in which another master than this one owns a tablet
-abbrev pub lanes_without : Cluster → ℕ → ℕ → List World
-lanes_without cluster tablet master = filter (λ w. not (is_owner master (owner_in w tablet))) cluster.lanes
+abbrev pub lanes_without : Cluster → ℕ → ℕ → List ℕ
+lanes_without cluster tablet master = filter (λ lane. not (is_owner master (owner_at cluster tablet lane))) (all_lanes cluster)
 
 -- whether the owner of a tablet has crashed in one of these lanes
-abbrev pub has_dead_owner : List World → ℕ → Bool
-has_dead_owner lanes tablet = list_any (λ w. is_dead_owner w (owner_in w tablet)) lanes
+abbrev pub has_dead_owner : Cluster → List ℕ → ℕ → Bool
+has_dead_owner cluster lanes tablet = list_any (λ lane. is_dead_owner (lane_at cluster lane) (owner_at cluster tablet lane)) lanes
 
 -- the hash that a range begins at, and the one that it ends at, where a row has one
 abbrev pub has_inside : Option Row → ℕ → Bool

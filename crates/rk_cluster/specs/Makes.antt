@@ -18,16 +18,16 @@ use Rattle.rk_world.specs.declared.event.Event.TheVariants as events
 use Rattle.rk_world.specs.Backup.{Called, Gave}
 use Rattle.rk_world.specs.Client.{Session, call_lane}
 use Rattle.rk_world.specs.Cluster.{Accepts, Asks, Calls, Cluster, Happens, Joins, Occurrence, lane_at, session_at}
-use Rattle.rk_world.specs.World.{World, live_masters}
-use Rattle.rk_cluster.specs.Looks.{lanes_without, rows_of}
+use Rattle.rk_world.specs.World.{live_masters}
+use Rattle.rk_cluster.specs.Looks.{all_lanes, lanes_without, rows_of}
 
 -- an event of a lane that calls no replica
 abbrev pub in_lane : ℕ → Event → Occurrence
 in_lane lane event = Happens lane event (Gave None)
 
 -- the same event in each of these lanes
-abbrev pub in_lanes : List World → Event → List Occurrence
-in_lanes lanes event = map (λ w. in_lane w.lane event) lanes
+abbrev pub in_lanes : List ℕ → Event → List Occurrence
+in_lanes lanes event = map (λ lane. in_lane lane event) lanes
 
 -- all hashes of a table
 abbrev pub whole_table : ℕ → Range
@@ -40,11 +40,11 @@ next_tablet cluster = length (rows_of cluster) + 1
 -- a table is made with one tablet
 abbrev pub table_makes : Cluster → ℕ → ℕ → List Occurrence
 table_makes cluster table master =
-    in_lanes cluster.lanes (events.AddTablet (next_tablet cluster) (whole_table table) master)
+    in_lanes (all_lanes cluster) (events.AddTablet (next_tablet cluster) (whole_table table) master)
 
 -- a client gets a session, and may act in each lane
 abbrev pub client_makes : Cluster → ℕ → List Occurrence
-client_makes cluster client = in_lanes cluster.lanes (events.AddClient client) ++ Joins client ∷ []
+client_makes cluster client = in_lanes (all_lanes cluster) (events.AddClient client) ++ Joins client ∷ []
 
 -- a client asks its next call; nothing is sent yet
 abbrev pub call_makes : ℕ → ℕ → List ℕ → Op → List Occurrence
@@ -56,15 +56,15 @@ migrate_makes cluster tablet to = in_lanes (lanes_without cluster tablet to) (ev
 
 -- a tablet is split
 abbrev pub split_makes : Cluster → ℕ → ℕ → List Occurrence
-split_makes cluster tablet at = in_lanes cluster.lanes (events.Split tablet at (next_tablet cluster))
+split_makes cluster tablet at = in_lanes (all_lanes cluster) (events.Split tablet at (next_tablet cluster))
 
 -- a master crashes
 abbrev pub crash_makes : Cluster → ℕ → List Occurrence
-crash_makes cluster master = in_lanes cluster.lanes (events.Crash master)
+crash_makes cluster master = in_lanes (all_lanes cluster) (events.Crash master)
 
 -- the coordinators learn that a master has crashed
 abbrev pub notice_makes : Cluster → ℕ → List Occurrence
-notice_makes cluster master = in_lanes cluster.lanes (events.Notice master)
+notice_makes cluster master = in_lanes (all_lanes cluster) (events.Notice master)
 
 -- a message reaches its receiver: a client takes it itself
 abbrev pub delivery : ℕ → ℕ → Called → Node → Occurrence
@@ -101,13 +101,13 @@ asks_by lane client None = []
 asks_by lane client (Some call) = if call_lane call == lane then Asks lane client ∷ [] else []
 
 -- a client asks in a lane, where it has an outstanding call there
-abbrev pub asks_in : ℕ → Session → List Occurrence
-asks_in lane session = asks_by lane session.client session.outstanding
+abbrev pub asks_in : ℕ → ℕ → Session → List Occurrence
+asks_in lane client session = asks_by lane client session.outstanding
 
 -- the nodes of a lane take their turns: clients with an outstanding call there, the coordinator, and the masters that live
 abbrev pub turn_makes : Cluster → ℕ → List Occurrence
 turn_makes cluster lane =
-    flat_map (λ entry. asks_in lane entry.1) cluster.sessions
+    flat_map (λ entry. asks_in lane entry.0 entry.1) cluster.sessions
     ++ in_lane lane (events.Turn nodes.Coordinator)
     ∷ map (λ entry. in_lane lane (events.Turn (nodes.Master entry.0))) (live_masters (lane_at cluster lane))
 

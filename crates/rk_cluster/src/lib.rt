@@ -1,11 +1,18 @@
 //! Eight lanes and the sessions of the clients that act in them: what each call of a user does there, and with which code it
 //! is refused.
 //!
-//! It stands on the definitions of `rk_world`. Definitions stand in `specs`: what a call looks at (`Looks`), its codes in the
-//! order in which they are tested (`Codes`), the events that it makes (`Makes`), and what comes of these (`Acted`). Code follows
-//! once there is a lane in code; today the crate has the codes alone.
+//! It stands on `rk_lane`, `rk_session` and the definitions of `rk_world`. Its own definitions stand in `specs`: what a call
+//! looks at (`Looks`), its codes in the order in which they are tested (`Codes`), the events that it makes (`Makes`), and
+//! what comes of these (`Acted`).
 #![tactic(auto)]
 
+pub use cluster::Cluster;
 pub use code::Code;
+pub use error::ClusterError;
 
+mod cluster;
 mod code;
+mod error;
+mod sessions;
+mod steps;
+mod visits;

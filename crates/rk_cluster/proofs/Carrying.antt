@@ -1,0 +1,66 @@
+-- Occurrences, one after the other.
+use Rattle.std.proofs.Common.{ℕ, List, [], ◌∷◌, ◌++◌, Option, None, Some, refl, sym, ap, subst, ◌∙◌, append-nil}
+use Rattle.rk_types.specs.declared.node.Said.{Said}
+use Rattle.rk_outside.specs.Segments.{Segments}
+use Rattle.rk_world.specs.Cluster.{Occurrence}
+use Rattle.rk_cluster.specs.Acted.{Acted, acted, all_acted, going_on}
+use Rattle.rk_cluster.specs.Effects.{Acts, ActsOne, Carries, IsActedAs}
+use Rattle.rk_cluster.specs.State.{ClusterState}
+
+module _ {R : Type 0} (segments : R → Option Segments) where
+  -- what follows on one occurrence
+  gone_on : (next final : ClusterState R) (told : List Said) (broken : Option ℕ) (later : List Occurrence) (it : Acted) → IsActedAs segments next [] None it
+      → Acts segments next final later told broken → IsActedAs segments final told broken (going_on it it.worn (λ cluster. all_acted cluster later))
+  gone_on next final told broken later it is acts =
+      let after = acts it.cluster is.cluster in
+      subst (λ (o : Option ℕ). IsActedAs segments final told broken (going_on it o (λ cluster. all_acted cluster later))) (sym is.worn)
+      (record {
+        cluster = after.cluster;
+        said = ap (λ (said : List Said). said ++ (all_acted it.cluster later).said) is.said ∙ after.said;
+        worn = after.worn;
+      })
+
+  pub first_acts : (old next final : ClusterState R) (occurrence : Occurrence) (later : List Occurrence) (told : List Said) (broken : Option ℕ)
+      → ActsOne segments old next occurrence [] None → Acts segments next final later told broken → Acts segments old final (occurrence ∷ later) told broken
+  first_acts old next final occurrence later told broken one acts cluster is =
+      gone_on next final told broken later (acted cluster occurrence) (one cluster is) acts
+
+  -- nothing follows where something is worn
+  worn_stays : (next : ClusterState R) (number : ℕ) (later : List Occurrence) (it : Acted) → IsActedAs segments next [] (Some number) it
+      → IsActedAs segments next [] (Some number) (going_on it it.worn (λ cluster. all_acted cluster later))
+  worn_stays next number later it is =
+      subst (λ (o : Option ℕ). IsActedAs segments next [] (Some number) (going_on it o (λ cluster. all_acted cluster later))) (sym is.worn) is
+
+  pub worn_acts : (old next : ClusterState R) (occurrence : Occurrence) (later : List Occurrence) (number : ℕ)
+      → ActsOne segments old next occurrence [] (Some number) → Acts segments old next (occurrence ∷ later) [] (Some number)
+  worn_acts old next occurrence later number one cluster is = worn_stays next number later (acted cluster occurrence) (one cluster is)
+
+  -- one occurrence alone, and none
+  last_stays : (next : ClusterState R) (told : List Said) (it : Acted) → IsActedAs segments next told None it
+      → IsActedAs segments next told None (going_on it it.worn (λ cluster. all_acted cluster []))
+  last_stays next told it is =
+      subst (λ (o : Option ℕ). IsActedAs segments next told None (going_on it o (λ cluster. all_acted cluster []))) (sym is.worn)
+      (record { cluster = is.cluster; said = append-nil it.said ∙ is.said; worn = refl })
+
+  pub only_acts : (old next : ClusterState R) (occurrence : Occurrence) (told : List Said) → ActsOne segments old next occurrence told None
+      → Acts segments old next (occurrence ∷ []) told None
+  only_acts old next occurrence told one cluster is = last_stays next told (acted cluster occurrence) (one cluster is)
+
+  pub none_acts : (state : ClusterState R) → Acts segments state state [] [] None
+  none_acts state cluster is = record { cluster = is; said = refl; worn = refl }
+
+  -- ---- what is left
+
+  pub carries_all : (state : ClusterState R) (all : List Occurrence) → Carries segments state state all all
+  carries_all state all final more told broken acts = acts
+
+  pub carries_one : (old now next : ClusterState R) (all rest : List Occurrence) (occurrence : Occurrence) → ActsOne segments now next occurrence [] None
+      → Carries segments old now all (occurrence ∷ rest) → Carries segments old next all rest
+  carries_one old now next all rest occurrence one carries final more told broken acts =
+      carries final more told broken (first_acts now next final occurrence (rest ++ more) told broken one acts)
+
+  pub carries_worn : (old now next : ClusterState R) (all rest : List Occurrence) (occurrence : Occurrence) (number : ℕ)
+      → ActsOne segments now next occurrence [] (Some number) → Carries segments old now all (occurrence ∷ rest)
+      → (more : List Occurrence) → Acts segments old next (all ++ more) [] (Some number)
+  carries_worn old now next all rest occurrence number one carries more =
+      carries next more [] (Some number) (worn_acts now next occurrence (rest ++ more) number one)

@@ -1,0 +1,193 @@
+-- A client's turn or answer in a lane is one in the cluster.
+use Rattle.std.proofs.Common.{◌≡◌, ◌≢◌, ℕ, List, [], Option, Some, Result, Ok, Err, IfErr, IfOk, IsSomeAnd, OnErr, is_some, slice_get, slice_set, unwrap_or, refl, sym, ap, subst, ◌∙◌, ⊎_elim}
+use Rattle.std.proofs.lemmas.Bool.{cases_eq}
+use Rattle.rk_types.specs.NumberMap.{IsInOrder, NumberMap, get, insert}
+use Rattle.rk_types.specs.declared.node.Said.{Said}
+use Rattle.rk_types.proofs.NumberMaps.{get_other, get_same, in_order_insert, same_map}
+use Rattle.rk_outside.specs.Segments.{Segments}
+use Rattle.rk_world.specs.Calls.{Visited, accept, accept_by, ask, ask_by}
+use Rattle.rk_world.specs.Client.{Session, new_session}
+use Rattle.rk_world.specs.Cluster.{Accepts, Asks, Cluster, cluster_visited, lane_at, session_at}
+use Rattle.rk_world.specs.Refusals.{accept_refusal, ask_refusal}
+use Rattle.rk_world.specs.World.{World, new_world}
+use Rattle.rk_world.specs.declared.error.StepError.{StepError}
+use Rattle.rk_world.specs.declared.error.StepError.TheVariants as causes
+use Rattle.rk_world.specs.declared.event.Seen.{Seen}
+use Rattle.rk_lane.specs.LaneState.{AreTold, LaneState, Running, world_with}
+use Rattle.rk_lane.specs.Visits.{IsRefusedFor, IsVisitOf}
+use Rattle.rk_cluster.specs.Acted.{said_by, said_in, worn_in}
+use Rattle.rk_cluster.specs.Effects.{ActsOne, IsActedAs}
+use Rattle.rk_cluster.specs.State.{IsOf, IsWorld}
+use Rattle.rk_cluster.specs.Steps.{state_of}
+use Rattle.rk_cluster.specs.Visits.{HasSession}
+use Rattle.rk_cluster.proofs.Worlds.{set_there, world_at, world_set}
+
+-- what is put in the place of itself changes nothing
+pub insert_there : {X : Type 0} (things : NumberMap X) (number : ℕ) (thing : X) → IsInOrder things → get things number ≡ Some thing → insert things number thing ≡ things
+insert_there {X} things number thing order there =
+    same_map (insert things number thing) things (in_order_insert things number thing order) order
+    (λ q. ⊎_elim
+    (λ (is : q ≡ number). get_same things number thing q is ∙ sym there ∙ ap (get things) (sym is))
+    (λ (apart : q ≡ number → ⊥). get_other things number thing q apart)
+    (cases_eq q number))
+
+module _ {R : Type 0} (segments : R → Option Segments) where
+  -- what a visit makes of a world and of a session, and what it answers
+  abbrev pub HasVisited : LaneState R → LaneState R → Session → Session → Result Seen StepError → Result Visited StepError → Type 0
+  HasVisited old new session later (Ok seen) (Ok visited) = IsWorld segments new visited.world × (visited.session ≡ later) × (visited.seen ≡ seen)
+  HasVisited old new session later (Err cause) (Err error) = (error ≡ cause) × (new ≡ old) × (later ≡ session)
+  HasVisited old new session later answer visited = ⊥
+
+  abbrev pub VisitsLane : (World → Result Visited StepError) → LaneState R → LaneState R → Session → Session → Result Seen StepError → Type 0
+  VisitsLane visit old new session later answer = (w : World) → IsWorld segments old w → HasVisited old new session later answer (visit w)
+
+  taken : (visit : World → Result Visited StepError) (old new : LaneState R) (session later : Session) (seen : Seen) → IsVisitOf visit old new later seen
+      → VisitsLane visit old new session later (Ok seen)
+  taken visit old new session later seen it w is =
+      let same : Some it.before ≡ Some is.running = sym it.was ∙ is.runs in
+      let running_is : is.running ≡ it.before = cc same in
+      let told = is.told in
+      let world_is : w ≡ world_with old it.before is.stored = is.is ∙ ap (λ (running : Running). world_with old running is.stored) running_is in
+      subst (HasVisited old new session later (Ok seen))
+      (sym (ap visit world_is ∙ it.visited is.stored))
+      (record { running = it.after; runs = it.is; stored = is.stored; told = subst (λ backups. AreTold segments backups is.stored) (sym it.backups) told; is = refl }, refl, refl)
+
+  -- why a visit is refused is the same in each world that a lane stands for
+  known_there : (refusal : World → Option StepError) (old : LaneState R) (error : StepError) → IsRefusedFor refusal old error → (running : Running) → old.running ≡ Some running
+      → refusal (world_with old running []) ≡ Some error
+  known_there refusal old error it running runs =
+      subst (λ (o : Option Running). IsSomeAnd o (λ it. refusal (world_with old it []) ≡ Some error)) runs it
+
+  refused_ask : (old new : LaneState R) (session later : Session) (error : StepError) → IsRefusedFor (λ w. ask_refusal w session) old error → new ≡ old → later ≡ session
+      → VisitsLane (λ w. ask w session) old new session later (Err error)
+  refused_ask old new session later error it same stays w is =
+      let here : ask_refusal w session ≡ Some error =
+      ap (λ (v : World). ask_refusal v session) is.is ∙ known_there (λ w. ask_refusal w session) old error it is.running is.runs in
+      subst (HasVisited old new session later (Err error)) (sym (ap (ask_by w session) here)) (refl, same, stays)
+
+  refused_accept : (number : ℕ) (old new : LaneState R) (session later : Session) (error : StepError)
+      → IsRefusedFor (λ w. accept_refusal w number session.client (get w.wire.messages number)) old error → new ≡ old → later ≡ session
+      → VisitsLane (λ w. accept w number session) old new session later (Err error)
+  refused_accept number old new session later error it same stays w is =
+      let refusal = λ (v : World). accept_refusal v number session.client (get v.wire.messages number) in
+      let here : refusal w ≡ Some error = ap refusal is.is ∙ known_there refusal old error it is.running is.runs in
+      subst (HasVisited old new session later (Err error)) (sym (ap (accept_by w number session) here)) (refl, same, stays)
+
+  pub asks_lane : (old new : LaneState R) (session later : Session) (answer : Result Seen StepError) → (answer ≡ Err causes.NoMemory → ⊥)
+      → IfOk answer (λ seen. IsVisitOf (λ w. ask w session) old new later seen)
+      → IfErr answer (λ e. e ≢ causes.NoMemory → IsRefusedFor (λ w. ask_refusal w session) old e)
+      → OnErr answer (new ≡ old) → IfErr answer (λ e. e ≢ causes.NoMemory → later ≡ session)
+      → VisitsLane (λ w. ask w session) old new session later answer
+  asks_lane old new session later (Ok seen) memory ok refused lane stays = taken (λ w. ask w session) old new session later seen ok
+  asks_lane old new session later (Err error) memory ok refused lane stays =
+      refused_ask old new session later error (refused (λ e. memory (ap Err e))) lane (stays (λ e. memory (ap Err e)))
+
+  pub accepts_lane : (number : ℕ) (old new : LaneState R) (session later : Session) (answer : Result Seen StepError) → (answer ≡ Err causes.NoMemory → ⊥)
+      → IfOk answer (λ seen. IsVisitOf (λ w. accept w number session) old new later seen)
+      → IfErr answer (λ e. e ≢ causes.NoMemory → IsRefusedFor (λ w. accept_refusal w number session.client (get w.wire.messages number)) old e)
+      → OnErr answer (new ≡ old) → OnErr answer (later ≡ session)
+      → VisitsLane (λ w. accept w number session) old new session later answer
+  accepts_lane number old new session later (Ok seen) memory ok refused lane stays = taken (λ w. accept w number session) old new session later seen ok
+  accepts_lane number old new session later (Err error) memory ok refused lane stays =
+      refused_accept number old new session later error (refused (λ e. memory (ap Err e))) lane stays
+
+  -- ---- in a cluster
+
+  -- what a client said of an answer
+  abbrev pub said_then : Session → Session → Result Seen StepError → List Said
+  said_then session later (Ok seen) = said_by session.outstanding later.receipts seen.taken
+  said_then session later (Err error) = []
+
+  module _ (cluster : Cluster) (lanes : List (LaneState R)) (sessions : NumberMap Session) (place client : ℕ) (old new : LaneState R) (session later : Session)
+      (there : slice_get lanes place ≡ Some old) (found : get sessions client ≡ Some session) (order : IsInOrder sessions)
+      (is : IsOf segments (state_of lanes sessions) cluster) where
+    is_after : (answer : Result Seen StepError) (visited : Result Visited StepError) → HasVisited old new session later answer visited
+        → IsOf segments (state_of (slice_set lanes place new) (insert sessions client later)) (cluster_visited cluster place client visited)
+    is_after (Ok seen) (Ok visited) has = record {
+      lanes = world_set segments lanes cluster.lanes place new visited.world is.lanes has.0;
+      sessions = ap (λ (known : NumberMap Session). insert known client visited.session) is.sessions ∙ ap (insert sessions client) has.1;
+    }
+    is_after (Ok seen) (Err error) has = absurd has
+    is_after (Err cause) (Ok visited) has = absurd has
+    is_after (Err cause) (Err error) has =
+        subst (λ (now : List (LaneState R)). IsOf segments (state_of now (insert sessions client later)) cluster)
+        (sym (ap (slice_set lanes place) has.1 ∙ set_there lanes place old there))
+        (record { lanes = is.lanes; sessions = is.sessions ∙ sym (ap (insert sessions client) has.2 ∙ insert_there sessions client session order found) })
+
+    worn_after : (answer : Result Seen StepError) (visited : Result Visited StepError) → HasVisited old new session later answer visited → worn_in visited ≡ worn_in answer
+    worn_after (Ok seen) (Ok visited) has = refl
+    worn_after (Ok seen) (Err error) has = absurd has
+    worn_after (Err cause) (Ok visited) has = absurd has
+    worn_after (Err cause) (Err error) has = ap (λ (e : StepError). worn_in {T = Visited} (Err e)) has.0
+
+    said_after : (answer : Result Seen StepError) (visited : Result Visited StepError) → HasVisited old new session later answer visited
+        → said_in session visited ≡ said_then session later answer
+    said_after (Ok seen) (Ok visited) has =
+        ap (λ (it : Session). said_by session.outstanding it.receipts visited.seen.taken) has.1
+        ∙ ap (λ (it : Seen). said_by session.outstanding later.receipts it.taken) has.2
+    said_after (Ok seen) (Err error) has = absurd has
+    said_after (Err cause) (Ok visited) has = absurd has
+    said_after (Err cause) (Err error) has = refl
+
+    -- its session there
+    session_is : session_at cluster client ≡ session
+    session_is = ap (λ (known : NumberMap Session). unwrap_or (get known client) (new_session client)) is.sessions ∙ ap (λ (o : Option Session). unwrap_or o (new_session client)) found
+
+    world_is : IsWorld segments old (lane_at cluster place)
+    world_is = world_at segments lanes cluster.lanes place old (new_world place 0 0) is.lanes there
+
+    asked_by_known : (answer : Result Seen StepError) → VisitsLane (λ w. ask w session) old new session later answer → (known : Session) → known ≡ session
+        → IsActedAs segments (state_of (slice_set lanes place new) (insert sessions client later)) [] (worn_in answer)
+        (record { cluster = cluster_visited cluster place client (ask (lane_at cluster place) known); said = []; worn = worn_in (ask (lane_at cluster place) known) })
+    asked_by_known answer visits known known_is =
+        subst (λ (it : Session). IsActedAs segments (state_of (slice_set lanes place new) (insert sessions client later)) [] (worn_in answer)
+        (record { cluster = cluster_visited cluster place client (ask (lane_at cluster place) it); said = []; worn = worn_in (ask (lane_at cluster place) it) }))
+        (sym known_is)
+        (record {
+          cluster = is_after answer (ask (lane_at cluster place) session) (visits (lane_at cluster place) world_is);
+          said = refl;
+          worn = worn_after answer (ask (lane_at cluster place) session) (visits (lane_at cluster place) world_is);
+        })
+
+    accepted_by_known : (number : ℕ) (answer : Result Seen StepError) → VisitsLane (λ w. accept w number session) old new session later answer → (known : Session) → known ≡ session
+        → IsActedAs segments (state_of (slice_set lanes place new) (insert sessions client later)) (said_then session later answer) (worn_in answer)
+        (record {
+          cluster = cluster_visited cluster place client (accept (lane_at cluster place) number known);
+          said = said_in known (accept (lane_at cluster place) number known);
+          worn = worn_in (accept (lane_at cluster place) number known);
+        })
+    accepted_by_known number answer visits known known_is =
+        subst (λ (it : Session). IsActedAs segments (state_of (slice_set lanes place new) (insert sessions client later)) (said_then session later answer) (worn_in answer)
+        (record {
+          cluster = cluster_visited cluster place client (accept (lane_at cluster place) number it);
+          said = said_in it (accept (lane_at cluster place) number it);
+          worn = worn_in (accept (lane_at cluster place) number it);
+        }))
+        (sym known_is)
+        (record {
+          cluster = is_after answer (accept (lane_at cluster place) number session) (visits (lane_at cluster place) world_is);
+          said = said_after answer (accept (lane_at cluster place) number session) (visits (lane_at cluster place) world_is);
+          worn = worn_after answer (accept (lane_at cluster place) number session) (visits (lane_at cluster place) world_is);
+        })
+
+  pub asks : (lanes : List (LaneState R)) (sessions : NumberMap Session) (place client : ℕ) (old new : LaneState R) (session later : Session) (answer : Result Seen StepError)
+      → slice_get lanes place ≡ Some old → get sessions client ≡ Some session → IsInOrder sessions → VisitsLane (λ w. ask w session) old new session later answer
+      → ActsOne segments (state_of lanes sessions) (state_of (slice_set lanes place new) (insert sessions client later)) (Asks place client) [] (worn_in answer)
+  asks lanes sessions place client old new session later answer there found order visits cluster is =
+      asked_by_known cluster lanes sessions place client old new session later there found order is answer visits
+      (session_at cluster client) (session_is cluster lanes sessions place client old new session later there found order is)
+
+  pub accepts : (lanes : List (LaneState R)) (sessions : NumberMap Session) (place number client : ℕ) (old new : LaneState R) (session later : Session) (answer : Result Seen StepError)
+      → slice_get lanes place ≡ Some old → get sessions client ≡ Some session → IsInOrder sessions → VisitsLane (λ w. accept w number session) old new session later answer
+      → ActsOne segments (state_of lanes sessions) (state_of (slice_set lanes place new) (insert sessions client later)) (Accepts place number client) (said_then session later answer) (worn_in answer)
+  accepts lanes sessions place number client old new session later answer there found order visits cluster is =
+      accepted_by_known cluster lanes sessions place client old new session later there found order is number answer visits
+      (session_at cluster client) (session_is cluster lanes sessions place client old new session later there found order is)
+
+-- who has a session keeps one
+pub has_after : (sessions : NumberMap Session) (client : ℕ) (later : Session) (other : ℕ) → HasSession sessions other → HasSession (insert sessions client later) other
+has_after sessions client later other has =
+    ⊎_elim
+    (λ (is : other ≡ client). ap (λ (o : Option Session). is_some o) (get_same sessions client later other is))
+    (λ (apart : other ≡ client → ⊥). ap (λ (o : Option Session). is_some o) (get_other sessions client later other apart) ∙ has)
+    (cases_eq other client)

@@ -1,0 +1,156 @@
+-- How a client gets a session.
+use Rattle.std.proofs.Common.{◌≡◌, ◌≤◌, ◌<◌, ◌^◌, ℕ, Bool, true, false, List, [], ◌∷◌, ◌++◌, All, length, map, is_some, nat_le, Option, None, Some, refl, sym, ap, subst, ◌∙◌, arith}
+use Rattle.std.proofs.lemmas.Bool.Decides.{nat_tests}
+use Rattle.std.proofs.lemmas.List.Elements.{All-from_recursion, All-nil, All-replicate}
+use Rattle.std.specs.List.{range_with_len}
+use Rattle.rk_types.specs.NumberMap.{NumberMap, get, insert}
+use Rattle.rk_types.specs.declared.hashing.TheConstants.{LANES}
+use Rattle.rk_outside.specs.Segments.{Segments}
+use Rattle.rk_world.specs.Client.{Session, new_session}
+use Rattle.rk_world.specs.Cluster.{Cluster, Joins, Occurrence, joined_by}
+use Rattle.rk_world.specs.Premises.{IsCached, MayAct, MayHappen}
+use Rattle.rk_world.specs.Refusals.{MOST_CLIENTS}
+use Rattle.rk_world.specs.World.{new_world}
+use Rattle.rk_world.specs.declared.event.Event.{Event}
+use Rattle.rk_world.specs.declared.event.Event.TheVariants as events
+use Rattle.rk_lane.specs.LaneState.{LaneState}
+use Rattle.rk_cluster.specs.Acted.{all_acted, quietly}
+use Rattle.rk_cluster.specs.Codes.{client_code, code_where, first_code}
+use Rattle.rk_cluster.specs.Effects.{ActsBy, ActsOne, EndsIn, HasCode, IsActedAs}
+use Rattle.rk_cluster.specs.Looks.{all_lanes}
+use Rattle.rk_cluster.specs.Makes.{client_makes, in_lanes}
+use Rattle.rk_cluster.specs.State.{ClusterState, IsOf}
+use Rattle.rk_cluster.specs.Steps.{CarriesSteps, IsDeed, IsPlain, StepsEndWorn, WhereWorn, occurrences, state_of}
+use Rattle.rk_cluster.specs.declared.code.Code.{Code}
+use Rattle.rk_cluster.specs.declared.code.Code.TheVariants.{Limit, Taken}
+use Rattle.rk_cluster.specs.declared.error.ClusterError.{ClusterError}
+use Rattle.rk_cluster.specs.declared.error.ClusterError.TheVariants as errors
+use Rattle.rk_cluster.specs.declared.steps.Deed.{Deed}
+use Rattle.rk_cluster.proofs.Carrying.{only_acts}
+use Rattle.rk_cluster.proofs.Worlds.{same_count}
+
+-- ---- tests
+
+pub absent_none : {X : Type 0} (found : Option X) → is_some found ≡ false → found ≡ None
+absent_none None absent = refl
+absent_none (Some x) absent = absurd (cc absent)
+
+pub many : (count : ℕ) → MOST_CLIENTS ≤ count → nat_le MOST_CLIENTS count ≡ true
+many count much = grind (arith, nat_tests, much)
+
+pub few : (count : ℕ) → count < MOST_CLIENTS → nat_le MOST_CLIENTS count ≡ false
+few count less = grind (arith, nat_tests, less)
+
+-- the same event in each lane
+abbrev pub deeds_in : Event → List Deed
+deeds_in event = map (λ lane. record { lane = lane; event = event }) (range_with_len 0 LANES)
+
+deed_fits : (masters count lane : ℕ) (event : Event) → lane < count → IsPlain event → MayHappen (new_world 0 masters 0) event → IsDeed count masters (record { lane = lane; event = event })
+deed_fits masters count lane event there plain may = record { there = there; plain = plain; may = may }
+
+pub deeds_fit : (masters count : ℕ) (event : Event) → count ≡ LANES → IsPlain event → MayHappen (new_world 0 masters 0) event → All (IsDeed count masters) (deeds_in event)
+deeds_fit masters count event is plain may =
+    All-from_recursion (IsDeed count masters) (deeds_in event) (
+      deed_fits masters count 0 event (omega (arith, is)) plain may,
+      (
+        deed_fits masters count 1 event (omega (arith, is)) plain may,
+        (
+          deed_fits masters count 2 event (omega (arith, is)) plain may,
+          (
+            deed_fits masters count 3 event (omega (arith, is)) plain may,
+            (
+              deed_fits masters count 4 event (omega (arith, is)) plain may,
+              (
+                deed_fits masters count 5 event (omega (arith, is)) plain may,
+                (
+                  deed_fits masters count 6 event (omega (arith, is)) plain may,
+                  (
+                    deed_fits masters count 7 event (omega (arith, is)) plain may,
+                    tt,
+                  ),
+                ),
+              ),
+            ),
+          ),
+        ),
+      ),
+    )
+
+-- a new session may act
+pub new_acts : (masters client : ℕ) → 1 ≤ client → client < 2 ^ 32 → MayAct masters (new_session client)
+new_acts masters client first fits = record {
+  client = record { least_is = first; fits = fits };
+  call = tt;
+  own = tt;
+  seen = All-nil _;
+  cached = All-replicate (All (IsCached masters)) LANES [] (All-nil (IsCached masters));
+}
+
+module _ {R : Type 0} (segments : R → Option Segments) where
+  -- ---- codes
+
+  module _ (state : ClusterState R) (client : ℕ) where
+    pub client_taken : is_some (get state.sessions client) ≡ true → HasCode segments state (λ cluster. client_code cluster client) (Some Taken)
+    client_taken there cluster is =
+        let here : is_some (get cluster.sessions client) ≡ true = ap (λ (known : NumberMap Session). is_some (get known client)) is.sessions ∙ there in
+        ap (λ (b : Bool). first_code (code_where b Taken ∷ code_where (nat_le MOST_CLIENTS (length cluster.sessions)) Limit ∷ [])) here
+
+    client_by_tests : (many : Bool) → is_some (get state.sessions client) ≡ false → nat_le MOST_CLIENTS (length state.sessions) ≡ many
+        → HasCode segments state (λ cluster. client_code cluster client) (first_code (code_where false Taken ∷ code_where many Limit ∷ []))
+    client_by_tests many absent full cluster is =
+        let here : is_some (get cluster.sessions client) ≡ false = ap (λ (known : NumberMap Session). is_some (get known client)) is.sessions ∙ absent in
+        let much : nat_le MOST_CLIENTS (length cluster.sessions) ≡ many = ap (λ (known : NumberMap Session). nat_le MOST_CLIENTS (length known)) is.sessions ∙ full in
+        λ i. first_code (code_where (here i) Taken ∷ code_where (much i) Limit ∷ [])
+
+    pub client_full : is_some (get state.sessions client) ≡ false → nat_le MOST_CLIENTS (length state.sessions) ≡ true → HasCode segments state (λ cluster. client_code cluster client) (Some Limit)
+    client_full absent full = client_by_tests true absent full
+
+    pub client_free : is_some (get state.sessions client) ≡ false → nat_le MOST_CLIENTS (length state.sessions) ≡ false → HasCode segments state (λ cluster. client_code cluster client) None
+    client_free absent full = client_by_tests false absent full
+
+  -- ---- what occurs
+
+  joins : (lanes : List (LaneState R)) (sessions : NumberMap Session) (client : ℕ) → get sessions client ≡ None
+      → ActsOne segments (state_of lanes sessions) (state_of lanes (insert sessions client (new_session client))) (Joins client) [] None
+  joins lanes sessions client absent cluster is =
+      let none : get cluster.sessions client ≡ None = ap (λ (known : NumberMap Session). get known client) is.sessions ∙ absent in
+      subst (λ (found : Option Session). IsActedAs segments (state_of lanes (insert sessions client (new_session client))) [] None (quietly (joined_by cluster client found))) (sym none)
+      (record {
+        cluster = record { lanes = is.lanes; sessions = ap (λ (known : NumberMap Session). insert known client (new_session client)) is.sessions };
+        said = refl;
+        worn = refl;
+      })
+
+  -- there are eight lanes, so an event in all of them is as many deeds
+  pub made_in_all : (lanes : List (LaneState R)) (sessions : NumberMap Session) (event : Event) → length lanes ≡ LANES → (cluster : Cluster)
+      → IsOf segments (state_of lanes sessions) cluster → occurrences (deeds_in event) ≡ in_lanes (all_lanes cluster) event
+  made_in_all lanes sessions event count cluster is =
+      let many : length cluster.lanes ≡ LANES = same_count segments lanes cluster.lanes is.lanes ∙ count in
+      ap (λ (n : ℕ). in_lanes (range_with_len 0 n) event) (sym many)
+
+  pub client_acts : (old new : List (LaneState R)) (sessions later : NumberMap Session) (client : ℕ) → length old ≡ LANES → get sessions client ≡ None
+      → later ≡ insert sessions client (new_session client) → CarriesSteps segments old new (deeds_in (events.AddClient client)) []
+      → ActsBy segments (state_of old sessions) (state_of new later) (λ cluster. client_makes cluster client) [] None
+  client_acts old new sessions later client count absent put carries cluster is =
+      subst (λ (made : List Occurrence). IsActedAs segments (state_of new later) [] None (all_acted cluster (made ++ Joins client ∷ [])))
+      (made_in_all old sessions (events.AddClient client) count cluster is)
+      (carries sessions (state_of new later) (Joins client ∷ []) [] None
+      (only_acts segments (state_of new sessions) (state_of new later) (Joins client) []
+      (subst (λ (known : NumberMap Session). ActsOne segments (state_of new sessions) (state_of new known) (Joins client) [] None) (sym put) (joins new sessions client absent)))
+      cluster is)
+
+  -- an event in all lanes, with more behind it, ended where one is worn
+  pub all_worn : (old new : List (LaneState R)) (sessions : NumberMap Session) (event : Event) (more : List Occurrence) (number : ℕ) → length old ≡ LANES
+      → StepsEndWorn segments old new (deeds_in event) number
+      → ActsBy segments (state_of old sessions) (state_of new sessions) (λ cluster. in_lanes (all_lanes cluster) event ++ more) [] (Some number)
+  all_worn old new sessions event more number count worn cluster is =
+      subst (λ (made : List Occurrence). IsActedAs segments (state_of new sessions) [] (Some number) (all_acted cluster (made ++ more)))
+      (made_in_all old sessions event count cluster is) (worn sessions more cluster is)
+
+  -- how a call ends in an error, where it has no code
+  pub ends_in : (Holds : ℕ → Type 0) (old new : ClusterState R) (code_of : Cluster → Option Code) (makes : Cluster → List Occurrence) (e : ClusterError)
+      → HasCode segments old code_of None → ((number : ℕ) → Holds number → ActsBy segments old new makes [] (Some number)) → WhereWorn Holds e
+      → EndsIn segments old new code_of makes e
+  ends_in Holds old new code_of makes errors.NoMemory code gives worn = tt
+  ends_in Holds old new code_of makes (errors.Code c) code gives worn = absurd worn
+  ends_in Holds old new code_of makes (errors.Worn number) code gives worn = (code, gives number worn)

@@ -1,0 +1,80 @@
+-- Lanes and the worlds that they stand for, place by place.
+use Rattle.std.proofs.Common.{◌≡◌, ℕ, zero, suc, ◌+◌, ◌<◌, ◌≤◌, List, [], ◌∷◌, drop, length, slice_get, slice_set, slice_index_or, Option, Some, refl, sym, ap, subst, ◌∙◌, arith}
+use Rattle.rk_outside.specs.Segments.{Segments}
+use Rattle.rk_world.specs.World.{World}
+use Rattle.rk_lane.specs.LaneState.{IsSameLane, LaneState}
+use Rattle.rk_cluster.specs.State.{AreWorlds, IsWorld}
+use Rattle.rk_cluster.specs.Steps.{AreLanes}
+
+-- ---- lists
+
+-- what is put where it stands already changes nothing
+pub set_there : {X : Type 0} (xs : List X) (place : ℕ) (x : X) → slice_get xs place ≡ Some x → slice_set xs place x ≡ xs
+set_there [] place x there = refl
+set_there (y ∷ ys) zero x there = let same : y ≡ x = cc there in ap (λ first. first ∷ ys) (sym same)
+set_there (y ∷ ys) (suc place) x there = ap (λ rest. y ∷ rest) (set_there ys place x there)
+
+-- within a list something stands
+pub there_within : {X : Type 0} (xs : List X) (place : ℕ) (d : X) → place < length xs → slice_get xs place ≡ Some (slice_index_or xs place d)
+there_within [] place d within = absurd (omega (arith, within))
+there_within (x ∷ xs) zero d within = refl
+there_within (x ∷ xs) (suc place) d within = there_within xs place d (omega (arith, within))
+
+pub there_read : {X : Type 0} (xs : List X) (place : ℕ) (x : X) → place < length xs → x ≡ slice_index_or xs place x → slice_get xs place ≡ Some x
+there_read xs place x within read = there_within xs place x within ∙ ap Some (sym read)
+
+-- what is left of a list begins with the next element
+pub drop_next : {X : Type 0} (xs : List X) (place : ℕ) (d : X) → place < length xs → drop place xs ≡ slice_index_or xs place d ∷ drop (place + 1) xs
+drop_next [] place d within = absurd (omega (arith, within))
+drop_next (x ∷ xs) zero d within = refl
+drop_next (x ∷ xs) (suc place) d within =
+    drop_next xs place d (omega (arith, within)) ∙ (let next : suc (place + 1) ≡ suc place + 1 = omega arith in ap (λ (n : ℕ). slice_index_or xs place d ∷ drop n (x ∷ xs)) next)
+
+-- nothing is left of it in the end
+pub drop_past : {X : Type 0} (xs : List X) (place : ℕ) → length xs ≤ place → drop place xs ≡ []
+drop_past [] zero past = refl
+drop_past [] (suc place) past = refl
+drop_past (x ∷ xs) zero past = absurd (omega (arith, past))
+drop_past (x ∷ xs) (suc place) past = drop_past xs place (omega (arith, past))
+
+-- ---- worlds
+
+module _ {R : Type 0} (segments : R → Option Segments) where
+  pub world_at : (lanes : List (LaneState R)) (worlds : List World) (place : ℕ) (lane : LaneState R) (d : World)
+      → AreWorlds segments lanes worlds → slice_get lanes place ≡ Some lane → IsWorld segments lane (slice_index_or worlds place d)
+  world_at [] worlds place lane d are there = absurd (cc there)
+  world_at (first ∷ lanes) [] place lane d are there = absurd are
+  world_at (first ∷ lanes) (w ∷ worlds) zero lane d are there =
+      let same : first ≡ lane = cc there in subst (λ (it : LaneState R). IsWorld segments it w) same are.0
+  world_at (first ∷ lanes) (w ∷ worlds) (suc place) lane d are there = world_at lanes worlds place lane d are.1 there
+
+  pub world_set : (lanes : List (LaneState R)) (worlds : List World) (place : ℕ) (lane : LaneState R) (w : World)
+      → AreWorlds segments lanes worlds → IsWorld segments lane w → AreWorlds segments (slice_set lanes place lane) (slice_set worlds place w)
+  world_set [] [] place lane w are is = tt
+  world_set [] (v ∷ worlds) place lane w are is = absurd are
+  world_set (first ∷ lanes) [] place lane w are is = absurd are
+  world_set (first ∷ lanes) (v ∷ worlds) zero lane w are is = (is, are.1)
+  world_set (first ∷ lanes) (v ∷ worlds) (suc place) lane w are is = (are.0, world_set lanes worlds place lane w are.1 is)
+
+  pub same_count : (lanes : List (LaneState R)) (worlds : List World) → AreWorlds segments lanes worlds → length worlds ≡ length lanes
+  same_count [] [] are = refl
+  same_count [] (v ∷ worlds) are = absurd are
+  same_count (first ∷ lanes) [] are = absurd are
+  same_count (first ∷ lanes) (v ∷ worlds) are = ap suc (same_count lanes worlds are.1)
+
+-- ---- numbers and masters
+
+module _ {R : Type 0} (masters : ℕ) where
+  pub lane_set : (from : ℕ) (lanes : List (LaneState R)) (place : ℕ) (old new : LaneState R) → slice_get lanes place ≡ Some old → IsSameLane old new
+      → AreLanes masters from lanes → AreLanes masters from (slice_set lanes place new)
+  lane_set from [] place old new there same are = tt
+  lane_set from (first ∷ lanes) zero old new there same are =
+      let is : first ≡ old = cc there in
+      (same.number ∙ ap (λ (it : LaneState R). it.number) (sym is) ∙ are.0, same.masters ∙ ap (λ (it : LaneState R). it.masters) (sym is) ∙ are.1, are.2)
+  lane_set from (first ∷ lanes) (suc place) old new there same are = (are.0, are.1, lane_set (from + 1) lanes place old new there same are.2)
+
+  pub masters_at : (from : ℕ) (lanes : List (LaneState R)) (place : ℕ) (lane : LaneState R) → slice_get lanes place ≡ Some lane
+      → AreLanes masters from lanes → lane.masters ≡ masters
+  masters_at from [] place lane there are = absurd (cc there)
+  masters_at from (first ∷ lanes) zero lane there are = let is : first ≡ lane = cc there in ap (λ (it : LaneState R). it.masters) (sym is) ∙ are.1
+  masters_at from (first ∷ lanes) (suc place) lane there are = masters_at (from + 1) lanes place lane there are.2

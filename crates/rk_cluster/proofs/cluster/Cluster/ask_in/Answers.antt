@@ -1,0 +1,20 @@
+use Rattle.std.proofs.Common.{[], None, Some, IfErr, OnOk, sym, subst}
+use Rattle.rk_world.specs.Cluster.{Asks}
+use Rattle.rk_cluster.specs.Effects.{ActsOne}
+use Rattle.rk_cluster.specs.State.{ClusterState}
+use Rattle.rk_cluster.specs.Steps.{WhereWorn, state_of}
+use Rattle.rk_cluster.specs.Visits.{HasSession}
+use Rattle.rk_cluster.proofs.cluster.Cluster.ask_in.Goals as goal
+
+pub ask_in-requires-clause-session : goal.ask_in-requires-clause-session
+ask_in-requires-clause-session g c = subst (λ (state : ClusterState g.row.R.Denot). HasSession state.sessions c.args.client) (sym c.self.view_is) c.requires.session
+
+pub returns-clause-ok : goal.returns-clause-ok
+returns-clause-ok g c =
+    subst (λ (state : ClusterState g.row.R.Denot). OnOk c.ask_in.result (ActsOne g.R.Replica.segments state (state_of c.ask_in.new.lanes.items c.ask_in.new.sessions.entries) (Asks c.args.lane c.args.client) [] None))
+    c.self.view_is c.ask_in.ensures.ok
+
+pub returns-clause-err : goal.returns-clause-err
+returns-clause-err g c =
+    subst (λ (state : ClusterState g.row.R.Denot). IfErr c.ask_in.result (WhereWorn (λ number. ActsOne g.R.Replica.segments state (state_of c.ask_in.new.lanes.items c.ask_in.new.sessions.entries) (Asks c.args.lane c.args.client) [] (Some number))))
+    c.self.view_is c.ask_in.ensures.err

@@ -1,0 +1,53 @@
+-- What a call makes of a cluster in code.
+use Rattle.std.specs.Prelude.{◌≡◌, ℕ, List, [], ◌++◌, Option, None, Some, ⊤}
+use Rattle.rk_types.specs.declared.node.Said.{Said}
+use Rattle.rk_outside.specs.Segments.{Segments}
+use Rattle.rk_world.specs.Cluster.{Cluster, Occurrence}
+use Rattle.rk_cluster.specs.Acted.{Acted, acted, all_acted}
+use Rattle.rk_cluster.specs.State.{ClusterState, IsOf}
+use Rattle.rk_cluster.specs.declared.code.Code.{Code}
+use Rattle.rk_cluster.specs.declared.error.ClusterError.{ClusterError}
+use Rattle.rk_cluster.specs.declared.error.ClusterError.TheVariants as errors
+
+-- this came of some events: the cluster in code stands for the one after them, this was said, and this is worn
+pub record IsActedAs {R : Type 0} (segments : R → Option Segments) (state : ClusterState R) (told : List Said) (broken : Option ℕ) (it : Acted) : Type 0 where
+  pub cluster : IsOf segments state it.cluster
+  pub said : it.said ≡ told
+  pub worn : it.worn ≡ broken
+
+-- of each cluster that the old one in code stood for, an occurrence makes one that the new one stands for
+abbrev pub ActsOne : {R : Type 0} → (R → Option Segments) → ClusterState R → ClusterState R → Occurrence → List Said → Option ℕ → Type 0
+ActsOne segments old new occurrence told broken =
+    (cluster : Cluster) → IsOf segments old cluster → IsActedAs segments new told broken (acted cluster occurrence)
+
+-- so do these occurrences, one after the other
+abbrev pub Acts : {R : Type 0} → (R → Option Segments) → ClusterState R → ClusterState R → List Occurrence → List Said → Option ℕ → Type 0
+Acts segments old new occurrences told broken =
+    (cluster : Cluster) → IsOf segments old cluster → IsActedAs segments new told broken (all_acted cluster occurrences)
+
+-- of all occurrences these are left: what comes of these, and more behind them, comes of all and more
+abbrev pub Carries : {R : Type 0} → (R → Option Segments) → ClusterState R → ClusterState R → List Occurrence → List Occurrence → Type 0
+Carries {R} segments old now all left =
+    (final : ClusterState R) (more : List Occurrence) (told : List Said) (broken : Option ℕ)
+    → Acts segments now final (left ++ more) told broken → Acts segments old final (all ++ more) told broken
+
+-- what a call makes of a cluster comes of it
+abbrev pub ActsBy : {R : Type 0} → (R → Option Segments) → ClusterState R → ClusterState R → (Cluster → List Occurrence) → List Said → Option ℕ → Type 0
+ActsBy segments old new makes told broken =
+    (cluster : Cluster) → IsOf segments old cluster → IsActedAs segments new told broken (all_acted cluster (makes cluster))
+
+-- the code of a call is this, or it has none
+abbrev pub HasCode : {R : Type 0} → (R → Option Segments) → ClusterState R → (Cluster → Option Code) → Option Code → Type 0
+HasCode segments state code_of code = (cluster : Cluster) → IsOf segments state cluster → code_of cluster ≡ code
+
+-- a call is carried out: it has no code, and what it makes has come
+pub record IsCarriedOut {R : Type 0} (segments : R → Option Segments) (old new : ClusterState R) (code_of : Cluster → Option Code) (makes : Cluster → List Occurrence) (told : List Said) : Type 0 where
+  pub code : HasCode segments old code_of None
+  pub acts : ActsBy segments old new makes told None
+
+-- a call ends in an error: it is refused by its code and changes nothing, or a lane is worn, and what came before has happened
+abbrev pub EndsIn : {R : Type 0} → (R → Option Segments) → ClusterState R → ClusterState R → (Cluster → Option Code) → (Cluster → List Occurrence) → ClusterError → Type 0
+EndsIn segments old new code_of makes (errors.Code code) = HasCode segments old code_of (Some code) × (new ≡ old)
+EndsIn segments old new code_of makes (errors.Worn number) =
+    HasCode segments old code_of None × ActsBy segments old new makes [] (Some number)
+EndsIn segments old new code_of makes errors.NoMemory = ⊤

@@ -1,0 +1,184 @@
+ghost use Rattle.std.specs.Prelude.{◌≡◌, ◌≤◌, ◌<◌, [], length, None, Some, IfOk, IfErr, OnOk};
+ghost use Rattle.std.specs.Option.{option_copied};
+ghost use Rattle.rk_types.specs.NumberMap.{get};
+ghost use Rattle.rk_types.specs.declared.hashing.TheConstants.{LANES};
+ghost use Rattle.rk_world.specs.Cluster.{Asks};
+ghost use Rattle.rk_world.specs.Premises.{IsMaster, MOST_MASTERS};
+ghost use Rattle.rk_cluster.specs.Codes.{client_code, notice_code, place_code};
+ghost use Rattle.rk_cluster.specs.Effects.{ActsOne, EndsIn, IsCarriedOut};
+ghost use Rattle.rk_cluster.specs.Makes.{client_makes, forget_makes, notice_makes};
+ghost use Rattle.rk_cluster.specs.State.{has_spent};
+ghost use Rattle.rk_cluster.specs.Steps.{AreLanes, WhereWorn};
+ghost use Rattle.rk_cluster.specs.Visits.{HasSession};
+
+use crate::code::Code;
+use crate::error::ClusterError;
+use crate::sessions::{count, has_session, put_session};
+use crate::steps::{act, act_all, in_all_lanes};
+use crate::visits::ask_in;
+use rk_lane::Lane;
+use rk_outside::Replica;
+use rk_session::Session;
+use rk_types::Said;
+use rk_world::Event;
+use std::alloc::Global;
+use std::collections::BTreeMap;
+use std::marker::Model;
+
+/// As many clients as may have sessions.
+const MOST_CLIENTS: usize = 64;
+
+/// Eight lanes, and the sessions of the clients that act in them. Contracts see the lanes, and the session of each client.
+#[derive(Drop)]
+pub struct Cluster<R> {
+    // How many masters each lane has.
+    masters: u8,
+    lanes: Vec<Lane<R>>,
+    sessions: BTreeMap<u32, Session>,
+}
+
+impl<R> Model for Cluster<R> {
+    ghost use Rattle.rk_cluster.specs.State.{ClusterState};
+
+    ghost Value = { ClusterState R };
+
+    ghost use Rattle.rk_cluster.specs.Inside.{IsCluster, cluster_of};
+
+    ghost view = { cluster_of };
+
+    ghost invariant = { IsCluster };
+}
+
+impl<R: Replica + Drop> Cluster<R> {
+    /// A cluster of eight lanes, lane 0 first, with so many masters each; no client has a session. Takes no memory.
+    pub fn new(alloc: Global, masters: u8, lanes: Vec<Lane<R>>) -> Cluster<R>
+        requires eight { length lanes.items ≡ LANES }
+        requires lanes { AreLanes masters 0 lanes.items }
+        requires masters { IsMaster MOST_MASTERS masters }
+        ensures lanes { result.lanes ≡ lanes.items }
+        ensures sessions { result.sessions ≡ [] }
+    {
+        Cluster {
+            masters,
+            lanes,
+            sessions: BTreeMap::new(alloc),
+        }
+    }
+
+    /// The lanes, lane 0 first, out of the cluster, also of one with a lane that is spent. Takes no memory.
+    pub fn into_lanes(self) -> Vec<Lane<R>>
+        ensures { result.items ≡ self.lanes }
+    {
+        self.lanes
+    }
+
+    /// Whether some lane is spent: memory was wanting within an event there.
+    pub fn spent(&self) -> bool
+        ensures { result ≡ has_spent self.now.lanes }
+    {
+        self.lanes.iter().any(|lane| lane.spent())
+    }
+
+    /// The lanes, lane 0 first.
+    pub fn lanes(&self) -> &[Lane<R>]
+        ensures { result.now ≡ self.now.lanes }
+    {
+        self.lanes.as_slice()
+    }
+
+    /// A client gets a session, and may act in each lane. A search for it, and the time to add it in each lane.
+    pub fn add_client(&mut self, client: u32) -> Result<Vec<Said>, ClusterError>
+        requires { 1 ≤ client }
+        ensures ok { IfOk result (λ said. IsCarriedOut R.segments self.old self.new
+            (λ cluster. client_code cluster client) (λ cluster. client_makes cluster client) said.items) }
+        ensures err { IfErr result (EndsIn R.segments self.old self.new (λ cluster. client_code cluster client)
+            (λ cluster. client_makes cluster client)) }
+    {
+        if has_session(&self.sessions, client) {
+            return Err(ClusterError::Code(Code::Taken));
+        }
+        if count(&self.sessions) >= MOST_CLIENTS {
+            return Err(ClusterError::Code(Code::Limit));
+        }
+        let alloc = self.alloc();
+        let deeds = in_all_lanes(Event::AddClient(client));
+        act_all(&mut self.lanes, self.masters, &deeds)?;
+        put_session(&mut self.sessions, client, Session::new(alloc, client))?;
+        Ok(nothing_said(alloc))
+    }
+
+    /// The session of a client, if it has one. One search.
+    pub fn session(&self, client: u32) -> Option<&Session>
+        ensures { option_copied result ≡ get self.now.sessions client }
+    {
+        self.sessions.get(&client)
+    }
+
+    /// A client that has a session takes its turn in a lane. A session that does not fit the lane changes nothing. What that
+    /// takes in the lane.
+    pub fn ask_in(&mut self, lane: u8, client: u32) -> Result<(), ClusterError>
+        requires there { lane < LANES }
+        requires session { HasSession self.old.sessions client }
+        ensures ok { OnOk result (ActsOne R.segments self.old self.new (Asks lane client) [] None) }
+        ensures err { IfErr result (WhereWorn (λ number. ActsOne R.segments self.old self.new (Asks lane client) [] (Some number))) }
+    {
+        ask_in(
+            &mut self.lanes,
+            &mut self.sessions,
+            self.masters,
+            lane,
+            client,
+        )
+    }
+
+    /// The coordinators learn that a master has crashed. What the notice takes in each lane.
+    pub fn notice(&mut self, master: u8) -> Result<Vec<Said>, ClusterError>
+        ensures ok { IfOk result (λ said. IsCarriedOut R.segments self.old self.new
+            (λ cluster. notice_code cluster master) (λ cluster. notice_makes cluster master) said.items) }
+        ensures err { IfErr result (EndsIn R.segments self.old self.new (λ cluster. notice_code cluster master)
+            (λ cluster. notice_makes cluster master)) }
+    {
+        let alloc = self.alloc();
+        let first = &self.lanes[0];
+        // A lane that is asked whether it is spent tells that its coordinator counts its masters.
+        let _spent = first.spent();
+        if master < 1 || master > self.masters {
+            return Err(ClusterError::Code(Code::Unknown));
+        }
+        if !first.crashed(master) {
+            return Err(ClusterError::Code(Code::Alive));
+        }
+        let deeds = in_all_lanes(Event::Notice(master));
+        act_all(&mut self.lanes, self.masters, &deeds)?;
+        Ok(nothing_said(alloc))
+    }
+
+    /// The message at a place of a lane's wire, counted from 1, the oldest first, is forgotten. A step for each message up to
+    /// there.
+    pub fn forget(&mut self, lane: u8, place: u32) -> Result<Vec<Said>, ClusterError>
+        requires { lane < LANES }
+        ensures ok { IfOk result (λ said. IsCarriedOut R.segments self.old self.new
+            (λ cluster. place_code cluster lane place) (λ cluster. forget_makes cluster lane place) said.items) }
+        ensures err { IfErr result (EndsIn R.segments self.old self.new (λ cluster. place_code cluster lane place)
+            (λ cluster. forget_makes cluster lane place)) }
+    {
+        let alloc = self.alloc();
+        let Some(number) = self.lanes[lane as usize].wire().at(place) else {
+            return Err(ClusterError::Code(Code::NoPlace));
+        };
+        act(&mut self.lanes, lane, Event::Forget(number))?;
+        Ok(nothing_said(alloc))
+    }
+
+    // Where what is made takes its memory.
+    fn alloc(&self) -> Global {
+        *self.lanes.allocator()
+    }
+}
+
+// No client said anything.
+fn nothing_said(alloc: Global) -> Vec<Said>
+    ensures { result.items ≡ [] }
+{
+    Vec::new(alloc)
+}

@@ -1,0 +1,81 @@
+// How events come to the lanes of a cluster.
+ghost use Rattle.std.specs.Prelude.{◌≡◌, ◌<◌, [], ℕ, All, length, map, Some, None, IfErr, OnOk};
+ghost use Rattle.std.specs.List.{range_with_len};
+ghost use Rattle.rk_types.specs.declared.hashing.TheConstants.{LANES};
+ghost use Rattle.rk_cluster.specs.Steps.{AreLanes, CarriesSteps, IsDeed, IsHappening, MayComeAt, StepsEndWorn, WhereWorn, failure_of};
+
+use crate::error::ClusterError;
+use rk_lane::Lane;
+use rk_outside::Replica;
+use rk_world::{Event, Seen, StepError};
+
+/// An event, and its lane.
+#[derive(Clone, Copy)]
+pub(crate) struct Deed {
+    pub(crate) lane: u8,
+    pub(crate) event: Event,
+}
+
+/// An event comes to a lane. A refusal of it is passed over, unless the lane is worn or memory is wanting.
+pub(crate) fn act<R: Replica + Drop>(
+    lanes: &mut Vec<Lane<R>>,
+    lane: u8,
+    event: Event,
+) -> Result<(), ClusterError>
+    requires there { lane < length lanes.old.items }
+    requires may { MayComeAt lanes.old.items lane event }
+    ensures ok { OnOk result (IsHappening R.segments lanes.old.items lanes.new.items lane event None) }
+    ensures err { IfErr result (WhereWorn (λ number. IsHappening R.segments lanes.old.items lanes.new.items lane event (Some number))) }
+    ensures lanes { (masters : ℕ) → AreLanes masters 0 lanes.old.items → AreLanes masters 0 lanes.new.items }
+    ensures count { length lanes.new.items ≡ length lanes.old.items }
+{
+    let answer = lanes[lane as usize].step(event);
+    heard(&answer)
+}
+
+/// What a call makes of a lane's answer.
+pub(crate) fn heard(answer: &Result<Seen, StepError>) -> Result<(), ClusterError>
+    ensures ok { OnOk result (failure_of answer.now ≡ None) }
+    ensures err { IfErr result (λ e. failure_of answer.now ≡ Some e) }
+{
+    match answer {
+        Err(StepError::NoMemory) => Err(ClusterError::NoMemory),
+        Err(StepError::Worn(number)) => Err(ClusterError::Worn(*number)),
+        _ => Ok(()),
+    }
+}
+
+/// Deeds are done, one after the other, up to one that finds its lane worn.
+pub(crate) fn act_all<R: Replica + Drop>(
+    lanes: &mut Vec<Lane<R>>,
+    masters: u8,
+    deeds: &[Deed],
+) -> Result<(), ClusterError>
+    requires lanes { AreLanes masters 0 lanes.old.items }
+    requires may { All (IsDeed (length lanes.old.items) masters) deeds.now }
+    ensures ok { OnOk result (CarriesSteps R.segments lanes.old.items lanes.new.items deeds.now []) }
+    ensures err { IfErr result (WhereWorn (StepsEndWorn R.segments lanes.old.items lanes.new.items deeds.now)) }
+    ensures lanes { AreLanes masters 0 lanes.new.items }
+    ensures count { length lanes.new.items ≡ length lanes.old.items }
+{
+    for deed in deeds {
+        act(lanes, deed.lane, deed.event)?;
+    }
+    Ok(())
+}
+
+/// The same event in each lane.
+pub(crate) fn in_all_lanes(event: Event) -> [Deed; 8]
+    ensures { result ≡ map (λ lane. record { lane = lane; event = event }) (range_with_len 0 LANES) }
+{
+    [
+        Deed { lane: 0, event },
+        Deed { lane: 1, event },
+        Deed { lane: 2, event },
+        Deed { lane: 3, event },
+        Deed { lane: 4, event },
+        Deed { lane: 5, event },
+        Deed { lane: 6, event },
+        Deed { lane: 7, event },
+    ]
+}

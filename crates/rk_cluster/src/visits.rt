@@ -1,0 +1,43 @@
+// How clients take their turns and their answers in the lanes of a cluster.
+ghost use Rattle.std.specs.Prelude.{◌≡◌, ◌<◌, [], ℕ, length, Some, None, IfErr, OnOk};
+ghost use Rattle.rk_world.specs.Cluster.{Asks};
+ghost use Rattle.rk_cluster.specs.Effects.{ActsOne};
+ghost use Rattle.rk_cluster.specs.Steps.{AreLanes, MayAllAct, WhereWorn, state_of};
+ghost use Rattle.rk_cluster.specs.Visits.{HasSession};
+
+use crate::error::ClusterError;
+use crate::steps::heard;
+use rk_lane::Lane;
+use rk_outside::Replica;
+use rk_session::Session;
+use std::collections::BTreeMap;
+
+/// A client that has a session takes its turn in a lane. A refusal is passed over, unless the lane is worn or memory is
+/// wanting.
+pub(crate) fn ask_in<R: Replica + Drop>(
+    lanes: &mut Vec<Lane<R>>,
+    sessions: &mut BTreeMap<u32, Session>,
+    masters: u8,
+    lane: u8,
+    client: u32,
+) -> Result<(), ClusterError>
+    requires there { lane < length lanes.old.items }
+    requires session { HasSession sessions.old.entries client }
+    requires lanes { AreLanes masters 0 lanes.old.items }
+    requires acts { MayAllAct masters sessions.old.entries }
+    ensures ok { OnOk result (ActsOne R.segments (state_of lanes.old.items sessions.old.entries)
+        (state_of lanes.new.items sessions.new.entries) (Asks lane client) [] None) }
+    ensures err { IfErr result (WhereWorn (λ number. ActsOne R.segments (state_of lanes.old.items sessions.old.entries)
+        (state_of lanes.new.items sessions.new.entries) (Asks lane client) [] (Some number))) }
+    ensures lanes { AreLanes masters 0 lanes.new.items }
+    ensures count { length lanes.new.items ≡ length lanes.old.items }
+    ensures acts { MayAllAct masters sessions.new.entries }
+    ensures clients { (other : ℕ) → HasSession sessions.old.entries other → HasSession sessions.new.entries other }
+{
+    let Some(session) = sessions.get_mut(&client) else {
+        return Ok(());
+    };
+    let at = &mut lanes[lane as usize];
+    let answer = at.ask(session);
+    heard(&answer)
+}
