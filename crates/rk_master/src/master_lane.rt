@@ -1,8 +1,10 @@
-ghost use Rattle.std.specs.Prelude.{◌≡◌, ◌≤◌, false, ◌-◌, ◌^◌, length, min, Some, None, replicate, IfSome, IsSomeAnd, IfOk, OnOk, OnErr};
+ghost use Rattle.std.specs.Prelude.{◌≡◌, ◌≤◌, false, ◌-◌, ◌^◌, ◌++◌, [], length, min, Some, None, replicate, IfSome, IsSomeAnd, IfOk, OnOk, OnErr};
 ghost use Rattle.std.specs.Option.{option_map_or};
 ghost use Rattle.rk_log.specs.Cut.{EachFits};
 ghost use Rattle.rk_log.specs.Known.{nothing};
 ghost use Rattle.rk_log.specs.Log.{bytes_of};
+ghost use Rattle.rk_priority.specs.Hashes.{is_waiting as is_waiting_lem};
+ghost use Rattle.rk_table.specs.Items.{live_in};
 ghost use Rattle.rk_world.specs.Master.{is_staged, log_bytes as log_bytes_lem, new_master, staged, tablet_at};
 ghost use Rattle.rk_world.specs.MasterStep.{master_step};
 ghost use Rattle.rk_world.specs.MasterTurn.{master_turn};
@@ -15,13 +17,14 @@ use crate::messages::take_message;
 use crate::splits::split;
 use crate::state::MasterState;
 use crate::sums::{greatest_counter, log_bytes};
-use crate::tablets::{handover_of, serve};
+use crate::tablets::{handover_of, is_waiting, serve};
 use crate::turn::take_turn;
 use crate::work::Worked;
 use rk_log::MOST_BACKUPS;
 use rk_message::Message;
+use rk_table::RecordTable;
 use rk_transfer::Role;
-use rk_types::{NoMemory, Range};
+use rk_types::{Held, NoMemory, Range};
 use std::alloc::Global;
 use std::marker::Model;
 
@@ -207,6 +210,47 @@ impl MasterLane {
             return 0;
         }
         handover_of(self.state.tablets.as_slice(), tablet).counter
+    }
+
+    /// The term of a tablet, which is 0 for one that the master does not know; 0 where it is spent. A binary search.
+    pub fn term(&self, tablet: u32) -> u64
+        ensures { result ≡ option_map_or (λ master. (tablet_at master tablet).handover.term) self.now 0 }
+    {
+        if self.spent {
+            return 0;
+        }
+        handover_of(self.state.tablets.as_slice(), tablet).term
+    }
+
+    /// Whether a tablet asked for hashes that have not come, or has some to ask for; false where the master is spent. A
+    /// binary search.
+    pub fn is_waiting(&self, tablet: u32) -> bool
+        ensures { result ≡ option_map_or (λ master. is_waiting_lem (tablet_at master tablet).pulling.hashes) self.now false }
+    {
+        !self.spent && is_waiting(self.state.tablets.as_slice(), tablet)
+    }
+
+    /// How many entries of the log are applied; 0 where the master is spent. In constant time.
+    pub fn applied(&self) -> u64
+        ensures { result ≡ option_map_or (λ master. master.applied) self.now 0 }
+    {
+        if self.spent {
+            return 0;
+        }
+        self.state.applied
+    }
+
+    /// Appends duplicates of the live records of the range, in scan order; none where the master is spent. After
+    /// `NoMemory` `into` is as it was. A step for each record.
+    pub fn live_items(&self, range: &Range, into: &mut Vec<Held>) -> Result<(), NoMemory>
+        ensures ok { OnOk result (into.new.items ≡ into.old.items
+            ++ option_map_or (λ master. live_in range.now master.records) self.now []) }
+        ensures err { OnErr result (into.new.items ≡ into.old.items) }
+    {
+        if self.spent {
+            return Ok(());
+        }
+        self.state.records.live_items(range, into)
     }
 
     /// How many entries of the log are not applied; 0 where the master is spent. In constant time.

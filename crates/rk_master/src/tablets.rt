@@ -4,6 +4,7 @@ ghost use Rattle.std.specs.Int.{w64};
 ghost use Rattle.std.specs.List.{list_all};
 ghost use Rattle.rk_types.specs.NumberMap.{IsInOrder, get, insert};
 ghost use Rattle.rk_entry.specs.Numbers.{IsNumber};
+ghost use Rattle.rk_priority.specs.Hashes.{is_waiting as is_waiting_lem};
 ghost use Rattle.rk_world.specs.Tablet.{no_tablet, with_handover, without_merged};
 ghost use Rattle.rk_world.specs.Handovers.{is_above};
 ghost use Rattle.rk_world.specs.Requests.{counted_up, with_wanted};
@@ -87,6 +88,17 @@ pub(crate) fn handover_of(tablets: &[(u32, TabletLane)], number: u32) -> Handove
     match search(tablets, number) {
         Ok(at) => tablets[at].1.handover,
         Err(_) => NO_HANDOVER,
+    }
+}
+
+/// Whether the tablet of this number asked for hashes that have not come, or has some to ask for. One binary search.
+pub(crate) fn is_waiting(tablets: &[(u32, TabletLane)], number: u32) -> bool
+    requires { IsInOrder tablets.now }
+    ensures { result ≡ is_waiting_lem (tablet_in tablets.now number).pulling.hashes }
+{
+    match search(tablets, number) {
+        Ok(at) => tablets[at].1.wanted.is_waiting(),
+        Err(_) => false,
     }
 }
 

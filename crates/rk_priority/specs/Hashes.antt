@@ -1,5 +1,5 @@
 -- The hashes that a tablet asks for before all others: those that are wanted, that were asked for, and that have come.
-use Rattle.std.specs.Prelude.{◌≢◌, ℕ, ◌≤◌, Bool, false, List, [], ◌∷◌, ◌++◌, length, take, drop, if◌then◌else◌, bytes_eq, ◌==◌, AllPairs}
+use Rattle.std.specs.Prelude.{◌≢◌, ℕ, ◌≤◌, Bool, false, not, ◌||◌, List, [], ◌∷◌, ◌++◌, length, take, drop, if◌then◌else◌, bytes_eq, ◌==◌, AllPairs}
 use Rattle.std.specs.List.{list_any}
 use Rattle.rk_priority.specs.declared.wanted.TheConstants.{BATCH_HASHES}
 
@@ -29,6 +29,10 @@ contains hashes hash = list_any (λ h. h == hash) hashes
 -- whether the hash is wanted, outstanding or resolved
 abbrev pub is_known : Hashes → ℕ → Bool
 is_known hashes hash = contains (all_hashes hashes) hash
+
+-- whether a batch is asked for and has not come, or there is one to ask for
+abbrev pub is_waiting : Hashes → Bool
+is_waiting hashes = not (length hashes.outstanding == 0) || not (length hashes.wanted == 0)
 
 -- after a hash is wanted: a known one changes nothing
 abbrev pub wanting : Hashes → ℕ → Hashes

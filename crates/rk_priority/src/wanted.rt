@@ -1,6 +1,6 @@
 ghost use Rattle.std.specs.Prelude.{◌≡◌, ◌≢◌, ◌≤◌, not, length, OnOk, OnErr, IfOk, AllPairs};
 ghost use Rattle.std.specs.Borrow.{sem};
-ghost use Rattle.rk_priority.specs.Hashes.{Hashes, AreApart, no_hashes, contains, is_known, wanting, batched, is_batch, got as got_lem};
+ghost use Rattle.rk_priority.specs.Hashes.{Hashes, AreApart, no_hashes, contains, is_known, is_waiting as is_waiting_lem, wanting, batched, is_batch, got as got_lem};
 
 use rk_types::NoMemory;
 use std::alloc::Global;
@@ -107,6 +107,13 @@ impl Wanted {
         ensures apart { AreApart self.now }
     {
         has(self.hashes.split_at(self.resolved).0, hash)
+    }
+
+    /// Whether a batch is asked for and has not come, or there is one to ask for. In constant time.
+    pub fn is_waiting(&self) -> bool
+        ensures { result ≡ is_waiting_lem self.now }
+    {
+        self.resolved < self.hashes.len()
     }
 
     /// Forgets all hashes, resolved ones too.

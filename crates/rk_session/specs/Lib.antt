@@ -1,3 +1,4 @@
 pub mod Cached
 pub mod Fields
 pub mod Turns
+pub mod Owners

@@ -6,6 +6,7 @@ ghost use Rattle.rk_message.specs.declared.calls.Reply.{Reply as Answered};
 ghost use Rattle.rk_world.specs.Client.{busy, done, lookup_of as lookup_of_lem, new_session, receipt_of as receipt_of_lem};
 ghost use Rattle.rk_world.specs.Client.{Session as Known, request_of as request_of_lem, session_accept, session_turn, with_next_call};
 ghost use Rattle.rk_session.specs.Turns.{address_of as address_of_lem, message_of, session_after};
+ghost use Rattle.rk_session.specs.Owners.{cached_owner, known_owner as known_owner_lem, looks_up as looks_up_lem};
 
 use crate::cached_ranges::CachedRanges;
 use crate::error::AskError;
@@ -162,6 +163,28 @@ impl Session {
         self.receipts.as_slice()
     }
 
+    /// Who owns the key of the outstanding call, as far as the client knows; none where no call is outstanding. A look at
+    /// each cached range of the call's lane.
+    pub fn known_owner(&self) -> Option<u8>
+        ensures { result ≡ known_owner_lem self.now }
+    {
+        match &self.outstanding {
+            Some(call) => owner_of(self.cached.find(call)),
+            None => None,
+        }
+    }
+
+    /// Whether the client asks on its turn where the key of its outstanding call is. A look at each cached range of the
+    /// call's lane.
+    pub fn looks_up(&self) -> bool
+        ensures { result ≡ looks_up_lem self.now }
+    {
+        match &self.outstanding {
+            Some(call) => address_of(self.requests, self.cached.find(call)).is_none(),
+            None => false,
+        }
+    }
+
     // Takes in where a range is.
     fn accept_located(&mut self, located: Located) -> Taken
         ensures taken { result ≡ (session_accept self.old (bodies.Located located)).taken }
@@ -247,6 +270,13 @@ fn address_of(requests: u8, located: Option<Located>) -> Option<(u32, u8)>
         return None;
     }
     owner.map(|master| (tablet, master))
+}
+
+// The owner of a cached range, if one is cached.
+fn owner_of(located: Option<Located>) -> Option<u8>
+    ensures { result ≡ cached_owner located }
+{
+    located?.owner
 }
 
 // The question of a client where the key of a call is.

@@ -1,7 +1,7 @@
 -- priority: in each lane where a tablet moves, its target asks for the records that it wants first, if it wants some, and gets them.
-use Rattle.std.specs.Prelude.{ℕ, ◌==◌, ◌&&◌, ◌||◌, Bool, not, length, if◌then◌else◌, List, [], ◌∷◌, map, Option, Some, None}
+use Rattle.std.specs.Prelude.{ℕ, ◌&&◌, Bool, if◌then◌else◌, List, [], ◌∷◌, map, Option, Some, None}
 use Rattle.rk_types.specs.declared.node.Node.TheVariants as nodes
-use Rattle.rk_priority.specs.Hashes.{Hashes}
+use Rattle.rk_priority.specs.Hashes.{is_waiting}
 use Rattle.rk_tablet_map.specs.Rows.{row_of}
 use Rattle.rk_tablet_map.specs.declared.phase.Phase.{Phase}
 use Rattle.rk_tablet_map.specs.declared.phase.Phase.TheVariants.{Moving}
@@ -14,13 +14,9 @@ use Rattle.rk_settle.specs.Settle.{lane_numbers}
 use Rattle.rk_settle.specs.Tasks.{Task, Hastens, turn_exchange}
 use Rattle.rk_settle.specs.Topics.{OfWants}
 
--- whether a batch of hashes was asked for and has not come, or there is one to ask for
-abbrev pub has_batch : Hashes → Bool
-has_batch hashes = not (length hashes.outstanding == 0) || not (length hashes.wanted == 0)
-
 -- whether a target that pulls wants some records first
 abbrev pub wants_first : Tablet → Bool
-wants_first tablet = is_receiving tablet.handover.role && has_batch tablet.pulling.hashes
+wants_first tablet = is_receiving tablet.handover.role && is_waiting tablet.pulling.hashes
 
 -- the target of a moving tablet asks for what it wants first
 abbrev pub hasten_phase : World → ℕ → ℕ → Phase → List Task

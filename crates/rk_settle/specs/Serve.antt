@@ -1,13 +1,11 @@
 -- serve: the outstanding call of a client is brought on. Where the client does not know who owns its key, it asks; then it sends its
 -- request to that owner. After a Moved it tries once more. Last, log exchanges of the master that was asked run while the call is
 -- outstanding and staged there.
-use Rattle.std.specs.Prelude.{ℕ, ◌==◌, ◌&&◌, Bool, true, false, is_some, is_none, if◌then◌else◌, List, [], ◌∷◌, ◌++◌, Option, Some, None}
+use Rattle.std.specs.Prelude.{ℕ, ◌==◌, ◌&&◌, Bool, false, is_some, is_none, if◌then◌else◌, List, [], ◌∷◌, ◌++◌, Option, Some, None}
 use Rattle.rk_types.specs.declared.call.Call.{Call}
 use Rattle.rk_types.specs.declared.node.Node.TheVariants as nodes
-use Rattle.rk_message.specs.declared.calls.Located.{Located}
-use Rattle.rk_message.specs.declared.message.Body.{Body}
-use Rattle.rk_message.specs.declared.message.Body.TheVariants as bodies
-use Rattle.rk_world.specs.Client.{ClientTurn, Session, call_lane, range_of, session_turn}
+use Rattle.rk_session.specs.Owners.{known_owner, looks_up}
+use Rattle.rk_world.specs.Client.{Session, call_lane}
 use Rattle.rk_world.specs.Cluster.{Asks, Cluster, session_at}
 use Rattle.rk_world.specs.Master.{is_staged}
 use Rattle.rk_world.specs.World.{World, lives, master_at}
@@ -17,34 +15,6 @@ use Rattle.rk_settle.specs.Topics.{OfCall, OfLog}
 -- how many times a call is tried
 abbrev pub MOST_TRIES : ℕ
 MOST_TRIES = 2
-
--- whether a message asks where a key is
-abbrev pub is_lookup : Body → Bool
-is_lookup (bodies.Lookup lookup) = true
-is_lookup body = false
-
--- whether a client's turn, if it takes one, asks where its key is
-abbrev pub looks_up_by : Option ClientTurn → Bool
-looks_up_by None = false
-looks_up_by (Some turned) = is_lookup turned.message.body
-
--- whether a client asks on its turn where its key is
-abbrev pub looks_up : Session → Bool
-looks_up session = looks_up_by (session_turn session)
-
--- the owner of a range, if one is cached
-abbrev pub cached_owner : Option Located → Option ℕ
-cached_owner None = None
-cached_owner (Some located) = located.owner
-
--- who owns the key of a call, as far as its client knows
-abbrev pub owner_by_call : Session → Option Call → Option ℕ
-owner_by_call session None = None
-owner_by_call session (Some call) = cached_owner (range_of session call)
-
--- who owns the key of the outstanding call, as far as the client knows
-abbrev pub known_owner : Session → Option ℕ
-known_owner session = owner_by_call session session.outstanding
 
 -- a client takes its turn, and what comes of that is delivered
 abbrev pub ask_exchange : ℕ → ℕ → Task

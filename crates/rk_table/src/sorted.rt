@@ -94,6 +94,10 @@ impl RecordTable for SortedTable {
         Ok(END)
     }
 
+    fn live_items(&self, range: &Range, into: &mut Vec<Held>) -> Result<(), NoMemory> {
+        append_live(self.slots.as_slice(), range, into)
+    }
+
     fn drop_range(&mut self, range: &Range) {
         self.slots.retain(|slot| !slot.is_in(range));
     }

@@ -67,6 +67,12 @@ pub trait RecordTable {
         ensures next { IfOk result (λ next. next ≡ next_token from.now limit (live_in range.now (items self.now))) }
         ensures err { OnErr result (into.new.items ≡ into.old.items) };
 
+    /// Appends duplicates of the live items of the range, in scan order. After `NoMemory` `into` is as it was. A step for
+    /// each item of the table.
+    fn live_items(&self, range: &Range, into: &mut Vec<Held>) -> Result<(), NoMemory>
+        ensures ok { OnOk result (into.new.items ≡ into.old.items ++ live_in range.now (items self.now)) }
+        ensures err { OnErr result (into.new.items ≡ into.old.items) };
+
     /// Removes the items of the range, and leaves no less room than there was. A step for each item of the table: a range
     /// of hashes is spread over all buckets.
     fn drop_range(&mut self, range: &Range)
