@@ -115,6 +115,13 @@ impl Wire {
         self.messages.count()
     }
 
+    /// How many messages were ever sent: the number of the last of them, 0 where there was none.
+    pub fn sent(&self) -> u64
+        ensures { result ≡ self.now.sent }
+    {
+        self.sent
+    }
+
     /// The bytes of the frames of all messages that are there; 2^64 - 1 where they are more.
     pub fn bytes(&self) -> u64
         ensures { result ≡ min (bytes_on self.now) (2 ^ 64 - 1) }
