@@ -46,7 +46,7 @@ stepped_plain w event called None plain = ap Ok (happened_plain w event called p
 stepped_plain w event called (Some error) plain = refl
 
 -- it needs no calm, and what it may name depends on how many masters there are
-may_come : {R : Type 0} (lane : LaneState R) (masters : ℕ) (event : Event) → IsPlain event → MayHappen (new_world 0 masters 0) event → lane.masters ≡ masters → MayComeTo lane event
+pub may_come : {R : Type 0} (lane : LaneState R) (masters : ℕ) (event : Event) → IsPlain event → MayHappen (new_world 0 masters 0) event → lane.masters ≡ masters → MayComeTo lane event
 may_come lane masters (events.AddTablet tablet range master) plain may is =
     record { may = (may.0, may.1, subst (λ (count : ℕ). IsMaster count master) (sym is) may.2); calm = λ running runs. tt }
 may_come lane masters (events.AddClient client) plain may is = record { may = may; calm = λ running runs. tt }

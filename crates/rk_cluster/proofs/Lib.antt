@@ -7,3 +7,4 @@ pub mod Coming
 pub mod Joining
 pub mod Forgetting
 pub mod Noticing
+pub mod Counting

@@ -8,3 +8,4 @@ pub mod Effects
 pub mod Steps
 pub mod Inside
 pub mod Visits
+pub mod Masters

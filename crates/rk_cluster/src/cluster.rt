@@ -25,6 +25,8 @@ use std::alloc::Global;
 use std::collections::BTreeMap;
 use std::marker::Model;
 
+mod turns;
+
 /// As many clients as may have sessions.
 const MOST_CLIENTS: usize = 64;
 
