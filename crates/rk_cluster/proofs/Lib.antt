@@ -8,3 +8,5 @@ pub mod Joining
 pub mod Forgetting
 pub mod Noticing
 pub mod Counting
+pub mod Takers
+pub mod Turned

@@ -9,3 +9,4 @@ pub mod Steps
 pub mod Inside
 pub mod Visits
 pub mod Masters
+pub mod Turns

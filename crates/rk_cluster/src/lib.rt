@@ -15,4 +15,5 @@ mod code;
 mod error;
 mod sessions;
 mod steps;
+mod turning;
 mod visits;

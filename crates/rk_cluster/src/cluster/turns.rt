@@ -1,17 +1,21 @@
-// How one event comes to a lane of a cluster.
-ghost use Rattle.std.specs.Prelude.{◌≡◌, ◌<◌, [], length, None, Some, IfErr, OnOk};
+// How the nodes of a lane take their turns, and how one event comes to a lane.
+ghost use Rattle.std.specs.Prelude.{◌≡◌, ◌<◌, [], length, None, Some, IfErr, IfOk, OnOk};
 ghost use Rattle.rk_types.specs.declared.hashing.TheConstants.{LANES};
 ghost use Rattle.rk_world.specs.Backup.{Gave};
 ghost use Rattle.rk_world.specs.Cluster.{Happens};
 ghost use Rattle.rk_world.specs.Premises.{IsMaster, MOST_MASTERS};
-ghost use Rattle.rk_cluster.specs.Effects.{ActsOne};
+ghost use Rattle.rk_cluster.specs.Effects.{ActsOne, EndsIn, IsCarriedOut};
+ghost use Rattle.rk_cluster.specs.Makes.{turn_makes};
 ghost use Rattle.rk_cluster.specs.Masters.{MayComeIn, masters_of};
 ghost use Rattle.rk_cluster.specs.Steps.{AreLanes, IsPlain, WhereWorn};
 
+use super::nothing_said;
 use crate::cluster::Cluster;
 use crate::error::ClusterError;
-use crate::steps::act;
+use crate::steps::{act, act_all};
+use crate::turning::{ask_all, clients_in, live_in, turns_of};
 use rk_outside::Replica;
+use rk_types::Said;
 use rk_world::Event;
 
 impl<R: Replica + Drop> Cluster<R> {
@@ -26,15 +30,44 @@ impl<R: Replica + Drop> Cluster<R> {
     }
 
     /// An event comes to a lane: one that calls no replica, so neither a delivery nor a crash, and that names a master only
-    /// where it is there. One that the lane refuses changes nothing. What the event takes in the lane.
+    /// where it is there. One that the lane refuses changes nothing; only a lane that is worn, or want of memory, is an error.
+    /// What the event takes in the lane.
     pub fn happen(&mut self, lane: u8, event: Event) -> Result<(), ClusterError>
         requires there { lane < LANES }
         requires plain { IsPlain event }
         requires may { MayComeIn self.old event }
         ensures ok { OnOk result (ActsOne R.segments self.old self.new (Happens lane event (Gave None)) [] None) }
-        ensures err { IfErr result (WhereWorn (λ number. ActsOne R.segments self.old self.new (Happens lane event (Gave None)) [] (Some number))) }
+        ensures err { IfErr result (WhereWorn (λ number. ActsOne R.segments self.old self.new
+            (Happens lane event (Gave None)) [] (Some number))) }
         ensures masters { masters_of self.new ≡ masters_of self.old }
     {
         act(&mut self.lanes, lane, event)
+    }
+
+    /// The nodes of a lane take their turns: the clients with an outstanding call there, by rising number, then the
+    /// coordinator, and then the masters that live, by rising number. It is never refused by a code; where the lane is worn, or
+    /// memory is wanting, the turns before that were taken. What each turn takes in the lane, and a step for each session.
+    pub fn turn(&mut self, lane: u8) -> Result<Vec<Said>, ClusterError>
+        requires { lane < LANES }
+        ensures ok { IfOk result (λ said. IsCarriedOut R.segments self.old self.new
+            (λ cluster. None) (λ cluster. turn_makes cluster lane) said.items) }
+        ensures err { IfErr result (EndsIn R.segments self.old self.new (λ cluster. None)
+            (λ cluster. turn_makes cluster lane)) }
+        ensures masters { masters_of self.new ≡ masters_of self.old }
+    {
+        let alloc = self.alloc();
+        // Who takes a turn is settled before the first one does.
+        let clients = clients_in(alloc, &self.sessions, lane)?;
+        let live = live_in(alloc, &self.lanes[lane as usize], self.masters)?;
+        let turns = turns_of(alloc, lane, &live)?;
+        ask_all(
+            &mut self.lanes,
+            &mut self.sessions,
+            self.masters,
+            lane,
+            &clients,
+        )?;
+        act_all(&mut self.lanes, self.masters, &turns)?;
+        Ok(nothing_said(alloc))
     }
 }

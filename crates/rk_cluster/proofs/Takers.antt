@@ -1,0 +1,162 @@
+-- Who takes a turn in a lane: the clients that ask there, and the masters that live.
+use Rattle.std.proofs.Common.{◌≡◌, ◌<◌, ◌≤◌, ◌+◌, ◌-◌, ◌++◌, ℕ, suc, Bool, true, false, cond, List, [], ◌∷◌, All, filter, is_some, map, Option, None, Some, IfSome, refl, sym, ap, subst, ◌∙◌, append_assoc, append-nil, eq-eqb, arith}
+use Rattle.std.specs.List.{flat_map, range_with_len}
+use Rattle.std.specs.Ordering.{nat_cmp, eq_by_cmp}
+use Rattle.std.specs.Cmp.{unsigned_tied}
+use Rattle.std.proofs.lemmas.List.Elements.{All-cons, All-map, All-nil, All-push, All-weaker}
+use Rattle.rk_types.specs.NumberMap.{NumberMap, get, numbers}
+use Rattle.rk_types.specs.declared.call.Call.{Call}
+use Rattle.rk_types.specs.declared.node.Node.TheVariants as nodes
+use Rattle.rk_world.specs.Client.{Session}
+use Rattle.rk_world.specs.Cluster.{Asks, Occurrence}
+use Rattle.rk_world.specs.Master.{Master}
+use Rattle.rk_world.specs.Premises.{IsMaster}
+use Rattle.rk_world.specs.Runs.{IsFormedWithRoom}
+use Rattle.rk_world.specs.World.{lives}
+use Rattle.rk_world.specs.declared.event.Event.TheVariants as events
+use Rattle.rk_lane.specs.LaneState.{LaneState, Running, world_with}
+use Rattle.rk_lane.proofs.Noticed.{filter_next}
+use Rattle.rk_cluster.specs.Makes.{asks_by, asks_in, in_lane}
+use Rattle.rk_cluster.specs.Steps.{IsDeed, occurrences}
+use Rattle.rk_cluster.specs.Turns.{clients_in, is_call_in, live_in, turn_of, turns_of}
+use Rattle.rk_cluster.specs.Visits.{HasSession, all_ask}
+
+-- ---- clients
+
+-- one that asks in the lane stands among those that do, and no other one does
+kept_number : (b : Bool) (client : ℕ) (session : Session) (rest : NumberMap Session)
+    → cond b (client ∷ []) [] ++ numbers rest ≡ numbers (cond b ((client, session) ∷ rest) rest)
+kept_number true client session rest = refl
+kept_number false client session rest = refl
+
+-- the next session of those that are left
+pub client_next : (lane client : ℕ) (session : Session) (rest later : NumberMap Session) (items : List ℕ) → rest ≡ (client, session) ∷ later
+    → (items ++ cond (is_call_in lane session.outstanding) (client ∷ []) []) ++ clients_in lane later ≡ items ++ clients_in lane rest
+client_next lane client session rest later items is =
+    append_assoc items (cond (is_call_in lane session.outstanding) (client ∷ []) []) (clients_in lane later)
+    ∙ ap (λ (list : List ℕ). items ++ list)
+    (kept_number (is_call_in lane session.outstanding) client session (filter (λ entry. is_call_in lane entry.1.outstanding) later)
+    ∙ ap (clients_in lane) (sym is))
+
+-- who has a session here, or further on, has one
+has_here : (client : ℕ) (session : Session) (rest : NumberMap Session) → HasSession ((client, session) ∷ rest) client
+has_here client session rest =
+    ap (λ (b : Bool). is_some (cond b (Some session) (get rest client))) (unsigned_tied client client ∙ eq-eqb client client refl)
+
+here_or_later : (b : Bool) (session : Session) (found : Option Session) → is_some found ≡ true → is_some (cond b (Some session) found) ≡ true
+here_or_later true session found has = refl
+here_or_later false session found has = has
+
+has_later : (entry : ℕ × Session) (rest : NumberMap Session) (client : ℕ) → HasSession rest client → HasSession (entry ∷ rest) client
+has_later entry rest client has = here_or_later (eq_by_cmp nat_cmp client entry.0) entry.1 (get rest client) has
+
+have_by : (b : Bool) (entry : ℕ × Session) (rest kept : NumberMap Session) → All (HasSession (entry ∷ rest)) (numbers kept)
+    → All (HasSession (entry ∷ rest)) (numbers (cond b (entry ∷ kept) kept))
+have_by true entry rest kept have = All-cons (HasSession (entry ∷ rest)) entry.0 (numbers kept) (has_here entry.0 entry.1 rest) have
+have_by false entry rest kept have = have
+
+-- those who ask in a lane have sessions
+pub clients_have : (lane : ℕ) (sessions : NumberMap Session) → All (HasSession sessions) (clients_in lane sessions)
+clients_have lane [] = All-nil (HasSession [])
+clients_have lane (entry ∷ rest) =
+    have_by (is_call_in lane entry.1.outstanding) entry rest (filter (λ it. is_call_in lane it.1.outstanding) rest)
+    (All-weaker (HasSession rest) (HasSession (entry ∷ rest)) (has_later entry rest) (clients_in lane rest) (clients_have lane rest))
+
+-- the turn of one that asks in the lane, before others
+asks_where : (b : Bool) (lane client : ℕ) (session : Session) (kept : NumberMap Session)
+    → all_ask lane (numbers (cond b ((client, session) ∷ kept) kept)) ≡ cond b (Asks lane client ∷ []) [] ++ all_ask lane (numbers kept)
+asks_where true lane client session kept = refl
+asks_where false lane client session kept = refl
+
+asks_first : (lane client : ℕ) (session : Session) (call : Option Call) (kept : NumberMap Session)
+    → all_ask lane (numbers (cond (is_call_in lane call) ((client, session) ∷ kept) kept)) ≡ asks_by lane client call ++ all_ask lane (numbers kept)
+asks_first lane client session None kept = refl
+asks_first lane client session (Some call) kept = asks_where (is_call_in lane (Some call)) lane client session kept
+
+-- the turns of those who ask in a lane are what each session makes there
+pub all_ask_is : (lane : ℕ) (sessions : NumberMap Session) → all_ask lane (clients_in lane sessions) ≡ flat_map (λ entry. asks_in lane entry.0 entry.1) sessions
+all_ask_is lane [] = refl
+all_ask_is lane (entry ∷ rest) =
+    asks_first lane entry.0 entry.1 entry.1.outstanding (filter (λ it. is_call_in lane it.1.outstanding) rest)
+    ∙ ap (λ (list : List Occurrence). asks_in lane entry.0 entry.1 ++ list) (all_ask_is lane rest)
+
+-- ---- masters
+
+numbers_by : {X : Type 0} (b : Bool) (p : ℕ → Bool) (number : ℕ) (thing : X) (kept : NumberMap X) (rest : List ℕ) → numbers kept ≡ filter p rest
+    → numbers (cond b ((number, thing) ∷ kept) kept) ≡ cond b (number ∷ filter p rest) (filter p rest)
+numbers_by true p number thing kept rest is = ap (λ (list : List ℕ). number ∷ list) is
+numbers_by false p number thing kept rest is = is
+
+-- the numbers of those whose numbers pass a test are the numbers that do
+numbers_filter : {X : Type 0} (p : ℕ → Bool) (things : NumberMap X) → numbers (filter (λ entry. p entry.0) things) ≡ filter p (numbers things)
+numbers_filter p [] = refl
+numbers_filter p (entry ∷ rest) = numbers_by (p entry.0) p entry.0 entry.1 (filter (λ it. p it.0) rest) (numbers rest) (numbers_filter p rest)
+
+-- what holds of all that runs holds of it
+pub where_running : (Holds : Running → Type 0) (o : Option Running) → ((running : Running) → o ≡ Some running → Holds running) → IfSome o Holds
+where_running Holds None gives = tt
+where_running Holds (Some running) gives = gives running refl
+
+module _ {R : Type 0} (at : LaneState R) (masters : ℕ) where
+  -- of the masters up to some number, those that live are collected
+  pub record IsCollecting (found : List ℕ) (index : ℕ) : Type 0 where
+    pub there : All (IsMaster masters) found
+    pub live : (running : Running) → at.running ≡ Some running
+        → found ++ filter (lives (world_with at running [])) (range_with_len (index + 1) (masters - index)) ≡ live_in at running
+
+  pub collecting_none : ((running : Running) → at.running ≡ Some running → IsFormedWithRoom (world_with at running []))
+      → ((running : Running) → at.running ≡ Some running → running.coordinator.masters ≡ masters) → IsCollecting [] 0
+  collecting_none formed counted = record {
+    there = All-nil (IsMaster masters);
+    live = λ running runs.
+        let w = world_with at running [] in
+        let all : masters - 0 ≡ running.coordinator.masters = omega (arith, counted running runs) in
+        ap (λ (count : ℕ). filter (lives w) (range_with_len 1 count)) all
+        ∙ ap (filter (lives w)) (sym (formed running runs).formed.masters_are)
+        ∙ sym (numbers_filter (lives w) running.masters);
+  }
+
+  there_by : (b : Bool) (found : List ℕ) (master : ℕ) → All (IsMaster masters) found → IsMaster masters master → All (IsMaster masters) (found ++ cond b (master ∷ []) [])
+  there_by true found master there is = All-push (IsMaster masters) found master there is
+  there_by false found master there is = subst (All (IsMaster masters)) (sym (append-nil found)) there
+
+  pub collecting_one : (found next : List ℕ) (index : ℕ) (alive : Bool) → index < masters
+      → ((running : Running) → at.running ≡ Some running → alive ≡ lives (world_with at running []) (index + 1))
+      → next ≡ found ++ cond alive ((index + 1) ∷ []) [] → IsCollecting found index → IsCollecting next (index + 1)
+  collecting_one found next index alive within known is before = record {
+    there = subst (All (IsMaster masters)) (sym is) (there_by alive found (index + 1) before.there (record { first = omega arith; last = omega (arith, within) }));
+    live = λ running runs.
+        let p = lives (world_with at running []) in
+        let more : masters - index ≡ suc (masters - (index + 1)) = omega (arith, within) in
+        ap (λ (list : List ℕ). list ++ filter p (range_with_len (index + 1 + 1) (masters - (index + 1))))
+        (is ∙ ap (λ (b : Bool). found ++ cond b ((index + 1) ∷ []) []) (known running runs))
+        ∙ filter_next p (index + 1) (masters - index) (masters - (index + 1)) found more
+        ∙ before.live running runs;
+  }
+
+  pub collected : (found : List ℕ) (index : ℕ) → masters ≤ index → IsCollecting found index → (running : Running) → at.running ≡ Some running → found ≡ live_in at running
+  collected found index past before running runs =
+      let none : masters - index ≡ 0 = omega (arith, past) in
+      sym (append-nil found)
+      ∙ ap (λ (count : ℕ). found ++ filter (lives (world_with at running [])) (range_with_len (index + 1) count)) (sym none)
+      ∙ before.live running runs
+
+-- ---- turns
+
+-- the turns of masters that are there are deeds that may be done
+pub turns_fit : (count masters lane : ℕ) (live : List ℕ) → lane < count → All (IsMaster masters) live → All (IsDeed count masters) (turns_of lane live)
+turns_fit count masters lane live there are =
+    All-cons (IsDeed count masters) (turn_of lane nodes.Coordinator) (map (λ master. turn_of lane (nodes.Master master)) live)
+    (record { there = there; plain = tt; may = tt })
+    (All-map (IsDeed count masters) (λ master. turn_of lane (nodes.Master master)) live
+    (All-weaker (IsMaster masters) (λ master. IsDeed count masters (turn_of lane (nodes.Master master))) (λ (master : ℕ) is. record { there = there; plain = tt; may = is }) live are))
+
+masters_turn : (lane : ℕ) (masters : NumberMap Master)
+    → occurrences (map (λ master. turn_of lane (nodes.Master master)) (numbers masters)) ≡ map (λ entry. in_lane lane (events.Turn (nodes.Master entry.0))) masters
+masters_turn lane [] = refl
+masters_turn lane (entry ∷ rest) = ap (λ (list : List Occurrence). in_lane lane (events.Turn (nodes.Master entry.0)) ∷ list) (masters_turn lane rest)
+
+-- what occurs by the turns of the coordinator and of some masters
+pub turns_are : (lane : ℕ) (masters : NumberMap Master)
+    → occurrences (turns_of lane (numbers masters)) ≡ in_lane lane (events.Turn nodes.Coordinator) ∷ map (λ entry. in_lane lane (events.Turn (nodes.Master entry.0))) masters
+turns_are lane masters = ap (λ (list : List Occurrence). in_lane lane (events.Turn nodes.Coordinator) ∷ list) (masters_turn lane masters)

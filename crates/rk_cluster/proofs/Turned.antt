@@ -1,0 +1,147 @@
+-- The turns of the nodes of a lane, one after the other.
+use Rattle.std.proofs.Common.{◌≡◌, ◌<◌, ◌≤◌, ◌+◌, ◌++◌, ℕ, List, [], ◌∷◌, All, drop, length, map, slice_get, slice_index_or, Option, None, Some, IfSome, refl, sym, ap, subst, ◌∙◌, append-nil}
+use Rattle.std.proofs.lemmas.List.Elements.{All-weaker}
+use Rattle.std.specs.List.{flat_map}
+use Rattle.rk_types.specs.NumberMap.{NumberMap}
+use Rattle.rk_types.specs.declared.node.Node.TheVariants as nodes
+use Rattle.rk_outside.specs.Segments.{Segments}
+use Rattle.rk_world.specs.Client.{Session}
+use Rattle.rk_world.specs.Cluster.{Asks, Cluster, Occurrence, lane_at}
+use Rattle.rk_world.specs.World.{World, live_masters, new_world}
+use Rattle.rk_world.specs.declared.event.Event.TheVariants as events
+use Rattle.rk_lane.specs.LaneState.{LaneState, Running, world_with}
+use Rattle.rk_cluster.specs.Acted.{all_acted}
+use Rattle.rk_cluster.specs.Effects.{Acts, ActsBy, ActsOne, Carries, IsActedAs}
+use Rattle.rk_cluster.specs.Makes.{asks_in, in_lane, turn_makes}
+use Rattle.rk_cluster.specs.State.{ClusterState, IsOf, IsWorld}
+use Rattle.rk_cluster.specs.Steps.{AreLanes, CarriesSteps, EndsWorn, MayAllAct, StepsEndWorn, occurrences, state_of}
+use Rattle.rk_cluster.specs.Turns.{clients_in, live_in, turns_of}
+use Rattle.rk_cluster.specs.Visits.{HasSession, all_ask}
+use Rattle.rk_cluster.specs.declared.steps.Deed.{Deed}
+use Rattle.rk_cluster.proofs.Carrying.{carries_all, carries_one, carries_worn, none_acts}
+use Rattle.rk_cluster.proofs.Takers.{all_ask_is, turns_are}
+use Rattle.rk_cluster.proofs.Worlds.{drop_next, drop_past, world_at}
+
+-- what the coordinator and the masters that live make
+abbrev nodes_make : ℕ → World → List Occurrence
+nodes_make lane w = in_lane lane (events.Turn nodes.Coordinator) ∷ map (λ entry. in_lane lane (events.Turn (nodes.Master entry.0))) (live_masters w)
+
+module _ {R : Type 0} (segments : R → Option Segments) where
+  -- ---- clients, some of which have taken their turns
+
+  pub record IsAsking (start now : ClusterState R) (masters lane : ℕ) (clients : List ℕ) (index : ℕ) : Type 0 where
+    pub carries : Carries segments start now (all_ask lane clients) (all_ask lane (drop index clients))
+    pub lanes : AreLanes masters 0 now.lanes
+    pub count : length now.lanes ≡ length start.lanes
+    pub acts : MayAllAct masters now.sessions
+    pub have : All (HasSession now.sessions) clients
+
+  pub asking_none : (start : ClusterState R) (masters lane : ℕ) (clients : List ℕ) → AreLanes masters 0 start.lanes → MayAllAct masters start.sessions
+      → All (HasSession start.sessions) clients → IsAsking start start masters lane clients 0
+  asking_none start masters lane clients are act has = record {
+    carries = carries_all segments start (all_ask lane clients);
+    lanes = are;
+    count = refl;
+    acts = act;
+    have = has;
+  }
+
+  -- the next one comes of what is left
+  asks_next : (start now : ClusterState R) (lane : ℕ) (clients : List ℕ) (index client d : ℕ) → index < length clients → client ≡ slice_index_or clients index d
+      → Carries segments start now (all_ask lane clients) (all_ask lane (drop index clients))
+      → Carries segments start now (all_ask lane clients) (Asks lane client ∷ all_ask lane (drop (index + 1) clients))
+  asks_next start now lane clients index client d within there carries =
+      subst (λ (left : List ℕ). Carries segments start now (all_ask lane clients) (all_ask lane left))
+      (drop_next clients index d within ∙ ap (λ (it : ℕ). it ∷ drop (index + 1) clients) (sym there)) carries
+
+  pub asking_one : (start now next : ClusterState R) (masters lane : ℕ) (clients : List ℕ) (index client d : ℕ) → index < length clients → client ≡ slice_index_or clients index d
+      → ActsOne segments now next (Asks lane client) [] None → AreLanes masters 0 next.lanes → length next.lanes ≡ length now.lanes → MayAllAct masters next.sessions
+      → ((other : ℕ) → HasSession now.sessions other → HasSession next.sessions other)
+      → IsAsking start now masters lane clients index → IsAsking start next masters lane clients (index + 1)
+  asking_one start now next masters lane clients index client d within there one are same act keeps before = record {
+    carries = carries_one segments start now next (all_ask lane clients) (all_ask lane (drop (index + 1) clients)) (Asks lane client) one
+        (asks_next start now lane clients index client d within there before.carries);
+    lanes = are;
+    count = same ∙ before.count;
+    acts = act;
+    have = All-weaker (HasSession now.sessions) (HasSession next.sessions) keeps clients before.have;
+  }
+
+  pub asking_worn : (start now next : ClusterState R) (masters lane : ℕ) (clients : List ℕ) (index client d : ℕ) (number : ℕ) → index < length clients
+      → client ≡ slice_index_or clients index d → ActsOne segments now next (Asks lane client) [] (Some number) → IsAsking start now masters lane clients index
+      → EndsWorn segments start next (all_ask lane clients) number
+  asking_worn start now next masters lane clients index client d number within there one before =
+      carries_worn segments start now next (all_ask lane clients) (all_ask lane (drop (index + 1) clients)) (Asks lane client) number one
+      (asks_next start now lane clients index client d within there before.carries)
+
+  -- all have
+  pub asking_all : (start now : ClusterState R) (masters lane : ℕ) (clients : List ℕ) (index : ℕ) → length clients ≤ index → IsAsking start now masters lane clients index
+      → Carries segments start now (all_ask lane clients) []
+  asking_all start now masters lane clients index past before =
+      subst (λ (left : List ℕ). Carries segments start now (all_ask lane clients) (all_ask lane left)) (drop_past clients index past) before.carries
+
+  -- ---- clients, and the nodes after them
+
+  module _ (old mid new : List (LaneState R)) (sessions later : NumberMap Session) (asks : List Occurrence) (deeds : List Deed) where
+    both_act : Carries segments (state_of old sessions) (state_of mid later) asks [] → CarriesSteps segments mid new deeds []
+        → Acts segments (state_of old sessions) (state_of new later) (asks ++ occurrences deeds) [] None
+    both_act asked done =
+        asked (state_of new later) (occurrences deeds) [] None
+        (subst (λ (made : List Occurrence). Acts segments (state_of mid later) (state_of new later) made [] None) (append-nil (occurrences deeds))
+        (done later (state_of new later) [] [] None (none_acts segments (state_of new later))))
+
+    nodes_stop : (number : ℕ) → Carries segments (state_of old sessions) (state_of mid later) asks [] → StepsEndWorn segments mid new deeds number
+        → Acts segments (state_of old sessions) (state_of new later) (asks ++ occurrences deeds) [] (Some number)
+    nodes_stop number asked worn =
+        asked (state_of new later) (occurrences deeds) [] (Some number)
+        (subst (λ (made : List Occurrence). Acts segments (state_of mid later) (state_of new later) made [] (Some number)) (append-nil (occurrences deeds)) (worn later []))
+
+  -- ---- what a call makes
+
+  module _ (lanes : List (LaneState R)) (sessions : NumberMap Session) (lane : ℕ) (at : LaneState R) (live : List ℕ) (there : slice_get lanes lane ≡ Some at)
+      (known : IfSome at.running (λ running. live ≡ live_in at running)) where
+    -- the turns of the clients that ask there and of the masters that live are those that a call makes
+    makes_are : (cluster : Cluster) → IsOf segments (state_of lanes sessions) cluster
+        → all_ask lane (clients_in lane sessions) ++ occurrences (turns_of lane live) ≡ turn_makes cluster lane
+    makes_are cluster is =
+        let it : IsWorld segments at (lane_at cluster lane) = world_at segments lanes cluster.lanes lane at (new_world lane 0 0) is.lanes there in
+        let live_is : live ≡ live_in at it.running = subst (λ (o : Option Running). IfSome o (λ running. live ≡ live_in at running)) it.runs known in
+        let asks : all_ask lane (clients_in lane sessions) ≡ flat_map (λ entry. asks_in lane entry.0 entry.1) cluster.sessions =
+        all_ask_is lane sessions ∙ ap (flat_map (λ (entry : ℕ × Session). asks_in lane entry.0 entry.1)) (sym is.sessions) in
+        let turns : occurrences (turns_of lane live) ≡ nodes_make lane (lane_at cluster lane) =
+        ap (λ (list : List ℕ). occurrences (turns_of lane list)) live_is
+        ∙ turns_are lane (live_masters (world_with at it.running it.stored))
+        ∙ ap (nodes_make lane) (sym it.is) in
+        λ i. asks i ++ turns i
+
+    turn_acts : (new : ClusterState R) (broken : Option ℕ)
+        → Acts segments (state_of lanes sessions) new (all_ask lane (clients_in lane sessions) ++ occurrences (turns_of lane live)) [] broken
+        → ActsBy segments (state_of lanes sessions) new (λ cluster. turn_makes cluster lane) [] broken
+    turn_acts new broken acts cluster is =
+        subst (λ (made : List Occurrence). IsActedAs segments new [] broken (all_acted cluster made)) (makes_are cluster is) (acts cluster is)
+
+    -- the clients and the deeds that are collected in code are these
+    module _ (mid new : List (LaneState R)) (later : NumberMap Session) (clients : List ℕ) (deeds : List Deed) (clients_are : clients ≡ clients_in lane sessions)
+        (deeds_are : deeds ≡ turns_of lane live) where
+      made_are : all_ask lane clients ++ occurrences deeds ≡ all_ask lane (clients_in lane sessions) ++ occurrences (turns_of lane live)
+      made_are = λ i. all_ask lane (clients_are i) ++ occurrences (deeds_are i)
+
+      made_acts : (state : ClusterState R) (broken : Option ℕ) → Acts segments (state_of lanes sessions) state (all_ask lane clients ++ occurrences deeds) [] broken
+          → ActsBy segments (state_of lanes sessions) state (λ cluster. turn_makes cluster lane) [] broken
+      made_acts state broken acts =
+          turn_acts state broken (subst (λ (made : List Occurrence). Acts segments (state_of lanes sessions) state made [] broken) made_are acts)
+
+      -- all took their turns
+      pub turn_done : Carries segments (state_of lanes sessions) (state_of mid later) (all_ask lane clients) [] → CarriesSteps segments mid new deeds []
+          → ActsBy segments (state_of lanes sessions) (state_of new later) (λ cluster. turn_makes cluster lane) [] None
+      turn_done asked done = made_acts (state_of new later) None (both_act lanes mid new sessions later (all_ask lane clients) deeds asked done)
+
+      -- a client found the lane worn
+      pub asking_stops : (number : ℕ) → EndsWorn segments (state_of lanes sessions) (state_of mid later) (all_ask lane clients) number
+          → ActsBy segments (state_of lanes sessions) (state_of mid later) (λ cluster. turn_makes cluster lane) [] (Some number)
+      asking_stops number worn = made_acts (state_of mid later) (Some number) (worn (occurrences deeds))
+
+      -- another node did
+      pub turns_stop : (number : ℕ) → Carries segments (state_of lanes sessions) (state_of mid later) (all_ask lane clients) [] → StepsEndWorn segments mid new deeds number
+          → ActsBy segments (state_of lanes sessions) (state_of new later) (λ cluster. turn_makes cluster lane) [] (Some number)
+      turns_stop number asked worn = made_acts (state_of new later) (Some number) (nodes_stop lanes mid new sessions later (all_ask lane clients) deeds number asked worn)
