@@ -2,4 +2,5 @@ pub mod Digits
 pub mod WordLemmas
 pub mod Cuts
 pub mod ScriptLemmas
+pub mod LawfulLemmas
 pub mod Examples

@@ -6,3 +6,4 @@ pub mod Refusals
 pub mod Lines
 pub mod Script
 pub mod Reading
+pub mod Lawful

@@ -2,8 +2,9 @@
 //!
 //! It stands on `rk_types`. A script is lines of words: a command with its arguments, a comment, or nothing. What it
 //! promises: [`parse`] answers exactly the commands that the definition of the language names, each with the number of
-//! its line, or exactly the line and the code of its first refusal; only want of memory is free. Words are read where
-//! they stand, and nothing is copied but keys and values.
+//! its line, or exactly the line and the code of its first refusal; only want of memory is free. What a command names
+//! is in its range, and the key and the value of a call are within their limits. Words are read where they stand, and
+//! nothing is copied but keys and values.
 #![tactic(auto)]
 
 pub use code::Code;

@@ -1,5 +1,6 @@
-ghost use Rattle.std.specs.Prelude.{◌≡◌, ◌≢◌, ◌==◌, ◌+◌, ◌≤◌, ◌<◌, ◌^◌, ◌∷◌, [], length, position, IfOk, IfErr, IfSome, IfNone, OnOk, vec_len};
+ghost use Rattle.std.specs.Prelude.{◌≡◌, ◌≢◌, ◌==◌, ◌+◌, ◌≤◌, ◌<◌, ◌^◌, ◌∷◌, [], length, position, All, IfOk, IfErr, IfSome, IfNone, OnOk, vec_len};
 ghost use Rattle.std.specs.Str.Lines.{lines, strip_carriage_return};
+ghost use Rattle.rk_script.specs.Lawful.{IsLawful};
 ghost use Rattle.rk_script.specs.Lines.{said_by};
 ghost use Rattle.rk_script.specs.Script.{commands_from, script_of};
 ghost use Rattle.rk_script.specs.Reading.{AddsLine, IsLineRefusal, IsScriptRefusal, parts_of};
@@ -121,13 +122,15 @@ fn read_lines(alloc: Global, script: &[u8]) -> Result<Vec<Numbered>, ParseError>
     Ok(commands)
 }
 
-/// The commands of a script, each with the number of its line; empty lines and comments are passed over. `Refused` tells
-/// line 0 and the code `ScriptLength` where the script has more than `LONGEST_SCRIPT` bytes, and else the first line
-/// that meets a code. It takes time and memory in proportion to the script.
+/// The commands of a script, each with the number of its line, counted from 1; what a command names is in its range.
+/// Empty lines and comments are passed over. `Refused` tells line 0 and the code `ScriptLength` where the script has
+/// more than `LONGEST_SCRIPT` bytes, and else the first line that meets a code. It takes time and memory in proportion
+/// to the script.
 pub fn parse(alloc: Global, script: &[u8]) -> Result<Vec<Numbered>, ParseError>
     ensures ok { IfOk result (λ commands. script_of script.now ≡ Ok commands.items) }
     ensures err { IfErr result (λ e. e ≢ ParseError.NoMemory → script_of script.now ≡ Err e) }
     ensures few { IfOk result (λ commands. vec_len commands ≤ LONGEST_SCRIPT) }
+    ensures lawful { IfOk result (λ commands. All IsLawful commands.items) }
 {
     if script.len() > LONGEST_SCRIPT {
         return Err(ParseError::Refused {
