@@ -1,11 +1,12 @@
-ghost use Rattle.std.specs.Prelude.{◌≡◌, ◌≤◌, ◌<◌, [], length, None, Some, IfOk, IfErr, OnOk};
+ghost use Rattle.std.specs.Prelude.{◌≡◌, ◌≤◌, ◌<◌, [], length, None, Some, IfOk, IfErr, IfSome, OnOk};
 ghost use Rattle.std.specs.Option.{option_copied};
 ghost use Rattle.rk_types.specs.NumberMap.{get};
 ghost use Rattle.rk_types.specs.declared.hashing.TheConstants.{LANES};
 ghost use Rattle.rk_world.specs.Cluster.{Asks};
-ghost use Rattle.rk_world.specs.Premises.{IsMaster, MOST_MASTERS};
+ghost use Rattle.rk_world.specs.Premises.{IsMaster, MayAct, MOST_MASTERS};
 ghost use Rattle.rk_cluster.specs.Codes.{client_code, notice_code, place_code};
 ghost use Rattle.rk_cluster.specs.Effects.{ActsOne, EndsIn, IsCarriedOut};
+ghost use Rattle.rk_cluster.specs.Masters.{masters_of};
 ghost use Rattle.rk_cluster.specs.Makes.{client_makes, forget_makes, notice_makes};
 ghost use Rattle.rk_cluster.specs.State.{has_spent};
 ghost use Rattle.rk_cluster.specs.Steps.{AreLanes, WhereWorn};
@@ -109,9 +110,10 @@ impl<R: Replica + Drop> Cluster<R> {
         Ok(nothing_said(alloc))
     }
 
-    /// The session of a client, if it has one. One search.
+    /// The session of a client, if it has one; it may act in the lanes. One search.
     pub fn session(&self, client: u32) -> Option<&Session>
-        ensures { option_copied result ≡ get self.now.sessions client }
+        ensures session { option_copied result ≡ get self.now.sessions client }
+        ensures acts { IfSome (option_copied result) (MayAct (masters_of self.now)) }
     {
         self.sessions.get(&client)
     }
@@ -123,6 +125,7 @@ impl<R: Replica + Drop> Cluster<R> {
         requires session { HasSession self.old.sessions client }
         ensures ok { OnOk result (ActsOne R.segments self.old self.new (Asks lane client) [] None) }
         ensures err { IfErr result (WhereWorn (λ number. ActsOne R.segments self.old self.new (Asks lane client) [] (Some number))) }
+        ensures masters { masters_of self.new ≡ masters_of self.old }
     {
         ask_in(
             &mut self.lanes,

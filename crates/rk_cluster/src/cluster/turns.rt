@@ -1,8 +1,12 @@
 // How the nodes of a lane take their turns, and how one event comes to a lane.
-ghost use Rattle.std.specs.Prelude.{◌≡◌, ◌<◌, [], length, None, Some, IfErr, IfOk, OnOk};
+ghost use Rattle.std.specs.Prelude.{◌≡◌, ◌<◌, [], All, length, None, Some, IfErr, IfOk, OnOk};
 ghost use Rattle.rk_types.specs.declared.hashing.TheConstants.{LANES};
 ghost use Rattle.rk_world.specs.Backup.{Gave};
-ghost use Rattle.rk_world.specs.Cluster.{Happens};
+ghost use Rattle.rk_types.specs.NumberMap.{numbers};
+ghost use Rattle.rk_world.specs.Cluster.{Cluster as Lanes, Happens, lane_at};
+ghost use Rattle.rk_world.specs.World.{live_masters};
+ghost use Rattle.rk_cluster.specs.State.{IsOf};
+ghost use Rattle.rk_cluster.specs.Turns.{clients_in as clients_in_lem};
 ghost use Rattle.rk_world.specs.Premises.{IsMaster, MOST_MASTERS};
 ghost use Rattle.rk_cluster.specs.Effects.{ActsOne, EndsIn, IsCarriedOut};
 ghost use Rattle.rk_cluster.specs.Makes.{turn_makes};
@@ -15,7 +19,7 @@ use crate::error::ClusterError;
 use crate::steps::{act, act_all};
 use crate::turning::{ask_all, clients_in, live_in, turns_of};
 use rk_outside::Replica;
-use rk_types::Said;
+use rk_types::{NoMemory, Said};
 use rk_world::Event;
 
 impl<R: Replica + Drop> Cluster<R> {
@@ -42,6 +46,24 @@ impl<R: Replica + Drop> Cluster<R> {
         ensures masters { masters_of self.new ≡ masters_of self.old }
     {
         act(&mut self.lanes, lane, event)
+    }
+
+    /// The clients with an outstanding call in a lane, by rising number. The time to hash the key of each outstanding call.
+    pub fn clients_in(&self, lane: u8) -> Result<Vec<u32>, NoMemory>
+        ensures { IfOk result (λ clients. clients.items ≡ clients_in_lem lane self.now.sessions) }
+    {
+        clients_in(self.alloc(), &self.sessions, lane)
+    }
+
+    /// The masters that live in a lane, by rising number; of a lane that is spent, none. A step for each master and each one
+    /// that has crashed.
+    pub fn live_in(&self, lane: u8) -> Result<Vec<u8>, NoMemory>
+        requires { lane < LANES }
+        ensures there { IfOk result (λ live. All (IsMaster (masters_of self.now)) live.items) }
+        ensures live { IfOk result (λ live. (cluster : Lanes) → IsOf R.segments self.now cluster
+            → numbers (live_masters (lane_at cluster lane)) ≡ live.items) }
+    {
+        live_in(self.alloc(), &self.lanes[lane as usize], self.masters)
     }
 
     /// The nodes of a lane take their turns: the clients with an outstanding call there, by rising number, then the
