@@ -10,3 +10,4 @@ pub mod Noticing
 pub mod Counting
 pub mod Takers
 pub mod Turned
+pub mod Telling

@@ -10,3 +10,4 @@ pub mod Inside
 pub mod Visits
 pub mod Masters
 pub mod Turns
+pub mod Told

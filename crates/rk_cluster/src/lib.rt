@@ -13,6 +13,7 @@ pub use error::ClusterError;
 mod cluster;
 mod code;
 mod error;
+mod looks;
 mod sessions;
 mod steps;
 mod turning;

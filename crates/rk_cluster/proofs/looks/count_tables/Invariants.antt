@@ -1,0 +1,7 @@
+use Rattle.std.proofs.Common.{◌≡◌, ◌+◌, ◌≤◌, drop, length}
+use Rattle.rk_cluster.specs.Looks.{tables_of}
+use Rattle.rk_cluster.proofs.looks.count_tables.Given as goal
+
+-- the tables that were counted, and those of the rows that are left
+abbrev pub invariant-loop-place : goal.invariant-loop-place
+invariant-loop-place l = (l.count + length (tables_of (drop l.place l.rows)) ≡ length (tables_of l.rows)) × (l.count ≤ l.place)
