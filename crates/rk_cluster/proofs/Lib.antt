@@ -11,3 +11,5 @@ pub mod Counting
 pub mod Takers
 pub mod Turned
 pub mod Telling
+pub mod Admitting
+pub mod Making

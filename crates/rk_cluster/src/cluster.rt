@@ -26,6 +26,7 @@ use std::alloc::Global;
 use std::collections::BTreeMap;
 use std::marker::Model;
 
+mod tables;
 mod turns;
 
 /// As many clients as may have sessions.

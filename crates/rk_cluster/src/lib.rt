@@ -10,6 +10,7 @@ pub use cluster::Cluster;
 pub use code::Code;
 pub use error::ClusterError;
 
+mod admissions;
 mod cluster;
 mod code;
 mod error;

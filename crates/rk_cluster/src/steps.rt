@@ -1,5 +1,5 @@
 // How events come to the lanes of a cluster.
-ghost use Rattle.std.specs.Prelude.{◌≡◌, ◌<◌, [], ℕ, All, length, map, Some, None, IfErr, OnOk};
+ghost use Rattle.std.specs.Prelude.{◌≡◌, ◌<◌, [], ℕ, All, length, map, Some, None, IfErr, IfOk, OnOk};
 ghost use Rattle.std.specs.List.{range_with_len};
 ghost use Rattle.rk_types.specs.declared.hashing.TheConstants.{LANES};
 ghost use Rattle.rk_cluster.specs.Steps.{AreLanes, CarriesSteps, IsDeed, IsHappening, MayComeAt, StepsEndWorn, WhereWorn, failure_of};
@@ -7,7 +7,9 @@ ghost use Rattle.rk_cluster.specs.Steps.{AreLanes, CarriesSteps, IsDeed, IsHappe
 use crate::error::ClusterError;
 use rk_lane::Lane;
 use rk_outside::Replica;
+use rk_types::NoMemory;
 use rk_world::{Event, Seen, StepError};
+use std::alloc::Global;
 
 /// An event, and its lane.
 #[derive(Clone, Copy)]
@@ -62,6 +64,14 @@ pub(crate) fn act_all<R: Replica + Drop>(
         act(lanes, deed.lane, deed.event)?;
     }
     Ok(())
+}
+
+/// The same event in each of these lanes.
+pub(crate) fn in_lanes(alloc: Global, lanes: &[u8], event: Event) -> Result<Vec<Deed>, NoMemory>
+    ensures { IfOk result (λ deeds. deeds.items ≡ map (λ lane. record { lane = lane; event = event }) lanes.now) }
+{
+    let deeds = lanes.iter().map(|lane| Deed { lane: *lane, event });
+    Ok(deeds.collect(alloc)?)
 }
 
 /// The same event in each lane.

@@ -1,0 +1,91 @@
+-- What a call makes by its deeds.
+use Rattle.std.proofs.Common.{◌≡◌, ◌<◌, ℕ, List, [], ◌∷◌, ◌++◌, All, length, map, Option, None, Some, refl, sym, ap, subst, ◌∙◌, append-nil}
+use Rattle.std.proofs.lemmas.List.Elements.{All-map, All-weaker}
+use Rattle.rk_types.specs.NumberMap.{NumberMap}
+use Rattle.rk_types.specs.declared.hashing.TheConstants.{LANES}
+use Rattle.rk_outside.specs.Segments.{Segments}
+use Rattle.rk_world.specs.Client.{Session}
+use Rattle.rk_world.specs.Cluster.{Cluster, Occurrence}
+use Rattle.rk_world.specs.Premises.{MayHappen}
+use Rattle.rk_world.specs.World.{new_world}
+use Rattle.rk_world.specs.declared.event.Event.{Event}
+use Rattle.rk_lane.specs.LaneState.{LaneState}
+use Rattle.rk_cluster.specs.Acted.{all_acted}
+use Rattle.rk_cluster.specs.Effects.{ActsBy, EndsIn, HasCode, IsActedAs, IsCarriedOut}
+use Rattle.rk_cluster.specs.Looks.{all_lanes}
+use Rattle.rk_cluster.specs.Makes.{in_lanes, next_tablet}
+use Rattle.rk_cluster.specs.State.{ClusterState, IsOf}
+use Rattle.rk_cluster.specs.Steps.{CarriesSteps, IsDeed, IsPlain, StepsEndWorn, WhereWorn, occurrences, state_of}
+use Rattle.rk_cluster.specs.Told.{LanesTell, WhereRefused}
+use Rattle.rk_cluster.specs.declared.code.Code.{Code}
+use Rattle.rk_cluster.specs.declared.error.ClusterError.{ClusterError}
+use Rattle.rk_cluster.specs.declared.error.ClusterError.TheVariants as errors
+use Rattle.rk_cluster.specs.declared.steps.Deed.{Deed}
+use Rattle.rk_cluster.proofs.Carrying.{none_acts}
+use Rattle.rk_cluster.proofs.Joining.{deeds_in, ends_in, made_in_all}
+
+-- the same event in some lanes
+abbrev pub deeds_of : Event → List ℕ → List Deed
+deeds_of event lanes = map (λ lane. record { lane = lane; event = event }) lanes
+
+-- so many deeds are as many occurrences
+pub occurrences_of : (event : Event) (lanes : List ℕ) → occurrences (deeds_of event lanes) ≡ in_lanes lanes event
+occurrences_of event [] = refl
+occurrences_of event (lane ∷ lanes) = ap (λ (rest : List Occurrence). in_lanes (lane ∷ []) event ++ rest) (occurrences_of event lanes)
+
+-- they may be done in lanes that are there
+pub deeds_may : (masters count : ℕ) (event : Event) (lanes : List ℕ) → count ≡ LANES → IsPlain event → MayHappen (new_world 0 masters 0) event
+    → All (λ lane. lane < LANES) lanes → All (IsDeed count masters) (deeds_of event lanes)
+deeds_may masters count event lanes is plain may there =
+    subst (λ (many : ℕ). All (IsDeed many masters) (deeds_of event lanes)) (sym is)
+    (All-map (IsDeed LANES masters) (λ lane. record { lane = lane; event = event }) lanes
+    (All-weaker (λ lane. lane < LANES) (λ lane. IsDeed LANES masters (record { lane = lane; event = event })) (λ lane within. record { there = within; plain = plain; may = may }) lanes there))
+
+module _ {R : Type 0} (segments : R → Option Segments) where
+  -- what is told of lanes under another name
+  pub told_of : {T : Type 0} (given lanes : List (LaneState R)) (look : Cluster → T) (seen : T) → given ≡ lanes → LanesTell segments given look seen
+      → LanesTell segments lanes look seen
+  told_of given lanes look seen same tells = subst (λ (those : List (LaneState R)). LanesTell segments those look seen) same tells
+
+  -- an event in all lanes, with the number of the next tablet
+  pub numbered_made : (lanes : List (LaneState R)) (sessions : NumberMap Session) (event : ℕ → Event) (tablet : ℕ) → length lanes ≡ LANES
+      → LanesTell segments lanes next_tablet tablet → (cluster : Cluster) → IsOf segments (state_of lanes sessions) cluster
+      → in_lanes (all_lanes cluster) (event (next_tablet cluster)) ≡ occurrences (deeds_in (event tablet))
+  numbered_made lanes sessions event tablet count tells cluster is =
+      ap (λ (number : ℕ). in_lanes (all_lanes cluster) (event number)) (tells sessions cluster is) ∙ sym (made_in_all segments lanes sessions (event tablet) count cluster is)
+
+  -- an event in the lanes that are told
+  pub found_made : (lanes : List (LaneState R)) (sessions : NumberMap Session) (event : Event) (look : Cluster → List ℕ) (found : List ℕ)
+      → LanesTell segments lanes look found → (cluster : Cluster) → IsOf segments (state_of lanes sessions) cluster
+      → in_lanes (look cluster) event ≡ occurrences (deeds_of event found)
+  found_made lanes sessions event look found tells cluster is =
+      ap (λ (among : List ℕ). in_lanes among event) (tells sessions cluster is) ∙ sym (occurrences_of event found)
+
+  module _ (lanes new : List (LaneState R)) (sessions : NumberMap Session) (code_of : Cluster → Option Code) (makes : Cluster → List Occurrence) (deeds : List Deed)
+      (code : HasCode segments (state_of lanes sessions) code_of None)
+      (made : (cluster : Cluster) → IsOf segments (state_of lanes sessions) cluster → makes cluster ≡ occurrences deeds) where
+    -- all deeds were done
+    pub carried_out : CarriesSteps segments lanes new deeds [] → IsCarriedOut segments (state_of lanes sessions) (state_of new sessions) code_of makes []
+    carried_out carries = record {
+      code = code;
+      acts = λ cluster is.
+          subst (λ (it : List Occurrence). IsActedAs segments (state_of new sessions) [] None (all_acted cluster it))
+          (append-nil (occurrences deeds) ∙ sym (made cluster is))
+          (carries sessions (state_of new sessions) [] [] None (none_acts segments (state_of new sessions)) cluster is);
+    }
+
+    stops : (number : ℕ) → StepsEndWorn segments lanes new deeds number → ActsBy segments (state_of lanes sessions) (state_of new sessions) makes [] (Some number)
+    stops number worn cluster is =
+        subst (λ (it : List Occurrence). IsActedAs segments (state_of new sessions) [] (Some number) (all_acted cluster it))
+        (append-nil (occurrences deeds) ∙ sym (made cluster is)) (worn sessions [] cluster is)
+
+    -- some were done, up to one that found its lane worn
+    pub stopped : (e : ClusterError) → WhereWorn (StepsEndWorn segments lanes new deeds) e → EndsIn segments (state_of lanes sessions) (state_of new sessions) code_of makes e
+    stopped e worn = ends_in segments (StepsEndWorn segments lanes new deeds) (state_of lanes sessions) (state_of new sessions) code_of makes e code stops worn
+
+  -- a call that is refused ends in its code
+  pub refused : (state : ClusterState R) (code_of : Cluster → Option Code) (makes : Cluster → List Occurrence) (Holds : Code → Type 0) (e : ClusterError)
+      → ((code : Code) → Holds code → HasCode segments state code_of (Some code)) → WhereRefused Holds e → EndsIn segments state state code_of makes e
+  refused state code_of makes Holds errors.NoMemory gives holds = tt
+  refused state code_of makes Holds (errors.Code code) gives holds = (gives code holds, refl)
+  refused state code_of makes Holds (errors.Worn number) gives holds = absurd holds

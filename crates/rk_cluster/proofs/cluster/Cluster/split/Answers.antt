@@ -1,0 +1,65 @@
+use Rattle.std.proofs.Common.{◌≡◌, ℕ, List, None, Some, Option, sym, ap, subst, ◌∙◌}
+use Rattle.std.proofs.lemmas.Result.{err_from_is_err_and}
+use Rattle.rk_lane.specs.LaneState.{LaneState}
+use Rattle.rk_world.specs.Cluster.{Cluster, Occurrence}
+use Rattle.rk_world.specs.declared.event.Event.{Event}
+use Rattle.rk_world.specs.declared.event.Event.TheVariants as events
+use Rattle.rk_cluster.specs.Codes.{split_code}
+use Rattle.rk_cluster.specs.Effects.{EndsIn, HasCode, IsCarriedOut}
+use Rattle.rk_cluster.specs.Makes.{next_tablet, split_makes}
+use Rattle.rk_cluster.specs.State.{ClusterState}
+use Rattle.rk_cluster.specs.Steps.{state_of}
+use Rattle.rk_cluster.specs.Told.{LanesTell}
+use Rattle.rk_cluster.specs.declared.code.Code.{Code}
+use Rattle.rk_cluster.proofs.Joining.{deeds_in}
+use Rattle.rk_cluster.proofs.Making.{carried_out, numbered_made, refused, stopped, told_of}
+use Rattle.rk_cluster.proofs.cluster.Cluster.split.Goals as goal
+
+abbrev code_of : ℕ → ℕ → Cluster → Option Code
+code_of tablet at cluster = split_code cluster tablet at
+
+abbrev makes_of : ℕ → ℕ → Cluster → List Occurrence
+makes_of tablet at cluster = split_makes cluster tablet at
+
+abbrev event_of : ℕ → ℕ → ℕ → Event
+event_of tablet at number = events.Split tablet at number
+
+pub returns-in_err-new-clause-err : goal.returns-in_err-new-clause-err
+returns-in_err-new-clause-err g c =
+    let lost = err_from_is_err_and c.from_residual.result c.from_residual.ensures.1 in
+    let now = c.self.inside.sessions.entries in
+    let here : state_of c.deref.result.now now ≡ c.args.self.now = ap (λ (lanes : List (LaneState g.row.R.Denot)). state_of lanes now) c.deref.ensures.value ∙ c.self.view_is in
+    rw (lost.1, lost.2)
+    (refused g.R.Replica.segments c.args.self.now (code_of c.args.tablet c.args.at) (makes_of c.args.tablet c.args.at)
+    (λ code. LanesTell g.R.Replica.segments c.deref.result.now (code_of c.args.tablet c.args.at) (Some code)) c.in_err-new.field-0.0
+    (λ code told. subst (λ (state : ClusterState g.row.R.Denot). HasCode g.R.Replica.segments state (code_of c.args.tablet c.args.at) (Some code)) here (told now))
+    c.in_err-new.ensures.err)
+
+pub returns-in_err-act_all-clause-err : goal.returns-in_err-act_all-clause-err
+returns-in_err-act_all-clause-err g c =
+    let lost = err_from_is_err_and c.from_residual-in_err-act_all.result c.from_residual-in_err-act_all.ensures.1 in
+    let lanes = c.self.inside.lanes.items in
+    let now = c.self.inside.sessions.entries in
+    let new = c.act_all.new.lanes.items in
+    let code = told_of g.R.Replica.segments c.deref.result.now lanes (code_of c.args.tablet c.args.at) None c.deref.ensures.value c.in_ok-new.ensures.code in
+    let told = told_of g.R.Replica.segments c.deref.result.now lanes next_tablet c.in_ok-new.new c.deref.ensures.value c.in_ok-new.ensures.tablet in
+    rw (lost.1, lost.2)
+    (subst (λ (state : ClusterState g.row.R.Denot). EndsIn g.R.Replica.segments state (state_of new now) (code_of c.args.tablet c.args.at) (makes_of c.args.tablet c.args.at) c.in_err-act_all.field-0.0)
+    c.self.view_is
+    (stopped g.R.Replica.segments lanes new now (code_of c.args.tablet c.args.at) (makes_of c.args.tablet c.args.at) (deeds_in (event_of c.args.tablet c.args.at c.in_ok-new.new)) (code now)
+    (numbered_made g.R.Replica.segments lanes now (event_of c.args.tablet c.args.at) c.in_ok-new.new c.self.invariant.count told) c.in_err-act_all.field-0.0
+    (rw c.in_all_lanes-deeds.ensures at c.in_err-act_all.ensures.err)))
+
+pub returns-clause-ok : goal.returns-clause-ok
+returns-clause-ok g c =
+    let lanes = c.self.inside.lanes.items in
+    let now = c.self.inside.sessions.entries in
+    let new = c.act_all.new.lanes.items in
+    let code = told_of g.R.Replica.segments c.deref.result.now lanes (code_of c.args.tablet c.args.at) None c.deref.ensures.value c.in_ok-new.ensures.code in
+    let told = told_of g.R.Replica.segments c.deref.result.now lanes next_tablet c.in_ok-new.new c.deref.ensures.value c.in_ok-new.ensures.tablet in
+    subst (λ (state : ClusterState g.row.R.Denot). IsCarriedOut g.R.Replica.segments state (state_of new now) (code_of c.args.tablet c.args.at) (makes_of c.args.tablet c.args.at) c.nothing_said.result.items)
+    c.self.view_is
+    (subst (IsCarriedOut g.R.Replica.segments (state_of lanes now) (state_of new now) (code_of c.args.tablet c.args.at) (makes_of c.args.tablet c.args.at)) (sym c.nothing_said.ensures)
+    (carried_out g.R.Replica.segments lanes new now (code_of c.args.tablet c.args.at) (makes_of c.args.tablet c.args.at) (deeds_in (event_of c.args.tablet c.args.at c.in_ok-new.new)) (code now)
+    (numbered_made g.R.Replica.segments lanes now (event_of c.args.tablet c.args.at) c.in_ok-new.new c.self.invariant.count told)
+    (rw c.in_all_lanes-deeds.ensures at c.in_ok-act_all.ensures.ok)))
