@@ -11,3 +11,4 @@ pub mod Visits
 pub mod Masters
 pub mod Turns
 pub mod Told
+pub mod Quiet

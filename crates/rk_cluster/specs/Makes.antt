@@ -1,6 +1,6 @@
 -- What each call of a user makes: a list of events in lanes and of what sessions do there, one after the other. `called` is what the
 -- call of a replica comes to, where a message for a backup is delivered.
-use Rattle.std.specs.Prelude.{ℕ, ◌+◌, ◌==◌, if◌then◌else◌, List, [], ◌∷◌, ◌++◌, length, map, Option, Some, None}
+use Rattle.std.specs.Prelude.{ℕ, ◌+◌, ◌==◌, Bool, true, if◌then◌else◌, List, [], ◌∷◌, ◌++◌, length, map, Option, Some, None}
 use Rattle.std.specs.List.{flat_map}
 use Rattle.rk_types.specs.Hashing.{hash_of, lane_of}
 use Rattle.rk_types.specs.NumberMap.{get}
@@ -19,7 +19,7 @@ use Rattle.rk_world.specs.Backup.{Called, Gave}
 use Rattle.rk_world.specs.Client.{Session, call_lane}
 use Rattle.rk_world.specs.Cluster.{Accepts, Asks, Calls, Cluster, Happens, Joins, Occurrence, lane_at, session_at}
 use Rattle.rk_world.specs.World.{live_masters}
-use Rattle.rk_cluster.specs.Looks.{all_lanes, lanes_without, rows_of}
+use Rattle.rk_cluster.specs.Looks.{all_lanes, is_client, lanes_without, rows_of}
 
 -- an event of a lane that calls no replica
 abbrev pub in_lane : ℕ → Event → Occurrence
@@ -66,21 +66,31 @@ crash_makes cluster master = in_lanes (all_lanes cluster) (events.Crash master)
 abbrev pub notice_makes : Cluster → ℕ → List Occurrence
 notice_makes cluster master = in_lanes (all_lanes cluster) (events.Notice master)
 
+-- whether somebody takes a message for this node: a client without a session takes nothing
+abbrev pub has_receiver : Cluster → Node → Bool
+has_receiver cluster (nodes.Client client) = is_client cluster client
+has_receiver cluster to = true
+
 -- a message reaches its receiver: a client takes it itself
 abbrev pub delivery : ℕ → ℕ → Called → Node → Occurrence
 delivery lane number called (nodes.Client client) = Accepts lane number client
 delivery lane number called to = Happens lane (events.Deliver number) called
 
--- a message of the wire, if it is there, is delivered
-abbrev pub delivery_of : ℕ → ℕ → Called → Option Message → List Occurrence
-delivery_of lane number called None = []
-delivery_of lane number called (Some message) = delivery lane number called message.to ∷ []
+-- a message, if it is there and somebody takes it, is delivered
+abbrev pub delivery_of : Cluster → ℕ → ℕ → Called → Option Message → List Occurrence
+delivery_of cluster lane number called None = []
+delivery_of cluster lane number called (Some message) =
+    if has_receiver cluster message.to then delivery lane number called message.to ∷ [] else []
+
+-- the message of a number, if it is on a lane's wire, is delivered
+abbrev pub deliver_in_makes : Cluster → ℕ → ℕ → Called → List Occurrence
+deliver_in_makes cluster lane number called =
+    delivery_of cluster lane number called (get (lane_at cluster lane).wire.messages number)
 
 -- the message at a place of a wire, if there is one, is delivered
 abbrev pub deliver_by : Cluster → ℕ → Called → Option ℕ → List Occurrence
 deliver_by cluster lane called None = []
-deliver_by cluster lane called (Some number) =
-    delivery_of lane number called (get (lane_at cluster lane).wire.messages number)
+deliver_by cluster lane called (Some number) = deliver_in_makes cluster lane number called
 
 -- the message at a place of a lane's wire is delivered; it stays there
 abbrev pub deliver_makes : Cluster → ℕ → ℕ → Called → List Occurrence
