@@ -9,7 +9,7 @@ use Rattle.rk_message.specs.declared.message.Message.{Message}
 use Rattle.rk_world.specs.Backup.{Called, Failed, Gave}
 use Rattle.rk_world.specs.Cluster.{Cluster, Happens, Occurrence, lane_at}
 use Rattle.rk_cluster.specs.Acted.{Acted, acted}
-use Rattle.rk_cluster.specs.Makes.{delivery}
+use Rattle.rk_cluster.specs.Makes.{delivery, has_receiver}
 use Rattle.rk_settle.specs.Tasks.{Task, Begins, Delivers, Ends, Occurs}
 use Rattle.rk_settle.specs.Unfolding.{unfolded}
 use Rattle.rk_settle.specs.declared.error.SettleError.{SettleError}
@@ -70,11 +70,12 @@ abbrev pub called_for : Node → Called → Called
 called_for (nodes.Backup backup) called = called
 called_for to called = Gave None
 
--- a message, if it is there, is delivered; `called` is what the call of a replica comes to
+-- a message, if it is there and somebody takes it, is delivered; `called` is what the call of a replica comes to
 abbrev pub delivering : Course → ℕ → ℕ → Called → List Task → Option Message → Course
 delivering course lane number called rest None = with_tasks course rest
 delivering course lane number called rest (Some message) =
-    occurring course (delivery lane number (called_for message.to called) message.to) rest
+    let occurrence = delivery lane number (called_for message.to called) message.to in
+    if has_receiver course.cluster message.to then occurring course occurrence rest else with_tasks course rest
 
 -- whether replicas have failed in as many rounds as they may
 abbrev pub is_at_limit : Course → Bool
@@ -108,11 +109,12 @@ abbrev pub worn_error : Option ℕ → Option SettleError
 worn_error None = None
 worn_error (Some number) = Some (errors.Worn number)
 
--- why the delivery of a message, if it is there, is refused
+-- why the delivery of a message, if it is there and somebody takes it, is refused
 abbrev pub delivery_error : Cluster → ℕ → ℕ → Option Message → Option SettleError
 delivery_error cluster lane number None = None
 delivery_error cluster lane number (Some message) =
-    worn_error (acted cluster (delivery lane number (Gave None) message.to)).worn
+    if has_receiver cluster message.to then worn_error (acted cluster (delivery lane number (Gave None) message.to)).worn
+    else None
 
 -- why a command stops at the first of these tasks
 abbrev pub error_by : Course → List Task → Option SettleError
