@@ -2,7 +2,6 @@
 use Rattle.std.proofs.Common.{◌≡◌, ◌≢◌, ℕ, List, [], Option, Some, Result, Ok, Err, IfErr, IfOk, IsSomeAnd, OnErr, is_some, slice_get, slice_set, unwrap_or, refl, sym, ap, subst, ◌∙◌, ⊎_elim}
 use Rattle.std.proofs.lemmas.Bool.{cases_eq}
 use Rattle.rk_types.specs.NumberMap.{IsInOrder, NumberMap, get, insert}
-use Rattle.rk_types.specs.declared.node.Said.{Said}
 use Rattle.rk_types.proofs.NumberMaps.{get_other, get_same, in_order_insert, same_map}
 use Rattle.rk_outside.specs.Segments.{Segments}
 use Rattle.rk_world.specs.Calls.{Visited, accept, accept_by, ask, ask_by}
@@ -17,6 +16,7 @@ use Rattle.rk_lane.specs.LaneState.{AreTold, LaneState, Running, world_with}
 use Rattle.rk_lane.specs.Visits.{IsRefusedFor, IsVisitOf}
 use Rattle.rk_cluster.specs.Acted.{said_by, said_in, worn_in}
 use Rattle.rk_cluster.specs.Effects.{ActsOne, IsActedAs}
+use Rattle.rk_cluster.specs.Saying.{said_then}
 use Rattle.rk_cluster.specs.State.{IsOf, IsWorld}
 use Rattle.rk_cluster.specs.Steps.{state_of}
 use Rattle.rk_cluster.specs.Visits.{HasSession}
@@ -93,11 +93,6 @@ module _ {R : Type 0} (segments : R → Option Segments) where
 
   -- ---- in a cluster
 
-  -- what a client said of an answer
-  abbrev pub said_then : Session → Session → Result Seen StepError → List Said
-  said_then session later (Ok seen) = said_by session.outstanding later.receipts seen.taken
-  said_then session later (Err error) = []
-
   module _ (cluster : Cluster) (lanes : List (LaneState R)) (sessions : NumberMap Session) (place client : ℕ) (old new : LaneState R) (session later : Session)
       (there : slice_get lanes place ≡ Some old) (found : get sessions client ≡ Some session) (order : IsInOrder sessions)
       (is : IsOf segments (state_of lanes sessions) cluster) where
@@ -121,7 +116,7 @@ module _ {R : Type 0} (segments : R → Option Segments) where
     worn_after (Err cause) (Err error) has = ap (λ (e : StepError). worn_in {T = Visited} (Err e)) has.0
 
     said_after : (answer : Result Seen StepError) (visited : Result Visited StepError) → HasVisited old new session later answer visited
-        → said_in session visited ≡ said_then session later answer
+        → said_in session visited ≡ said_then session.outstanding later.receipts answer
     said_after (Ok seen) (Ok visited) has =
         ap (λ (it : Session). said_by session.outstanding it.receipts visited.seen.taken) has.1
         ∙ ap (λ (it : Seen). said_by session.outstanding later.receipts it.taken) has.2
@@ -150,14 +145,14 @@ module _ {R : Type 0} (segments : R → Option Segments) where
         })
 
     accepted_by_known : (number : ℕ) (answer : Result Seen StepError) → VisitsLane (λ w. accept w number session) old new session later answer → (known : Session) → known ≡ session
-        → IsActedAs segments (state_of (slice_set lanes place new) (insert sessions client later)) (said_then session later answer) (worn_in answer)
+        → IsActedAs segments (state_of (slice_set lanes place new) (insert sessions client later)) (said_then session.outstanding later.receipts answer) (worn_in answer)
         (record {
           cluster = cluster_visited cluster place client (accept (lane_at cluster place) number known);
           said = said_in known (accept (lane_at cluster place) number known);
           worn = worn_in (accept (lane_at cluster place) number known);
         })
     accepted_by_known number answer visits known known_is =
-        subst (λ (it : Session). IsActedAs segments (state_of (slice_set lanes place new) (insert sessions client later)) (said_then session later answer) (worn_in answer)
+        subst (λ (it : Session). IsActedAs segments (state_of (slice_set lanes place new) (insert sessions client later)) (said_then session.outstanding later.receipts answer) (worn_in answer)
         (record {
           cluster = cluster_visited cluster place client (accept (lane_at cluster place) number it);
           said = said_in it (accept (lane_at cluster place) number it);
@@ -179,7 +174,7 @@ module _ {R : Type 0} (segments : R → Option Segments) where
 
   pub accepts : (lanes : List (LaneState R)) (sessions : NumberMap Session) (place number client : ℕ) (old new : LaneState R) (session later : Session) (answer : Result Seen StepError)
       → slice_get lanes place ≡ Some old → get sessions client ≡ Some session → IsInOrder sessions → VisitsLane (λ w. accept w number session) old new session later answer
-      → ActsOne segments (state_of lanes sessions) (state_of (slice_set lanes place new) (insert sessions client later)) (Accepts place number client) (said_then session later answer) (worn_in answer)
+      → ActsOne segments (state_of lanes sessions) (state_of (slice_set lanes place new) (insert sessions client later)) (Accepts place number client) (said_then session.outstanding later.receipts answer) (worn_in answer)
   accepts lanes sessions place number client old new session later answer there found order visits cluster is =
       accepted_by_known cluster lanes sessions place client old new session later there found order is number answer visits
       (session_at cluster client) (session_is cluster lanes sessions place client old new session later there found order is)

@@ -12,3 +12,4 @@ pub mod Masters
 pub mod Turns
 pub mod Told
 pub mod Quiet
+pub mod Saying

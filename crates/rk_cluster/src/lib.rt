@@ -15,6 +15,7 @@ mod cluster;
 mod code;
 mod error;
 mod looks;
+mod saying;
 mod sessions;
 mod steps;
 mod turning;

@@ -1,15 +1,17 @@
 // How clients take their turns and their answers in the lanes of a cluster.
-ghost use Rattle.std.specs.Prelude.{◌≡◌, ◌<◌, [], ℕ, length, Some, None, IfErr, OnOk};
-ghost use Rattle.rk_world.specs.Cluster.{Asks};
+ghost use Rattle.std.specs.Prelude.{◌≡◌, ◌<◌, [], ℕ, length, Some, None, IfErr, IfOk, OnOk};
+ghost use Rattle.rk_world.specs.Cluster.{Accepts, Asks};
 ghost use Rattle.rk_cluster.specs.Effects.{ActsOne};
 ghost use Rattle.rk_cluster.specs.Steps.{AreLanes, MayAllAct, WhereWorn, state_of};
 ghost use Rattle.rk_cluster.specs.Visits.{HasSession};
 
 use crate::error::ClusterError;
+use crate::saying::{asked_by, tell};
 use crate::steps::heard;
 use rk_lane::Lane;
 use rk_outside::Replica;
 use rk_session::Session;
+use rk_types::Said;
 use std::collections::BTreeMap;
 
 /// A client that has a session takes its turn in a lane. A refusal is passed over, unless the lane is worn or memory is
@@ -40,4 +42,36 @@ pub(crate) fn ask_in<R: Replica + Drop>(
     let at = &mut lanes[lane as usize];
     let answer = at.ask(session);
     heard(&answer)
+}
+
+/// A client that has a session takes the message of a number of a lane's wire, and says what it tells of its call. A refusal
+/// is passed over, unless memory is wanting; that may also come once the message is taken.
+pub(crate) fn accept_in<R: Replica + Drop>(
+    lanes: &mut Vec<Lane<R>>,
+    sessions: &mut BTreeMap<u32, Session>,
+    masters: u8,
+    lane: u8,
+    number: u64,
+    client: u32,
+) -> Result<Vec<Said>, ClusterError>
+    requires there { lane < length lanes.old.items }
+    requires session { HasSession sessions.old.entries client }
+    requires lanes { AreLanes masters 0 lanes.old.items }
+    requires acts { MayAllAct masters sessions.old.entries }
+    ensures ok { IfOk result (λ said. ActsOne R.segments (state_of lanes.old.items sessions.old.entries)
+        (state_of lanes.new.items sessions.new.entries) (Accepts lane number client) said.items None) }
+    ensures memory { IfErr result (λ e. e ≡ ClusterError.NoMemory) }
+    ensures lanes { AreLanes masters 0 lanes.new.items }
+    ensures count { length lanes.new.items ≡ length lanes.old.items }
+    ensures acts { MayAllAct masters sessions.new.entries }
+    ensures clients { (other : ℕ) → HasSession sessions.old.entries other → HasSession sessions.new.entries other }
+{
+    let alloc = *lanes.allocator();
+    let Some(session) = sessions.get_mut(&client) else {
+        return Ok(Vec::new(alloc));
+    };
+    let asked = asked_by(session);
+    let at = &mut lanes[lane as usize];
+    let answer = at.accept(number, session);
+    tell(alloc, asked, session, answer)
 }
