@@ -13,3 +13,4 @@ pub mod Turned
 pub mod Telling
 pub mod Admitting
 pub mod Making
+pub mod Deliveries

@@ -2,7 +2,9 @@
 use Rattle.std.specs.Prelude.{◌≡◌, ℕ, List, [], ◌++◌, Option, None, Some, ⊤}
 use Rattle.rk_types.specs.declared.node.Said.{Said}
 use Rattle.rk_outside.specs.Segments.{Segments}
+use Rattle.rk_world.specs.Backup.{Called}
 use Rattle.rk_world.specs.Cluster.{Cluster, Occurrence}
+use Rattle.rk_world.specs.Premises.{MayCome}
 use Rattle.rk_cluster.specs.Acted.{Acted, acted, all_acted}
 use Rattle.rk_cluster.specs.State.{ClusterState, IsOf}
 use Rattle.rk_cluster.specs.declared.code.Code.{Code}
@@ -51,3 +53,9 @@ EndsIn segments old new code_of makes (errors.Code code) = HasCode segments old 
 EndsIn segments old new code_of makes (errors.Worn number) =
     HasCode segments old code_of None × ActsBy segments old new makes [] (Some number)
 EndsIn segments old new code_of makes errors.NoMemory = ⊤
+
+-- this holds by what the call of a replica came to, if one was called
+pub record BySomeCall (Holds : Called → Type 0) : Type 0 where
+  pub called : Called
+  pub may : MayCome called
+  pub holds : Holds called

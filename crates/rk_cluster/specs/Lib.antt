@@ -13,3 +13,4 @@ pub mod Turns
 pub mod Told
 pub mod Quiet
 pub mod Saying
+pub mod Delivering

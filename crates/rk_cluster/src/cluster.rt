@@ -5,14 +5,16 @@ ghost use Rattle.rk_types.specs.declared.hashing.TheConstants.{LANES};
 ghost use Rattle.rk_world.specs.Cluster.{Asks};
 ghost use Rattle.rk_world.specs.Premises.{IsMaster, MayAct, MOST_MASTERS};
 ghost use Rattle.rk_cluster.specs.Codes.{client_code, notice_code, place_code};
-ghost use Rattle.rk_cluster.specs.Effects.{ActsOne, EndsIn, IsCarriedOut};
+ghost use Rattle.rk_cluster.specs.Delivering.{Delivers};
+ghost use Rattle.rk_cluster.specs.Effects.{ActsOne, BySomeCall, EndsIn, IsCarriedOut};
+ghost use Rattle.rk_cluster.specs.Makes.{client_makes, deliver_makes, forget_makes, notice_makes};
 ghost use Rattle.rk_cluster.specs.Masters.{masters_of};
-ghost use Rattle.rk_cluster.specs.Makes.{client_makes, forget_makes, notice_makes};
 ghost use Rattle.rk_cluster.specs.State.{has_spent};
 ghost use Rattle.rk_cluster.specs.Steps.{AreLanes, WhereWorn};
 ghost use Rattle.rk_cluster.specs.Visits.{HasSession};
 
 use crate::code::Code;
+use crate::delivering::deliver_in;
 use crate::error::ClusterError;
 use crate::sessions::{count, has_session, put_session};
 use crate::steps::{act, act_all, in_all_lanes};
@@ -157,6 +159,38 @@ impl<R: Replica + Drop> Cluster<R> {
         let deeds = in_all_lanes(Event::Notice(master));
         act_all(&mut self.lanes, self.masters, &deeds)?;
         Ok(nothing_said(alloc))
+    }
+
+    /// The message of a number is delivered, where it is on a lane's wire; it stays there. A client that has a session takes it
+    /// itself, and what it says of its call then is answered; nobody takes a message for a client without one. `NoMemory` may
+    /// also come once the message is taken. What its receiver takes.
+    pub fn deliver_in(&mut self, lane: u8, number: u64) -> Result<Vec<Said>, ClusterError>
+        requires { lane < LANES }
+        ensures ok { IfOk result (λ said. Delivers R.segments self.old self.new lane number said.items None) }
+        ensures err { IfErr result (WhereWorn (λ worn. Delivers R.segments self.old self.new lane number [] (Some worn))) }
+    {
+        deliver_in(
+            &mut self.lanes,
+            &mut self.sessions,
+            self.masters,
+            lane,
+            number,
+        )
+    }
+
+    /// The message at a place of a lane's wire, counted from 1, the oldest first, is delivered; it stays there. What a client
+    /// that takes it says of its call is answered. A step for each message up to there, and what its receiver takes.
+    pub fn deliver(&mut self, lane: u8, place: u32) -> Result<Vec<Said>, ClusterError>
+        requires { lane < LANES }
+        ensures ok { IfOk result (λ said. BySomeCall (λ called. IsCarriedOut R.segments self.old self.new
+            (λ cluster. place_code cluster lane place) (λ cluster. deliver_makes cluster lane place called) said.items)) }
+        ensures err { IfErr result (λ e. BySomeCall (λ called. EndsIn R.segments self.old self.new
+            (λ cluster. place_code cluster lane place) (λ cluster. deliver_makes cluster lane place called) e)) }
+    {
+        let Some(number) = self.lanes[lane as usize].wire().at(place) else {
+            return Err(ClusterError::Code(Code::NoPlace));
+        };
+        self.deliver_in(lane, number)
     }
 
     /// The message at a place of a lane's wire, counted from 1, the oldest first, is forgotten. A step for each message up to

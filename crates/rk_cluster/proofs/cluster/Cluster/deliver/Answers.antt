@@ -1,0 +1,58 @@
+use Rattle.std.proofs.Common.{◌≡◌, [], None, Some, refl, sym, subst, ◌∙◌, arith}
+use Rattle.std.proofs.lemmas.Result.{IfErr-weaker, IfOk-weaker}
+use Rattle.rk_message.specs.Wire.{number_at}
+use Rattle.rk_world.specs.Backup.{Gave}
+use Rattle.rk_cluster.specs.Codes.{place_code}
+use Rattle.rk_cluster.specs.Delivering.{Delivers}
+use Rattle.rk_cluster.specs.Effects.{BySomeCall, EndsIn, HasCode, IsCarriedOut}
+use Rattle.rk_cluster.specs.Makes.{deliver_makes}
+use Rattle.rk_cluster.specs.State.{ClusterState}
+use Rattle.rk_cluster.specs.Steps.{WhereWorn}
+use Rattle.rk_cluster.specs.declared.code.Code.TheVariants.{NoPlace}
+use Rattle.rk_cluster.proofs.Deliveries.{carried_out, ends}
+use Rattle.rk_cluster.proofs.Forgetting.{place_by}
+use Rattle.rk_cluster.proofs.Worlds.{there_read}
+use Rattle.rk_cluster.proofs.cluster.Cluster.deliver.Goals as goal
+
+pub returns-in_default-clause-err : goal.returns-in_default-clause-err
+returns-in_default-clause-err g c =
+    let lanes = c.self.inside.lanes.items in
+    let now = c.self.inside.sessions.entries in
+    let there = there_read lanes c.args.lane c.index.result.now (omega (arith, c.requires, c.self.invariant.count)) c.index.ensures in
+    record {
+      called = Gave None;
+      may = tt;
+      holds = (
+        subst (λ (state : ClusterState g.row.R.Denot). HasCode g.R.Replica.segments state (λ cluster. place_code cluster c.args.lane c.args.place) (Some NoPlace)) c.self.view_is
+            (place_by g.R.Replica.segments lanes now c.args.lane c.index.result.now c.wire.result.now there c.wire.ensures c.args.place None (sym c.at.ensures ∙ c.in_default.is)),
+        refl,
+      );
+    }
+
+pub returns-clause-ok : goal.returns-clause-ok
+returns-clause-ok g c =
+    let lanes = c.self.inside.lanes.items in
+    let now = c.self.inside.sessions.entries in
+    let there = there_read lanes c.args.lane c.index.result.now (omega (arith, c.requires, c.self.invariant.count)) c.index.ensures in
+    let found : number_at c.args.place c.wire.result.now ≡ Some c.in-Some.number = sym c.at.ensures ∙ c.in-Some.is in
+    IfOk-weaker c.deliver_in.result _ _
+    (λ said it.
+    subst (λ (state : ClusterState g.row.R.Denot). BySomeCall (λ called. IsCarriedOut g.R.Replica.segments state c.deliver_in.new.self (λ cluster. place_code cluster c.args.lane c.args.place)
+    (λ cluster. deliver_makes cluster c.args.lane c.args.place called) said.items)) c.self.view_is
+    (carried_out g.R.Replica.segments lanes now c.args.lane c.in-Some.number c.index.result.now c.wire.result.now there c.wire.ensures c.args.place c.deliver_in.new.self found said.items
+    (subst (λ (state : ClusterState g.row.R.Denot). Delivers g.R.Replica.segments state c.deliver_in.new.self c.args.lane c.in-Some.number said.items None) (sym c.self.view_is) it)))
+    c.deliver_in.ensures.ok
+
+pub returns-clause-err : goal.returns-clause-err
+returns-clause-err g c =
+    let lanes = c.self.inside.lanes.items in
+    let now = c.self.inside.sessions.entries in
+    let there = there_read lanes c.args.lane c.index.result.now (omega (arith, c.requires, c.self.invariant.count)) c.index.ensures in
+    let found : number_at c.args.place c.wire.result.now ≡ Some c.in-Some.number = sym c.at.ensures ∙ c.in-Some.is in
+    IfErr-weaker c.deliver_in.result _ _
+    (λ e worn.
+    subst (λ (state : ClusterState g.row.R.Denot). BySomeCall (λ called. EndsIn g.R.Replica.segments state c.deliver_in.new.self (λ cluster. place_code cluster c.args.lane c.args.place)
+    (λ cluster. deliver_makes cluster c.args.lane c.args.place called) e)) c.self.view_is
+    (ends g.R.Replica.segments lanes now c.args.lane c.in-Some.number c.index.result.now c.wire.result.now there c.wire.ensures c.args.place c.deliver_in.new.self found e
+    (subst (λ (state : ClusterState g.row.R.Denot). WhereWorn (λ number. Delivers g.R.Replica.segments state c.deliver_in.new.self c.args.lane c.in-Some.number [] (Some number)) e) (sym c.self.view_is) worn)))
+    c.deliver_in.ensures.err
