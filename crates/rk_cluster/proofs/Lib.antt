@@ -14,3 +14,5 @@ pub mod Telling
 pub mod Admitting
 pub mod Making
 pub mod Deliveries
+pub mod Testing
+pub mod Crashing

@@ -1,5 +1,6 @@
 -- Lanes and the worlds that they stand for, place by place.
-use Rattle.std.proofs.Common.{◌≡◌, ℕ, zero, suc, ◌+◌, ◌<◌, ◌≤◌, List, [], ◌∷◌, drop, length, slice_get, slice_set, slice_index_or, Option, Some, refl, sym, ap, subst, ◌∙◌, arith}
+use Rattle.std.proofs.Common.{◌≡◌, ◌≢◌, ℕ, zero, suc, ◌+◌, ◌<◌, ◌≤◌, List, [], ◌∷◌, All, drop, length, slice_get, slice_set, slice_index_or, Option, Some, refl, sym, ap, subst, ◌∙◌, arith}
+use Rattle.std.proofs.lemmas.List.Elements.{All-head, All-tail}
 use Rattle.rk_outside.specs.Segments.{Segments}
 use Rattle.rk_world.specs.World.{World}
 use Rattle.rk_lane.specs.LaneState.{IsSameLane, LaneState}
@@ -13,6 +14,20 @@ pub set_there : {X : Type 0} (xs : List X) (place : ℕ) (x : X) → slice_get x
 set_there [] place x there = refl
 set_there (y ∷ ys) zero x there = let same : y ≡ x = cc there in ap (λ first. first ∷ ys) (sym same)
 set_there (y ∷ ys) (suc place) x there = ap (λ rest. y ∷ rest) (set_there ys place x there)
+
+-- and leaves what stands at other places
+pub set_beside : {X : Type 0} (xs : List X) (place : ℕ) (x : X) (other : ℕ) → other ≢ place → slice_get (slice_set xs place x) other ≡ slice_get xs other
+set_beside [] place x other apart = refl
+set_beside (y ∷ ys) zero x zero apart = absurd (apart refl)
+set_beside (y ∷ ys) zero x (suc other) apart = refl
+set_beside (y ∷ ys) (suc place) x zero apart = refl
+set_beside (y ∷ ys) (suc place) x (suc other) apart = set_beside ys place x other (λ same. apart (ap suc same))
+
+-- what holds of each element holds of one that stands there
+pub all_at : {X : Type 0} (Holds : X → Type 0) (xs : List X) (place : ℕ) (x : X) → slice_get xs place ≡ Some x → All Holds xs → Holds x
+all_at Holds [] place x there all = absurd (cc there)
+all_at Holds (y ∷ ys) zero x there all = let same : y ≡ x = cc there in subst Holds same (All-head Holds y ys all)
+all_at Holds (y ∷ ys) (suc place) x there all = all_at Holds ys place x there (All-tail Holds y ys all)
 
 -- within a list something stands
 pub there_within : {X : Type 0} (xs : List X) (place : ℕ) (d : X) → place < length xs → slice_get xs place ≡ Some (slice_index_or xs place d)

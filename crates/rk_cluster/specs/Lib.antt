@@ -14,3 +14,5 @@ pub mod Told
 pub mod Quiet
 pub mod Saying
 pub mod Delivering
+pub mod Tests
+pub mod Crashing

@@ -9,6 +9,7 @@ use Rattle.rk_tablet_map.specs.declared.phase.Phase.TheVariants.{Owned}
 use Rattle.rk_tablet_map.specs.declared.row.Row.{Row}
 use Rattle.rk_world.specs.Client.{Session}
 use Rattle.rk_world.specs.Cluster.{Cluster, lane_at}
+use Rattle.rk_world.specs.Runs.{lives_another}
 use Rattle.rk_world.specs.World.{World, has_crashed}
 
 -- the rows of lane 0: a row for each tablet
@@ -27,10 +28,9 @@ is_master cluster master = nat_le 1 master && nat_le master (master_count cluste
 abbrev pub is_dead : Cluster → ℕ → Bool
 is_dead cluster master = has_crashed (lane_at cluster 0) master
 
--- whether another master than this one lives
+-- whether another master than this one lives, in every lane
 abbrev pub is_other_alive : Cluster → ℕ → Bool
-is_other_alive cluster master =
-    list_any (λ other. not (other == master) && not (is_dead cluster other)) (range_with_len 1 (master_count cluster))
+is_other_alive cluster master = list_all (λ w. lives_another w master) cluster.lanes
 
 -- whether a client has a session
 abbrev pub is_client : Cluster → ℕ → Bool

@@ -1,0 +1,26 @@
+use Rattle.std.proofs.Common.{Option, ℕ, refl, slice_set, subst}
+use Rattle.rk_world.specs.declared.event.Event.TheVariants as events
+use Rattle.rk_cluster.specs.Steps.{IsHappening}
+use Rattle.rk_cluster.proofs.Crashing.{crash_well}
+use Rattle.rk_cluster.proofs.Happenings.{happened}
+use Rattle.rk_cluster.proofs.Worlds.{lane_set, set_beside, there_read}
+use Rattle.rk_cluster.proofs.cluster.crashing.crash_in.Goals as goal
+
+pub returns-clause-happens : goal.returns-clause-happens
+returns-clause-happens g c =
+    let lanes = c.args.lanes.now.items in
+    let its = c.index_mut.result.now in
+    let memory = c.step.ensures.free refl in
+    subst (λ (broken : Option ℕ). IsHappening g.R.Replica.segments lanes (slice_set lanes c.args.lane c.step.new.self) c.args.lane (events.Crash c.args.master) broken)
+    (crash_well g.R.Replica.faults its c.step.new.self c.args.master c.step.result memory c.step.ensures.refused)
+    (happened g.R.Replica.segments g.R.Replica.faults lanes c.args.lane its c.step.new.self (events.Crash c.args.master)
+    (there_read lanes c.args.lane its c.requires.there c.index_mut.ensures.value) c.step.result memory c.step.ensures.ok c.step.ensures.refused)
+
+pub returns-clause-beside : goal.returns-clause-beside
+returns-clause-beside g c = set_beside c.args.lanes.now.items c.args.lane c.step.new.self
+
+pub returns-clause-lanes : goal.returns-clause-lanes
+returns-clause-lanes g c =
+    λ masters are.
+    lane_set masters 0 c.args.lanes.now.items c.args.lane c.index_mut.result.now c.step.new.self
+    (there_read c.args.lanes.now.items c.args.lane c.index_mut.result.now c.requires.there c.index_mut.ensures.value) c.step.ensures.lane are
