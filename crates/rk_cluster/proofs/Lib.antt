@@ -16,3 +16,4 @@ pub mod Making
 pub mod Deliveries
 pub mod Testing
 pub mod Crashing
+pub mod Calling

@@ -16,3 +16,4 @@ pub mod Saying
 pub mod Delivering
 pub mod Tests
 pub mod Crashing
+pub mod Calling

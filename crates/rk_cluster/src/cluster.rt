@@ -30,6 +30,7 @@ use std::marker::Model;
 
 mod tables;
 mod turns;
+mod calling;
 mod crashing;
 
 /// As many clients as may have sessions.

@@ -1,0 +1,81 @@
+use Rattle.std.proofs.Common.{◌≡◌, ℕ, Bool, true, false, Bor, List, map, sum, nat_le, Option, None, Some, is_some, refl, sym, ap, subst, ◌∙◌, arith}
+use Rattle.std.specs.Option.{option_copied}
+use Rattle.rk_types.specs.NumberMap.{get}
+use Rattle.rk_types.proofs.Trees.{get_tree}
+use Rattle.rk_types.specs.declared.call.Call.{Call}
+use Rattle.rk_tablet_map.specs.declared.row.Row.{Row}
+use Rattle.rk_world.specs.Client.{Session}
+use Rattle.rk_cluster.specs.Codes.{MOST_CALLS, call_code}
+use Rattle.rk_cluster.specs.Effects.{HasCode}
+use Rattle.rk_cluster.specs.Looks.{calls_of, has_table}
+use Rattle.rk_cluster.specs.State.{ClusterState}
+use Rattle.rk_cluster.specs.declared.code.Code.TheVariants.{Busy, Limit, Unknown}
+use Rattle.rk_cluster.proofs.Calling.{call_by, call_unknown, calls_many, copied_some, tables_count}
+use Rattle.rk_cluster.proofs.Worlds.{there_read}
+use Rattle.rk_cluster.proofs.cluster.Cluster.call.Goals as goal
+
+-- what was told of tables and calls
+has_told : (rows list : List Row) (table : ℕ) (told : Bool) → list ≡ rows → told ≡ has_table list table → has_table rows table ≡ told
+has_told rows list table told same is = ap (λ (all : List Row). has_table all table) (sym same) ∙ sym is
+
+waits_told : (session : Session) (lent : Option (Bor Call)) (told : Bool) → option_copied lent ≡ session.outstanding → told ≡ is_some lent → is_some session.outstanding ≡ told
+waits_told session lent told same is = ap (λ (call : Option Call). is_some call) (sym same) ∙ copied_some lent ∙ sym is
+
+pub returns-in_default-clause-err : goal.returns-in_default-clause-err
+returns-in_default-clause-err g c =
+    let absent : get c.self.inside.sessions.entries c.args.client ≡ None = get_tree c.self.inside.sessions c.args.client ∙ sym c.in_default.ensures.value in (
+      subst (λ (state : ClusterState g.row.R.Denot). HasCode g.R.Replica.segments state (λ cluster. call_code cluster c.args.client c.args.table) (Some Unknown)) c.self.view_is
+          (call_unknown g.R.Replica.segments c.self.inside.lanes.items c.self.inside.sessions.entries c.args.client c.args.table absent),
+      refl,
+    )
+
+pub returns-then-is_some-clause-err : goal.returns-then-is_some-clause-err
+returns-then-is_some-clause-err g c =
+    let lanes = c.self.inside.lanes.items in
+    let now = c.self.inside.sessions.entries in
+    let first = c.index-first.result.now in
+    let there = there_read lanes 0 first (omega (arith, c.self.invariant.count)) c.index-first.ensures in
+    let found : get now c.args.client ≡ Some c.in-Some.session.now = get_tree c.self.inside.sessions c.args.client ∙ sym c.in-Some.ensures.value in
+    let has = has_told c.rows.result.now c.rows-2.result.now c.args.table c.has_table.result c.rows-2.ensures.value c.has_table.ensures ∙ c.if-not-has_table.false in
+    let waits = waits_told c.in-Some.session.now c.outstanding.result c.is_some.result c.outstanding.ensures c.is_some.ensures ∙ c.if-is_some.true in (
+      subst (λ (state : ClusterState g.row.R.Denot). HasCode g.R.Replica.segments state (λ cluster. call_code cluster c.args.client c.args.table) (Some Busy)) c.self.view_is
+          (call_by g.R.Replica.segments lanes now c.args.client c.args.table first c.rows.result.now c.in-Some.session.now true true
+          (nat_le MOST_CALLS (sum (map (λ (entry : ℕ × Session). calls_of entry.1) now))) there c.rows.ensures found has waits refl),
+      refl,
+    )
+
+pub returns-then-calls_asked-ge-MOST_CALLS-clause-err : goal.returns-then-calls_asked-ge-MOST_CALLS-clause-err
+returns-then-calls_asked-ge-MOST_CALLS-clause-err g c =
+    let lanes = c.self.inside.lanes.items in
+    let now = c.self.inside.sessions.entries in
+    let first = c.index-first.result.now in
+    let there = there_read lanes 0 first (omega (arith, c.self.invariant.count)) c.index-first.ensures in
+    let found : get now c.args.client ≡ Some c.in-Some.session.now = get_tree c.self.inside.sessions c.args.client ∙ sym c.in-Some.ensures.value in
+    let has = has_told c.rows.result.now c.rows-2.result.now c.args.table c.has_table.result c.rows-2.ensures.value c.has_table.ensures ∙ c.if-not-has_table.false in
+    let waits = waits_told c.in-Some.session.now c.outstanding.result c.is_some.result c.outstanding.ensures c.is_some.ensures ∙ c.if-is_some.false in
+    let many = calls_many (sum (map (λ (entry : ℕ × Session). calls_of entry.1) now)) c.calls_asked.result c.calls_asked.ensures c.if-calls_asked-ge-MOST_CALLS.true in (
+      subst (λ (state : ClusterState g.row.R.Denot). HasCode g.R.Replica.segments state (λ cluster. call_code cluster c.args.client c.args.table) (Some Limit)) c.self.view_is
+          (call_by g.R.Replica.segments lanes now c.args.client c.args.table first c.rows.result.now c.in-Some.session.now true false true there c.rows.ensures found has waits many),
+      refl,
+    )
+
+pub ask_next-requires-clause-table : goal.ask_next-requires-clause-table
+ask_next-requires-clause-table g c =
+    tables_count c.index-first.result.now c.rows.result.now c.args.table c.spent.result c.spent.ensures.spent c.if-spent.false c.spent.ensures.formed c.rows.ensures
+    (has_told c.rows.result.now c.rows-2.result.now c.args.table c.has_table.result c.rows-2.ensures.value c.has_table.ensures ∙ c.if-not-has_table.false)
+
+pub invariant_of-self : goal.invariant_of-self
+invariant_of-self g c = record {
+  count = c.self.invariant.count;
+  lanes = c.self.invariant.lanes;
+  masters = c.self.invariant.masters;
+  sessions = c.ask_next.ensures.acts c.self.inside.masters c.self.invariant.sessions;
+}
+
+pub invariant_of-self-2 : goal.invariant_of-self-2
+invariant_of-self-2 g c = record {
+  count = c.self.invariant.count;
+  lanes = c.self.invariant.lanes;
+  masters = c.self.invariant.masters;
+  sessions = c.ask_next.ensures.acts c.self.inside.masters c.self.invariant.sessions;
+}
