@@ -17,3 +17,4 @@ pub mod Deliveries
 pub mod Testing
 pub mod Crashing
 pub mod Calling
+pub mod Resting

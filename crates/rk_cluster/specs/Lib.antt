@@ -17,3 +17,4 @@ pub mod Delivering
 pub mod Tests
 pub mod Crashing
 pub mod Calling
+pub mod Quiet

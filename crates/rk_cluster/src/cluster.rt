@@ -32,6 +32,7 @@ mod tables;
 mod turns;
 mod calling;
 mod crashing;
+mod quiet;
 
 /// As many clients as may have sessions.
 const MOST_CLIENTS: usize = 64;
