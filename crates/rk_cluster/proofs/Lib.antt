@@ -18,3 +18,6 @@ pub mod Testing
 pub mod Crashing
 pub mod Calling
 pub mod Resting
+pub mod Eighths
+pub mod Dealing
+pub mod Making

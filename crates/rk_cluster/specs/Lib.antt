@@ -18,3 +18,5 @@ pub mod Tests
 pub mod Crashing
 pub mod Calling
 pub mod Quiet
+pub mod Dealt
+pub mod Fresh

@@ -28,11 +28,12 @@ use std::alloc::Global;
 use std::collections::BTreeMap;
 use std::marker::Model;
 
-mod tables;
-mod turns;
 mod calling;
 mod crashing;
+mod fresh;
 mod quiet;
+mod tables;
+mod turns;
 
 /// As many clients as may have sessions.
 const MOST_CLIENTS: usize = 64;

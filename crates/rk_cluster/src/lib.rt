@@ -13,6 +13,7 @@ pub use error::ClusterError;
 mod admissions;
 mod cluster;
 mod code;
+mod dealing;
 mod delivering;
 mod error;
 mod looks;

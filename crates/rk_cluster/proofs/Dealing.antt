@@ -1,0 +1,230 @@
+-- How replicas are dealt to the lanes of a new cluster, and how these are made.
+use Rattle.std.proofs.Common.{◌≡◌, ◌≤◌, ◌<◌, ◌+◌, ◌*◌, ℕ, zero, suc, List, [], ◌∷◌, ◌++◌, All, length, map, slice_get, Option, None, Some, IfSome, is_some, refl, sym, ap, subst, ◌∙◌, arith, length-append, append_assoc, append-nil}
+use Rattle.std.specs.List.{range_with_len}
+use Rattle.std.specs.Prelude.{true}
+use Rattle.std.proofs.lemmas.List.Elements.{All-cons, All-head, All-nil, All-tail}
+use Rattle.std.proofs.lemmas.Option.{slice_get_past, slice_get_within}
+use Rattle.std.specs.Global.{Vec}
+use Rattle.std.proofs.lemmas.List.{length-map}
+use Rattle.rk_log.specs.declared.copied.TheConstants.{MOST_BACKUPS}
+use Rattle.rk_types.specs.declared.hashing.TheConstants.{LANES}
+use Rattle.rk_outside.specs.Segments.{Segments}
+use Rattle.rk_world.specs.Backup.{no_segments}
+use Rattle.rk_world.specs.Cluster.{Cluster, new_cluster}
+use Rattle.rk_world.specs.World.{World, new_backups, new_world}
+use Rattle.rk_lane.specs.LaneState.{AreTold, LaneState, Running, replicas_of, world_with}
+use Rattle.rk_cluster.specs.Dealt.{AreDealt, IsEighth}
+use Rattle.rk_cluster.specs.Fresh.{AreEmpty, AreMadeOf, IsHand, IsMadeOf, IsNewLane}
+use Rattle.rk_cluster.specs.State.{AreWorlds, ClusterState, IsOf, IsWorld}
+use Rattle.rk_cluster.specs.Steps.{AreLanes, state_of}
+use Rattle.rk_cluster.proofs.Worlds.{all_at}
+
+-- ---- hands
+
+-- a list is as long as the places where something stands
+places_count : {X : Type 0} (xs : List X) (count : ℕ) → ((place : ℕ) → place < count → slice_get xs place ≡ None → ⊥) → slice_get xs count ≡ None → length xs ≡ count
+places_count [] zero some none = refl
+places_count [] (suc count) some none = absurd (some 0 (omega arith) refl)
+places_count (x ∷ xs) zero some none = absurd (cc none)
+places_count (x ∷ xs) (suc count) some none = ap suc (places_count xs count (λ place within. some (suc place) (omega (arith, within))) none)
+
+nothing_within : {X : Type 0} (xs : List X) (place : ℕ) → place < length xs → slice_get xs place ≡ None → ⊥
+nothing_within [] place within none = absurd (omega (arith, within))
+nothing_within (x ∷ xs) zero within none = absurd (cc none)
+nothing_within (x ∷ xs) (suc place) within none = nothing_within xs place (omega (arith, within)) none
+
+something_within : {X : Type 0} (xs : List X) (place : ℕ) → place < length xs → (x : X) × (slice_get xs place ≡ Some x)
+something_within [] place within = absurd (omega (arith, within))
+something_within (x ∷ xs) zero within = (x, refl)
+something_within (x ∷ xs) (suc place) within = something_within xs place (omega (arith, within))
+
+-- each lane gets its share
+pub eighth_length : {X : Type 0} (things its : List X) (lane count : ℕ) → lane < LANES → length things ≡ LANES * count → IsEighth things lane its → length its ≡ count
+eighth_length things its lane count within many is =
+    places_count its count
+    (λ place less none. nothing_within things (8 * place + lane) (omega (arith, within, many, less)) (sym (is place) ∙ none))
+    (is count ∙ slice_get_past things (8 * count + lane) (omega (arith, many)))
+
+-- what holds where something stands holds of all
+all_places : {X : Type 0} (Holds : X → Type 0) (xs : List X) → ((place : ℕ) (x : X) → slice_get xs place ≡ Some x → Holds x) → All Holds xs
+all_places Holds [] holds = All-nil Holds
+all_places Holds (x ∷ xs) holds = All-cons Holds x xs (holds 0 x refl) (all_places Holds xs (λ place. holds (suc place)))
+
+pub eighth_all : {X : Type 0} (Holds : X → Type 0) (things its : List X) (lane : ℕ) → IsEighth things lane its → All Holds things → All Holds its
+eighth_all Holds things its lane is all = all_places Holds its (λ place x there. all_at Holds things (8 * place + lane) x (sym (is place) ∙ there) all)
+
+-- each lane gets as many as it may have
+pub hands_fit : {X : Type 0} (things : List X) (hands : List (Vec X)) (count : ℕ) → length things ≡ LANES * count → 1 ≤ count → count ≤ MOST_BACKUPS → AreDealt things hands
+    → All IsHand hands
+hands_fit {X = X} things hands count many some few dealt =
+    all_places IsHand hands
+    (λ lane hand there.
+    let its : length hand.items ≡ count =
+    eighth_length things hand.items lane count (omega (arith, slice_get_within hands lane hand there, dealt.count)) many (dealt.each lane hand there) in
+    let hand_is : IsHand hand = record { some = omega (arith, its, some); few = omega (arith, its, few) } in
+    hand_is)
+
+module _ {R : Type 0} (segments : R → Option Segments) (masters : ℕ) where
+  -- ---- one lane after the other
+
+  made_one : (number : ℕ) (hands : List (Vec R)) (lanes : List (LaneState R)) (hand : Vec R) (lane : LaneState R)
+      → AreMadeOf segments masters number hands lanes → IsMadeOf segments masters (number + length hands) hand.items lane
+      → AreMadeOf segments masters number (hands ++ hand ∷ []) (lanes ++ lane ∷ [])
+  made_one number [] [] hand lane are is = (subst (λ (n : ℕ). IsMadeOf segments masters n hand.items lane) (omega arith) is, tt)
+  made_one number [] (first ∷ lanes) hand lane are is = absurd are
+  made_one number (one ∷ hands) [] hand lane are is = absurd are
+  made_one number (one ∷ hands) (first ∷ lanes) hand lane are is = (
+    are.0,
+    made_one (number + 1) hands lanes hand lane are.1 (subst (λ (n : ℕ). IsMadeOf segments masters n hand.items lane) (omega arith) is),
+  )
+
+  -- lanes were made of so many hands, and these are left
+  pub record IsMaking (all made left : List (Vec R)) (lanes : List (LaneState R)) (number : ℕ) : Type 0 where
+    pub whole : made ++ left ≡ all
+    pub next : number ≡ length made
+    pub lanes_are : AreMadeOf segments masters 0 made lanes
+
+  pub making_one : (all made left rest : List (Vec R)) (lanes : List (LaneState R)) (number : ℕ) (hand : Vec R) (lane : LaneState R) → left ≡ hand ∷ rest
+      → IsMadeOf segments masters number hand.items lane → IsMaking all made left lanes number → IsMaking all (made ++ hand ∷ []) rest (lanes ++ lane ∷ []) (number + 1)
+  making_one all made left rest lanes number hand lane first is making = record {
+    whole = append_assoc made (hand ∷ []) rest ∙ ap (λ (list : List (Vec R)). made ++ list) (sym first) ∙ making.whole;
+    next = omega (arith, making.next, length-append made (hand ∷ []));
+    lanes_are = made_one 0 made lanes hand lane making.lanes_are (subst (λ (n : ℕ). IsMadeOf segments masters n hand.items lane) (making.next ∙ omega arith) is);
+  }
+
+  pub making_all : (all made left : List (Vec R)) (lanes : List (LaneState R)) (number : ℕ) → left ≡ [] → IsMaking all made left lanes number → AreMadeOf segments masters 0 all lanes
+  making_all all made left lanes number none making =
+      subst (λ (hands : List (Vec R)). AreMadeOf segments masters 0 hands lanes)
+      (sym (append-nil made) ∙ ap (λ (list : List (Vec R)). made ++ list) (sym none) ∙ making.whole) making.lanes_are
+
+  -- the next hand stands behind those that were dealt with
+  pub next_stands : (all made left rest : List (Vec R)) (lanes : List (LaneState R)) (number : ℕ) (hand : Vec R) → left ≡ hand ∷ rest → IsMaking all made left lanes number
+      → slice_get all number ≡ Some hand
+  next_stands all made left rest lanes number hand first making =
+      ap (λ (list : List (Vec R)). slice_get list number) (sym making.whole ∙ ap (λ (list : List (Vec R)). made ++ list) first)
+      ∙ ap (slice_get (made ++ hand ∷ rest)) making.next ∙ behind made rest hand
+    where
+      behind : (made rest : List (Vec R)) (hand : Vec R) → slice_get (made ++ hand ∷ rest) (length made) ≡ Some hand
+      behind [] rest hand = refl
+      behind (one ∷ made) rest hand = behind made rest hand
+
+  -- ---- what was made
+
+  pub made_at : (from : ℕ) (hands : List (Vec R)) (lanes : List (LaneState R)) (place : ℕ) (hand : Vec R) (lane : LaneState R) → slice_get hands place ≡ Some hand
+      → slice_get lanes place ≡ Some lane → AreMadeOf segments masters from hands lanes → IsMadeOf segments masters (from + place) hand.items lane
+  made_at from [] lanes place hand lane here there are = absurd (cc here)
+  made_at from (one ∷ hands) [] place hand lane here there are = absurd are
+  made_at from (one ∷ hands) (first ∷ lanes) zero hand lane here there are =
+      let same_hand : one ≡ hand = cc here in
+      let same_lane : first ≡ lane = cc there in
+      let number : from ≡ from + 0 = omega arith in
+      subst (λ (n : ℕ). IsMadeOf segments masters n hand.items lane) number
+      (subst (λ (h : Vec R). IsMadeOf segments masters from h.items lane) same_hand
+      (subst (λ (l : LaneState R). IsMadeOf segments masters from one.items l) same_lane are.0))
+  made_at from (one ∷ hands) (first ∷ lanes) (suc place) hand lane here there are =
+      let number : from + 1 + place ≡ from + suc place = omega arith in
+      subst (λ (n : ℕ). IsMadeOf segments masters n hand.items lane) number (made_at (from + 1) hands lanes place hand lane here there are.1)
+
+  pub made_count : (from : ℕ) (hands : List (Vec R)) (lanes : List (LaneState R)) → AreMadeOf segments masters from hands lanes → length lanes ≡ length hands
+  made_count from [] [] are = refl
+  made_count from [] (first ∷ lanes) are = absurd are
+  made_count from (one ∷ hands) [] are = absurd are
+  made_count from (one ∷ hands) (first ∷ lanes) are = ap suc (made_count (from + 1) hands lanes are.1)
+
+  pub made_lanes : (from : ℕ) (hands : List (Vec R)) (lanes : List (LaneState R)) → AreMadeOf segments masters from hands lanes → AreLanes masters from lanes
+  made_lanes from [] [] are = tt
+  made_lanes from [] (first ∷ lanes) are = absurd are
+  made_lanes from (one ∷ hands) [] are = absurd are
+  made_lanes from (one ∷ hands) (first ∷ lanes) are = (are.0.new.number_is, are.0.new.masters_are, made_lanes (from + 1) hands lanes are.1)
+
+  -- where the replicas tell that nothing was written, a lane stands for the new world
+  made_world : (number backups : ℕ) (replicas : List R) (lane : LaneState R) → length replicas ≡ backups → AreEmpty segments replicas → IsMadeOf segments masters number replicas lane
+      → IsWorld segments lane (new_world number masters backups)
+  made_world number backups replicas lane many empty made =
+      subst (λ (count : ℕ). IsWorld segments lane (new_world number masters count)) many
+      (record {
+        running = made.new.running;
+        runs = made.new.runs;
+        stored = new_backups (length replicas);
+        told = made.told empty;
+        is = ap (λ (w : World). record w { backups = new_backups (length replicas) }) (sym made.new.world);
+      })
+
+  pub made_worlds : (backups from : ℕ) (hands : List (Vec R)) (lanes : List (LaneState R)) → All (λ (hand : Vec R). length hand.items ≡ backups) hands
+      → All (λ (hand : Vec R). AreEmpty segments hand.items) hands → AreMadeOf segments masters from hands lanes
+      → AreWorlds segments lanes (map (λ number. new_world number masters backups) (range_with_len from (length hands)))
+  made_worlds backups from [] [] many empty are = tt
+  made_worlds backups from [] (first ∷ lanes) many empty are = absurd are
+  made_worlds backups from (one ∷ hands) [] many empty are = absurd are
+  made_worlds backups from (one ∷ hands) (first ∷ lanes) many empty are = (
+    made_world from backups one.items first (All-head (λ (hand : Vec R). length hand.items ≡ backups) one hands many) (All-head (λ (hand : Vec R). AreEmpty segments hand.items) one hands empty) are.0,
+    made_worlds backups (from + 1) hands lanes (All-tail (λ (hand : Vec R). length hand.items ≡ backups) one hands many) (All-tail (λ (hand : Vec R). AreEmpty segments hand.items) one hands empty) are.1,
+  )
+
+  -- a cluster of lanes that were made of what was dealt is the new one, where the replicas tell that nothing was written
+  pub made_cluster : (backups : ℕ) (replicas : List R) (hands : List (Vec R)) (lanes : List (LaneState R)) → length replicas ≡ LANES * backups → AreDealt replicas hands
+      → AreMadeOf segments masters 0 hands lanes → AreEmpty segments replicas → IsOf segments (state_of lanes []) (new_cluster masters backups)
+  made_cluster backups replicas hands lanes many dealt are empty =
+      let each : (lane : ℕ) (hand : Vec R) → slice_get hands lane ≡ Some hand → (length hand.items ≡ backups) × AreEmpty segments hand.items =
+      λ lane hand there. (
+        eighth_length replicas hand.items lane backups (omega (arith, slice_get_within hands lane hand there, dealt.count)) many (dealt.each lane hand there),
+        eighth_all (λ replica. segments replica ≡ Some no_segments) replicas hand.items lane (dealt.each lane hand there) empty,
+      ) in
+      record {
+        lanes =
+            subst (λ (count : ℕ). AreWorlds segments lanes (map (λ number. new_world number masters backups) (range_with_len 0 count))) dealt.count
+            (made_worlds backups 0 hands lanes (all_places (λ (hand : Vec R). length hand.items ≡ backups) hands (λ lane hand there. (each lane hand there).0))
+            (all_places (λ (hand : Vec R). AreEmpty segments hand.items) hands (λ lane hand there. (each lane hand there).1)) are);
+        sessions = refl;
+      }
+
+  -- each lane is new, and has its share of the replicas
+  pub made_here : (backups : ℕ) (replicas : List R) (hands : List (Vec R)) (lanes : List (LaneState R)) (number : ℕ) (lane : LaneState R) → length replicas ≡ LANES * backups
+      → AreDealt replicas hands → AreMadeOf segments masters 0 hands lanes → slice_get lanes number ≡ Some lane
+      → IsNewLane masters backups number lane × IsEighth replicas number (replicas_of lane.backups)
+  made_here backups replicas hands lanes number lane many dealt are there =
+      let within : number < length hands = omega (arith, slice_get_within lanes number lane there, made_count 0 hands lanes are) in
+      let stands = something_within hands number within in
+      let hand = stands.0 in
+      let here = stands.1 in
+      let it = made_at 0 hands lanes number hand lane here there are in
+      let share = dealt.each number hand here in
+      let count = eighth_length replicas hand.items number backups (omega (arith, within, dealt.count)) many share in (
+        subst (λ (n : ℕ). IsNewLane masters backups n lane) (omega arith) (subst (λ (n : ℕ). IsNewLane masters n (0 + number) lane) count it.new),
+        λ place. ap (λ (list : List R). slice_get list place) it.replicas_are ∙ share place,
+      )
+
+-- ---- one lane
+
+made_running : {R : Type 0} (masters backups number : ℕ) (lane : LaneState R) (running : Option Running) → lane.running ≡ running → is_some running ≡ true → lane.number ≡ number
+    → lane.masters ≡ masters → length lane.backups ≡ backups → IfSome running (λ it. world_with lane it [] ≡ record (new_world number masters backups) { backups = [] })
+    → IsNewLane masters backups number lane
+made_running masters backups number lane (Some running) is runs number_is masters_are backups_are world = record {
+  number_is = number_is;
+  masters_are = masters_are;
+  backups_are = backups_are;
+  running = running;
+  runs = is;
+  world = world;
+}
+made_running masters backups number lane None is runs number_is masters_are backups_are world = absurd (cc runs)
+
+pub one_made : {R : Type 0} (segments : R → Option Segments) (masters number : ℕ) (replicas : List R) (lane : LaneState R) → is_some lane.running ≡ true → lane.number ≡ number
+    → lane.masters ≡ masters → replicas_of lane.backups ≡ replicas
+    → IfSome lane.running (λ it. world_with lane it [] ≡ record (new_world number masters (length replicas)) { backups = [] })
+    → (AreEmpty segments replicas → AreTold segments lane.backups (new_backups (length replicas))) → IsMadeOf segments masters number replicas lane
+one_made {R = R} segments masters number replicas lane runs number_is masters_are replicas_are world told =
+    let many : length (replicas_of lane.backups) ≡ length lane.backups = length-map lane.backups _ in
+    record {
+      new = made_running masters (length replicas) number lane lane.running refl runs number_is masters_are (sym many ∙ ap (λ (list : List R). length list) replicas_are) world;
+      replicas_are = replicas_are;
+      told = told;
+    }
+
+-- a cluster with lanes and without sessions is that of its lanes
+pub of_parts : {R : Type 0} (segments : R → Option Segments) (state : ClusterState R) (lanes : List (LaneState R)) (cluster : Cluster) → state.lanes ≡ lanes → state.sessions ≡ []
+    → IsOf segments (state_of lanes []) cluster → IsOf segments state cluster
+of_parts {R = R} segments state lanes cluster its none is = record {
+  lanes = subst (λ (list : List (LaneState R)). AreWorlds segments list cluster.lanes) (sym its) is.lanes;
+  sessions = is.sessions ∙ sym none;
+}

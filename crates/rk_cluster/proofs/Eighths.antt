@@ -1,0 +1,104 @@
+-- Things that are dealt to eight hands.
+use Rattle.std.proofs.Common.{◌≡◌, ◌≢◌, ◌%◌, ◌*◌, ◌<◌, ◌≤◌, ◌+◌, ℕ, zero, suc, List, [], ◌∷◌, ◌++◌, Some, length, slice_get, slice_set, refl, sym, ap, subst, ◌∙◌, ⊎_elim, arith, length-append, append_assoc, append-nil}
+use Rattle.std.proofs.Math.ListN.{length-set}
+use Rattle.std.proofs.lemmas.Bool.{cases_eq}
+use Rattle.std.proofs.lemmas.Option.{slice_get_within}
+use Rattle.std.specs.Global.{Vec}
+use Rattle.rk_types.specs.declared.hashing.TheConstants.{LANES}
+use Rattle.rk_cluster.specs.Dealt.{AreDealt, IsEighth}
+use Rattle.rk_cluster.proofs.Worlds.{set_beside}
+
+-- each eighth of a list, the first of them at this place
+abbrev pub each_eighth : {X : Type 0} → ℕ → List X → List X
+each_eighth place [] = []
+each_eighth zero (x ∷ xs) = x ∷ each_eighth 7 xs
+each_eighth (suc place) (x ∷ xs) = each_eighth place xs
+
+-- it is that of a lane
+pub eighth_is : {X : Type 0} (xs : List X) (lane : ℕ) → lane < LANES → IsEighth xs lane (each_eighth lane xs)
+eighth_is [] lane within place = refl
+eighth_is (x ∷ xs) zero within zero = refl
+eighth_is (x ∷ xs) zero within (suc place) =
+    let at : 8 * suc place + 0 ≡ suc (8 * place + 7) = omega arith in
+    eighth_is xs 7 (omega arith) place ∙ ap (slice_get (x ∷ xs)) (sym at)
+eighth_is (x ∷ xs) (suc lane) within place =
+    let at : 8 * place + suc lane ≡ suc (8 * place + lane) = omega arith in
+    eighth_is xs lane (omega (arith, within)) place ∙ ap (slice_get (x ∷ xs)) (sym at)
+
+-- how many they are
+pub eighth_count : {X : Type 0} (xs : List X) (lane : ℕ) → lane < LANES → 8 * length (each_eighth lane xs) + lane ≤ length xs + 7
+eighth_count [] lane within = omega (arith, within)
+eighth_count (x ∷ xs) zero within = omega (arith, eighth_count xs 7 (omega arith))
+eighth_count (x ∷ xs) (suc lane) within = omega (arith, within, eighth_count xs lane (omega (arith, within)))
+
+pub eighth_many : {X : Type 0} (xs : List X) (lane : ℕ) → lane < LANES → length xs ≤ 8 * length (each_eighth lane xs) + lane
+eighth_many [] lane within = omega arith
+eighth_many (x ∷ xs) zero within = omega (arith, eighth_many xs 7 (omega arith))
+eighth_many (x ∷ xs) (suc lane) within = omega (arith, within, eighth_many xs lane (omega (arith, within)))
+
+-- of all things these were dealt and these are left, and this lane gets the next one
+pub record IsDealing {X : Type 0} (all things left : List X) (hands : List (Vec X)) (place : ℕ) : Type 0 where
+  pub whole : things ++ left ≡ all
+  pub count : length hands ≡ LANES
+  pub each : (lane : ℕ) (hand : Vec X) → slice_get hands lane ≡ Some hand → hand.items ≡ each_eighth lane things
+  pub next : place ≡ length things % LANES
+
+-- one more goes to the hand whose place it has
+eighth_here : {X : Type 0} (xs : List X) (x : X) (place : ℕ) → place < 8 → length xs % 8 ≡ place → each_eighth place (xs ++ x ∷ []) ≡ each_eighth place xs ++ x ∷ []
+eighth_here [] x zero within is = refl
+eighth_here [] x (suc place) within is = absurd (omega (arith, is))
+eighth_here (y ∷ ys) x zero within is = ap (λ rest. y ∷ rest) (eighth_here ys x 7 (omega arith) (omega (arith, is)))
+eighth_here (y ∷ ys) x (suc place) within is = eighth_here ys x place (omega (arith, within)) (omega (arith, is))
+
+-- and to no other one
+eighth_apart : {X : Type 0} (xs : List X) (x : X) (place : ℕ) → place < 8 → length xs % 8 ≢ place → each_eighth place (xs ++ x ∷ []) ≡ each_eighth place xs
+eighth_apart [] x zero within apart = absurd (apart refl)
+eighth_apart [] x (suc place) within apart = refl
+eighth_apart (y ∷ ys) x zero within apart = ap (λ rest. y ∷ rest) (eighth_apart ys x 7 (omega arith) (λ is. apart (omega (arith, is))))
+eighth_apart (y ∷ ys) x (suc place) within apart = eighth_apart ys x place (omega (arith, within)) (λ is. apart (omega (arith, is)))
+
+-- what is written at a place stands there
+set_here : {X : Type 0} (xs : List X) (place : ℕ) (x : X) → place < length xs → slice_get (slice_set xs place x) place ≡ Some x
+set_here [] place x within = absurd (omega (arith, within))
+set_here (y ∷ ys) zero x within = refl
+set_here (y ∷ ys) (suc place) x within = set_here ys place x (omega (arith, within))
+
+module _ {X : Type 0} (all things left rest : List X) (hands : List (Vec X)) (place : ℕ) (thing : X) (before now : Vec X)
+    (dealing : IsDealing all things left hands place) (first : left ≡ thing ∷ rest) (there : slice_get hands place ≡ Some before) (put : now.items ≡ before.items ++ thing ∷ []) where
+  within : place < LANES
+  within = omega (arith, dealing.next)
+
+  hand_then : (other : ℕ) (hand : Vec X) → slice_get (slice_set hands place now) other ≡ Some hand → hand.items ≡ each_eighth other (things ++ thing ∷ [])
+  hand_then other hand stands =
+      ⊎_elim
+      (λ (is : other ≡ place).
+      let here : Some now ≡ Some hand = sym (set_here hands place now (omega (arith, within, dealing.count))) ∙ ap (slice_get (slice_set hands place now)) (sym is) ∙ stands in
+      let same : now ≡ hand = cc here in
+      ap (λ (it : Vec X). it.items) (sym same) ∙ put ∙ ap (λ (items : List X). items ++ thing ∷ []) (dealing.each place before there)
+      ∙ sym (eighth_here things thing place within (sym dealing.next)) ∙ ap (λ (n : ℕ). each_eighth n (things ++ thing ∷ [])) (sym is))
+      (λ (apart : other ≡ place → ⊥).
+      let stood : slice_get hands other ≡ Some hand = sym (set_beside hands place now other apart) ∙ stands in
+      let few : other < LANES = omega (arith, slice_get_within hands other hand stood, dealing.count) in
+      dealing.each other hand stood ∙ sym (eighth_apart things thing other few (λ is. apart (sym is ∙ sym dealing.next))))
+      (cases_eq other place)
+
+  -- one more is dealt
+  pub dealing_one : IsDealing all (things ++ thing ∷ []) rest (slice_set hands place now) ((place + 1) % LANES)
+  dealing_one = record {
+    whole = append_assoc things (thing ∷ []) rest ∙ ap (λ (list : List X). things ++ list) (sym first) ∙ dealing.whole;
+    count = length-set hands place now ∙ dealing.count;
+    each = hand_then;
+    next = omega (arith, dealing.next, length-append things (thing ∷ []));
+  }
+
+-- all are dealt
+pub dealt : {X : Type 0} (all things left : List X) (hands : List (Vec X)) (place : ℕ) → left ≡ [] → IsDealing all things left hands place → AreDealt all hands
+dealt {X = X} all things left hands place none dealing =
+    let whole : things ≡ all = sym (append-nil things) ∙ ap (λ (list : List X). things ++ list) (sym none) ∙ dealing.whole in
+    subst (λ (list : List X). AreDealt list hands) whole
+    (record {
+      count = dealing.count;
+      each = λ lane hand there at.
+          ap (λ items. slice_get items at) (dealing.each lane hand there)
+          ∙ eighth_is things lane (omega (arith, slice_get_within hands lane hand there, dealing.count)) at;
+    })

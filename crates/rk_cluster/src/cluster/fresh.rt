@@ -1,0 +1,66 @@
+// How a cluster is made of replicas.
+ghost use Rattle.std.specs.Prelude.{◌≡◌, ◌≤◌, ◌*◌, ℕ, [], All, length, slice_get, Some, IfOk};
+ghost use Rattle.rk_log.specs.declared.copied.TheConstants.{MOST_BACKUPS};
+ghost use Rattle.rk_types.specs.declared.hashing.TheConstants.{LANES};
+ghost use Rattle.rk_world.specs.Cluster.{new_cluster};
+ghost use Rattle.rk_world.specs.Premises.{IsMaster, MOST_MASTERS};
+ghost use Rattle.rk_lane.specs.LaneState.{LaneState, replicas_of};
+ghost use Rattle.rk_cluster.specs.Dealt.{IsEighth};
+ghost use Rattle.rk_cluster.specs.Fresh.{AreEmpty, AreMadeOf, IsHand, IsNewLane};
+ghost use Rattle.rk_cluster.specs.State.{IsOf};
+
+use super::Cluster;
+use crate::dealing::deal;
+use rk_lane::Lane;
+use rk_outside::Replica;
+use rk_types::NoMemory;
+use std::alloc::Global;
+
+impl<R: Replica + Drop> Cluster<R> {
+    /// A cluster of eight lanes where nothing has happened, with so many masters and backups each; no client has a session. The
+    /// replicas are those of backup 1 in lanes 0 to 7, then those of backup 2, and so on: backup b of lane l has the one at
+    /// place 8 * (b - 1) + l, counted from 0. Where all of them tell that nothing was ever written, it is the new cluster.
+    pub fn with_replicas(
+        alloc: Global,
+        masters: u8,
+        backups: u8,
+        replicas: Vec<R>,
+    ) -> Result<Cluster<R>, NoMemory>
+        requires masters { IsMaster MOST_MASTERS masters }
+        requires backed { 1 ≤ backups }
+        requires few_backups { backups ≤ MOST_BACKUPS }
+        requires count { length replicas.items ≡ LANES * backups }
+        ensures lanes { IfOk result (λ cluster. length cluster.lanes ≡ LANES) }
+        ensures each { IfOk result (λ cluster. (number : ℕ) (lane : LaneState R) → slice_get cluster.lanes number ≡ Some lane
+            → IsNewLane masters backups number lane) }
+        ensures replicas { IfOk result (λ cluster. (number : ℕ) (lane : LaneState R) → slice_get cluster.lanes number ≡ Some lane
+            → IsEighth replicas.items number (replicas_of lane.backups)) }
+        ensures sessions { IfOk result (λ cluster. cluster.sessions ≡ []) }
+        ensures new { IfOk result (λ cluster. AreEmpty R.segments replicas.items
+            → IsOf R.segments cluster (new_cluster masters backups)) }
+    {
+        let hands = deal(alloc, replicas)?;
+        let lanes = new_lanes(alloc, masters, hands)?;
+        Ok(Cluster::new(alloc, masters, lanes))
+    }
+}
+
+// New lanes, lane 0 first, with so many masters each and with these replicas.
+fn new_lanes<R: Replica + Drop>(
+    alloc: Global,
+    masters: u8,
+    hands: Vec<Vec<R>>,
+) -> Result<Vec<Lane<R>>, NoMemory>
+    requires masters { masters ≤ MOST_MASTERS }
+    requires eight { length hands.items ≡ LANES }
+    requires each { All IsHand hands.items }
+    ensures { IfOk result (λ lanes. AreMadeOf R.segments masters 0 hands.items lanes.items) }
+{
+    let mut lanes = Vec::with_capacity(alloc, hands.len())?;
+    let mut number = 0;
+    for hand in hands {
+        lanes.push(Lane::new(alloc, number, masters, hand)?)?;
+        number += 1;
+    }
+    Ok(lanes)
+}
