@@ -19,5 +19,4 @@ pub mod Crashing
 pub mod Calling
 pub mod Resting
 pub mod Eighths
-pub mod Dealing
-pub mod Making
+pub mod NewLanes

@@ -17,6 +17,5 @@ pub mod Delivering
 pub mod Tests
 pub mod Crashing
 pub mod Calling
-pub mod Quiet
 pub mod Dealt
 pub mod Fresh

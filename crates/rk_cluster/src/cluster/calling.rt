@@ -1,5 +1,5 @@
 // How a client asks its next call.
-ghost use Rattle.std.specs.Prelude.{◌≡◌, ◌≤◌, ◌-◌, ◌^◌, ℕ, map, min, sum, None, IfOk, IfErr, IsSomeAnd, OnOk, OnErr};
+ghost use Rattle.std.specs.Prelude.{◌≡◌, ◌≤◌, ℕ, None, IfOk, IfErr, IsSomeAnd, OnOk, OnErr};
 ghost use Rattle.rk_message.specs.Calls.{IsLawfulOp};
 ghost use Rattle.rk_types.specs.NumberMap.{get};
 ghost use Rattle.rk_world.specs.Client.{with_next_call};
@@ -7,16 +7,15 @@ ghost use Rattle.rk_world.specs.Premises.{MayAct};
 ghost use Rattle.rk_cluster.specs.Calling.{IsAsked};
 ghost use Rattle.rk_cluster.specs.Codes.{call_code};
 ghost use Rattle.rk_cluster.specs.Effects.{EndsIn, IsCarriedOut};
-ghost use Rattle.rk_cluster.specs.Looks.{calls_of as calls_of_lem, has_table as has_table_lem};
 ghost use Rattle.rk_cluster.specs.Makes.{call_makes};
 ghost use Rattle.rk_cluster.specs.Steps.{MayAllAct};
 
 use super::{Cluster, nothing_said};
 use crate::code::Code;
 use crate::error::ClusterError;
+use crate::looks::{calls_asked, has_table};
 use rk_outside::Replica;
 use rk_session::Session;
-use rk_tablet_map::Row;
 use rk_types::{Key, NoMemory, Op, Said};
 use std::collections::BTreeMap;
 
@@ -59,31 +58,6 @@ impl<R: Replica + Drop> Cluster<R> {
         ask_next(&mut self.sessions, client, table, key, op)?;
         Ok(nothing_said(alloc))
     }
-}
-
-// Whether some row is of a table. A look at each row.
-fn has_table(rows: &[Row], table: u64) -> bool
-    ensures { result ≡ has_table_lem rows.now table }
-{
-    rows.iter().any(|row| row.range.table == table)
-}
-
-// How many calls the clients asked; 2^64 - 1 where they are more. A look at each session.
-fn calls_asked(sessions: &BTreeMap<u32, Session>) -> u64
-    ensures { result ≡ min (sum (map (λ entry. calls_of_lem entry.1) sessions.now.entries)) (2 ^ 64 - 1) }
-{
-    let mut asked: u64 = 0;
-    for session in sessions.values() {
-        asked = asked.saturating_add(calls_of(session));
-    }
-    asked
-}
-
-// How many calls a client asked: those that were answered, and the outstanding one.
-fn calls_of(session: &Session) -> u64
-    ensures { result ≡ calls_of_lem session.now }
-{
-    session.receipts().len() as u64 + u64::from(session.outstanding().is_some())
 }
 
 // A client that has a session and no outstanding call asks its next one, of a table whose number counts from 1. After an error

@@ -1,6 +1,6 @@
 use Rattle.std.proofs.Common.{◌+◌, ◌++◌, ◌∷◌, [], sym, subst}
 use Rattle.std.specs.Vec.Iter.{into_iter_items}
-use Rattle.rk_cluster.proofs.Dealing.{IsMaking, making_one, one_made}
+use Rattle.rk_cluster.proofs.NewLanes.{IsMaking, making_one, one_made}
 use Rattle.rk_cluster.proofs.cluster.fresh.new_lanes.Goals as goal
 
 pub loop-hand-preserved : goal.loop-hand-preserved

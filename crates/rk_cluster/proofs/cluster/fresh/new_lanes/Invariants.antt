@@ -1,5 +1,5 @@
 use Rattle.std.specs.Vec.Iter.{into_iter_items}
-use Rattle.rk_cluster.proofs.Dealing.{IsMaking}
+use Rattle.rk_cluster.proofs.NewLanes.{IsMaking}
 use Rattle.rk_cluster.proofs.cluster.fresh.new_lanes.Given as goal
 
 abbrev pub invariant-loop-hand : goal.invariant-loop-hand
