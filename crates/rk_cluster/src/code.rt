@@ -12,7 +12,7 @@ pub enum Code {
     Unknown,
     /// The client has an outstanding call.
     Busy,
-    /// The client has sent no request.
+    /// The client has no outstanding call to bring on, or has sent no request.
     NothingSent,
     /// The tablet moves or is rebuilt in some lane.
     NotOwned,
@@ -22,6 +22,8 @@ pub enum Code {
     Crashed,
     /// It is the last master that lives.
     LastMaster,
+    /// In no lane does the tablet migrate short of what is asked.
+    NotMigrating,
     /// No message stands at that place of the wire.
     NoPlace,
     /// As many are there as may be.
@@ -47,6 +49,7 @@ impl Code {
             Code::OwnsAll => 13,
             Code::Crashed => 14,
             Code::LastMaster => 15,
+            Code::NotMigrating => 16,
             Code::NoPlace => 17,
             Code::Limit => 18,
             Code::BadSplit => 19,
