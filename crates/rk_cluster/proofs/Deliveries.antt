@@ -1,6 +1,6 @@
 -- A message that is delivered.
-use Rattle.std.proofs.Common.{◌≡◌, ℕ, Bool, true, false, List, [], ◌∷◌, is_some, slice_get, Option, None, Some, IfSome, if◌then◌else◌, refl, sym, ap, subst, ◌∙◌}
-use Rattle.std.specs.Option.{option_map}
+use Rattle.std.proofs.Common.{◌≡◌, ℕ, Bool, true, false, ◌&&◌, List, [], ◌∷◌, is_some, slice_get, Option, None, Some, IfSome, if◌then◌else◌, refl, sym, ap, subst, ◌∙◌}
+use Rattle.std.specs.Option.{option_map, option_to_list}
 use Rattle.rk_types.specs.NumberMap.{NumberMap, get}
 use Rattle.rk_types.specs.declared.node.Node.{Node}
 use Rattle.rk_types.specs.declared.node.Node.TheVariants as nodes
@@ -13,15 +13,17 @@ use Rattle.rk_world.specs.Backup.{Called, Gave}
 use Rattle.rk_world.specs.Client.{Session}
 use Rattle.rk_world.specs.Cluster.{Accepts, Cluster, Happens, Occurrence, lane_at}
 use Rattle.rk_world.specs.Premises.{MayCome}
+use Rattle.rk_world.specs.Step.{step}
 use Rattle.rk_world.specs.declared.event.Event.TheVariants as events
 use Rattle.rk_lane.specs.LaneState.{LaneState}
-use Rattle.rk_cluster.specs.Acted.{Acted, acted, all_acted, going_on}
+use Rattle.rk_cluster.specs.Acted.{Acted, acted, all_acted, going_on, lost_in}
 use Rattle.rk_cluster.specs.Codes.{place_code}
-use Rattle.rk_cluster.specs.Delivering.{Delivers}
+use Rattle.rk_cluster.specs.Delivering.{Delivers, IsDelivery, is_backup, is_lost_at_backup}
 use Rattle.rk_cluster.specs.Effects.{Acts, ActsBy, ActsOne, BySomeCall, EndsIn, HasCode, IsActedAs, IsCarriedOut}
 use Rattle.rk_cluster.specs.Makes.{deliver_by, deliver_in_makes, deliver_makes, delivery, delivery_of, has_receiver}
 use Rattle.rk_cluster.specs.State.{ClusterState, IsOf}
-use Rattle.rk_cluster.specs.Steps.{IsHappening, WhereWorn, state_of}
+use Rattle.rk_cluster.specs.Steps.{IsHappening, IsLosing, WhereWorn, state_of}
+use Rattle.rk_cluster.specs.declared.delivering.Delivered.{Delivered}
 use Rattle.rk_cluster.specs.declared.error.ClusterError.{ClusterError}
 use Rattle.rk_cluster.specs.declared.error.ClusterError.TheVariants as errors
 use Rattle.rk_cluster.proofs.Carrying.{none_acts, only_acts}
@@ -118,6 +120,60 @@ module _ {R : Type 0} (segments : R → Option Segments) where
         by_receiver (state_of new sessions) (Some (nodes.Backup backup)) it.called [] broken to_is it.may
         (alone_acts (state_of lanes sessions) (state_of new sessions) (Happens place (events.Deliver number) it.called) [] broken (it.acts sessions))
 
+    -- ---- and whether the message was lost at a backup
+
+    lost_is : (cluster : Cluster) → IsOf segments (state_of lanes sessions) cluster → (called : Called) (to : Option Node) → receiver_of number wire ≡ to
+        → is_lost_at_backup cluster place number called ≡ is_backup to && lost_in (step (lane_at cluster place) (events.Deliver number) called)
+    lost_is cluster is called to to_is =
+        ap (λ (t : Traffic). is_backup (receiver_of number t) && lost_in (step (lane_at cluster place) (events.Deliver number) called))
+        (wire_is segments lanes sessions place lane wire there known cluster is)
+        ∙ ap (λ (o : Option Node). is_backup o && lost_in (step (lane_at cluster place) (events.Deliver number) called)) to_is
+
+    delivery_by : (new : ClusterState R) (to : Option Node) (delivered : Delivered) → receiver_of number wire ≡ to
+        → (it : Delivers segments (state_of lanes sessions) new place number (option_to_list delivered.said) None)
+        → ((cluster : Cluster) → IsOf segments (state_of lanes sessions) cluster
+        → is_backup to && lost_in (step (lane_at cluster place) (events.Deliver number) it.called) ≡ delivered.failed)
+        → BySomeCall (IsDelivery segments (state_of lanes sessions) new place number delivered)
+    delivery_by new to delivered to_is it shows = record {
+      called = it.called;
+      may = it.may;
+      holds = record { acts = it.holds; failed = λ cluster is. lost_is cluster is it.called to to_is ∙ shows cluster is };
+    }
+
+    pub delivery_nothing : receiver_of number wire ≡ None
+        → BySomeCall (IsDelivery segments (state_of lanes sessions) (state_of lanes sessions) place number (record { said = None; failed = false }))
+    delivery_nothing none =
+        delivery_by (state_of lanes sessions) None (record { said = None; failed = false }) none (delivers_nothing none) (λ cluster is. refl)
+
+    pub delivery_stranger : (client : ℕ) → receiver_of number wire ≡ Some (nodes.Client client) → is_some (get sessions client) ≡ false
+        → BySomeCall (IsDelivery segments (state_of lanes sessions) (state_of lanes sessions) place number (record { said = None; failed = false }))
+    delivery_stranger client to_is absent =
+        delivery_by (state_of lanes sessions) (Some (nodes.Client client)) (record { said = None; failed = false }) to_is (delivers_stranger client to_is absent)
+        (λ cluster is. refl)
+
+    pub delivery_client : (new : ClusterState R) (client : ℕ) (said : Option Said) → receiver_of number wire ≡ Some (nodes.Client client)
+        → is_some (get sessions client) ≡ true
+        → ActsOne segments (state_of lanes sessions) new (Accepts place number client) (option_to_list said) None
+        → BySomeCall (IsDelivery segments (state_of lanes sessions) new place number (record { said = said; failed = false }))
+    delivery_client new client said to_is found one =
+        delivery_by new (Some (nodes.Client client)) (record { said = said; failed = false }) to_is
+        (delivers_client new client (option_to_list said) None to_is found one) (λ cluster is. refl)
+
+    pub delivery_node : (new : List (LaneState R)) (to : Node) (lost : Bool) → ((client : ℕ) → to ≡ nodes.Client client → ⊥) → receiver_of number wire ≡ Some to
+        → IsLosing segments lanes new place (events.Deliver number) None lost
+        → BySomeCall (IsDelivery segments (state_of lanes sessions) (state_of new sessions) place number (record { said = None; failed = is_backup (Some to) && lost }))
+    unfolding delivers_node by_receiver
+    delivery_node new (nodes.Client client) lost other to_is it = absurd (other client refl)
+    delivery_node new nodes.Coordinator lost other to_is it =
+        delivery_by (state_of new sessions) (Some nodes.Coordinator) (record { said = None; failed = false }) to_is
+        (delivers_node new nodes.Coordinator None other to_is it.happening) (λ cluster is. refl)
+    delivery_node new (nodes.Master master) lost other to_is it =
+        delivery_by (state_of new sessions) (Some (nodes.Master master)) (record { said = None; failed = false }) to_is
+        (delivers_node new (nodes.Master master) None other to_is it.happening) (λ cluster is. refl)
+    delivery_node new (nodes.Backup backup) lost other to_is it =
+        delivery_by (state_of new sessions) (Some (nodes.Backup backup)) (record { said = None; failed = lost }) to_is
+        (delivers_node new (nodes.Backup backup) None other to_is it.happening) (λ cluster is. it.shows sessions cluster is)
+
     -- ---- at a place of the wire
 
     module _ (at : ℕ) (new : ClusterState R) (found : number_at at wire ≡ Some number) where
@@ -131,13 +187,13 @@ module _ {R : Type 0} (segments : R → Option Segments) where
       has_place : HasCode segments (state_of lanes sessions) (λ cluster. place_code cluster place at) None
       has_place = place_by segments lanes sessions place lane wire there known at (Some number) found
 
-      pub carried_out : (told : List Said) → Delivers segments (state_of lanes sessions) new place number told None
+      pub carried_out : (delivered : Delivered) → BySomeCall (IsDelivery segments (state_of lanes sessions) new place number delivered)
           → BySomeCall (λ called. IsCarriedOut segments (state_of lanes sessions) new (λ cluster. place_code cluster place at)
-          (λ cluster. deliver_makes cluster place at called) told)
-      carried_out told it = record {
+          (λ cluster. deliver_makes cluster place at called) (option_to_list delivered.said))
+      carried_out delivered it = record {
         called = it.called;
         may = it.may;
-        holds = record { code = has_place; acts = placed it.called told None it.holds };
+        holds = record { code = has_place; acts = placed it.called (option_to_list delivered.said) None it.holds.acts };
       }
 
       pub ends : (e : ClusterError) → WhereWorn (λ worn. Delivers segments (state_of lanes sessions) new place number [] (Some worn)) e

@@ -1,6 +1,6 @@
 -- What comes of the events of a call: the cluster after them, and what clients said. A lane that is worn refuses, and ends the run;
 -- what came before it has happened.
-use Rattle.std.specs.Prelude.{ℕ, ◌-◌, length, slice_get, List, [], ◌∷◌, ◌++◌, Option, Some, None, Result, Ok, Err}
+use Rattle.std.specs.Prelude.{ℕ, ◌-◌, Bool, false, length, slice_get, List, [], ◌∷◌, ◌++◌, Option, Some, None, Result, Ok, Err}
 use Rattle.rk_types.specs.declared.call.Call.{Call}
 use Rattle.rk_types.specs.declared.history.Receipt.{Receipt}
 use Rattle.rk_types.specs.declared.node.Said.{Said}
@@ -12,7 +12,7 @@ use Rattle.rk_world.specs.declared.event.Taken.TheVariants as takes
 use Rattle.rk_world.specs.Calls.{Visited, accept, ask}
 use Rattle.rk_world.specs.Client.{Session}
 use Rattle.rk_world.specs.Cluster.{Accepts, Asks, Calls, Cluster, Happens, Joins, Occurrence, cluster_after, cluster_stepped, cluster_visited, lane_at, session_at}
-use Rattle.rk_world.specs.Step.{step}
+use Rattle.rk_world.specs.Step.{Stepped, step}
 
 -- a cluster after some events, what clients said, and the number that is worn, if one is
 pub record Acted : Type 0 where
@@ -54,6 +54,11 @@ worn_by error = None
 abbrev pub worn_in : {T : Type 0} → Result T StepError → Option ℕ
 worn_in (Ok answer) = None
 worn_in (Err error) = worn_by error
+
+-- whether an event showed that a message was lost; one that is refused showed nothing
+abbrev pub lost_in : Result Stepped StepError → Bool
+lost_in (Ok stepped) = stepped.seen.lost
+lost_in (Err error) = false
 
 -- what a client said of a message that it took in a lane, and who it was before
 abbrev pub said_in : Session → Result Visited StepError → List Said

@@ -1,12 +1,39 @@
 -- What the delivery of a message makes of a cluster in code.
-use Rattle.std.specs.Prelude.{ℕ, List, Option}
+use Rattle.std.specs.Prelude.{◌≡◌, ℕ, Bool, true, false, ◌&&◌, List, Option, Some, None}
+use Rattle.std.specs.Option.{option_to_list}
+use Rattle.rk_types.specs.declared.node.Node.{Node}
+use Rattle.rk_types.specs.declared.node.Node.TheVariants as nodes
 use Rattle.rk_types.specs.declared.node.Said.{Said}
 use Rattle.rk_outside.specs.Segments.{Segments}
+use Rattle.rk_message.specs.Wire.{receiver_of}
+use Rattle.rk_world.specs.Backup.{Called}
+use Rattle.rk_world.specs.Cluster.{Cluster, lane_at}
+use Rattle.rk_world.specs.Step.{step}
+use Rattle.rk_world.specs.declared.event.Event.TheVariants as events
+use Rattle.rk_cluster.specs.Acted.{lost_in}
 use Rattle.rk_cluster.specs.Effects.{ActsBy, BySomeCall}
 use Rattle.rk_cluster.specs.Makes.{deliver_in_makes}
-use Rattle.rk_cluster.specs.State.{ClusterState}
+use Rattle.rk_cluster.specs.State.{ClusterState, IsOf}
+use Rattle.rk_cluster.specs.declared.delivering.Delivered.{Delivered}
+
+-- whether the receiver of a message, if there is one, is a backup
+abbrev pub is_backup : Option Node → Bool
+is_backup (Some (nodes.Backup backup)) = true
+is_backup receiver = false
+
+-- whether the message of a number is for a backup, and lost where it is delivered, since the backup's replica failed
+abbrev pub is_lost_at_backup : Cluster → ℕ → ℕ → Called → Bool
+is_lost_at_backup cluster lane number called =
+    is_backup (receiver_of number (lane_at cluster lane).wire)
+    && lost_in (step (lane_at cluster lane) (events.Deliver number) called)
 
 -- the message of a number was delivered in a lane, by what the call of a replica came to, if one was called
 abbrev pub Delivers : {R : Type 0} → (R → Option Segments) → ClusterState R → ClusterState R → ℕ → ℕ → List Said → Option ℕ → Type 0
 Delivers segments old new lane number told broken =
     BySomeCall (λ called. ActsBy segments old new (λ cluster. deliver_in_makes cluster lane number called) told broken)
+
+-- where the call of a replica came to this, the message of a number was delivered in a lane, and this came of it: what was said, and
+-- whether the message was lost at a backup
+pub record IsDelivery {R : Type 0} (segments : R → Option Segments) (old new : ClusterState R) (lane number : ℕ) (delivered : Delivered) (called : Called) : Type 0 where
+  pub acts : ActsBy segments old new (λ cluster. deliver_in_makes cluster lane number called) (option_to_list delivered.said) None
+  pub failed : (cluster : Cluster) → IsOf segments old cluster → is_lost_at_backup cluster lane number called ≡ delivered.failed

@@ -1,11 +1,12 @@
 -- What events make of the lanes of a cluster in code.
-use Rattle.std.specs.Prelude.{◌≡◌, ◌<◌, ℕ, ◌+◌, List, [], ◌∷◌, ◌++◌, map, Option, None, Some, Result, Ok, Err, slice_get, ⊤}
+use Rattle.std.specs.Prelude.{◌≡◌, ◌<◌, ℕ, ◌+◌, Bool, false, List, [], ◌∷◌, ◌++◌, map, Option, None, Some, Result, Ok, Err, slice_get, ⊤}
 use Rattle.rk_types.specs.NumberMap.{NumberMap, EachIn}
 use Rattle.rk_outside.specs.Segments.{Segments}
 use Rattle.rk_world.specs.Backup.{Called, Gave}
 use Rattle.rk_world.specs.Client.{Session}
-use Rattle.rk_world.specs.Cluster.{Happens, Occurrence}
+use Rattle.rk_world.specs.Cluster.{Cluster, Happens, Occurrence, lane_at}
 use Rattle.rk_world.specs.Premises.{MayAct, MayCome, MayHappen}
+use Rattle.rk_world.specs.Step.{step}
 use Rattle.rk_world.specs.World.{new_world}
 use Rattle.rk_world.specs.declared.error.StepError.{StepError}
 use Rattle.rk_world.specs.declared.error.StepError.TheVariants as causes
@@ -14,7 +15,8 @@ use Rattle.rk_world.specs.declared.event.Event.TheVariants as events
 use Rattle.rk_world.specs.declared.event.Seen.{Seen}
 use Rattle.rk_lane.specs.Events.{MayComeTo}
 use Rattle.rk_lane.specs.LaneState.{LaneState}
-use Rattle.rk_cluster.specs.State.{ClusterState}
+use Rattle.rk_cluster.specs.Acted.{lost_in}
+use Rattle.rk_cluster.specs.State.{ClusterState, IsOf}
 use Rattle.rk_cluster.specs.Effects.{Acts, ActsOne, Carries}
 use Rattle.rk_cluster.specs.declared.error.ClusterError.{ClusterError}
 use Rattle.rk_cluster.specs.declared.error.ClusterError.TheVariants as errors
@@ -31,6 +33,11 @@ failure_of (Err causes.NoMemory) = Some errors.NoMemory
 failure_of (Err (causes.Worn number)) = Some (errors.Worn number)
 failure_of (Err _) = None
 
+-- whether a lane's answer shows that a message was lost
+abbrev pub lost_by : Result Seen StepError → Bool
+lost_by (Ok seen) = seen.lost
+lost_by (Err error) = false
+
 -- lanes from a place on have their numbers, and so many masters
 abbrev pub AreLanes : {R : Type 0} → ℕ → ℕ → List (LaneState R) → Type 0
 AreLanes masters place [] = ⊤
@@ -45,6 +52,12 @@ pub record IsHappening {R : Type 0} (segments : R → Option Segments) (old new 
   pub called : Called
   pub may : MayCome called
   pub acts : (sessions : NumberMap Session) → ActsOne segments (state_of old sessions) (state_of new sessions) (Happens lane event called) [] broken
+
+-- an event came to a lane, and by what the call of a replica came to, the definitions show a message lost there where this is so
+pub record IsLosing {R : Type 0} (segments : R → Option Segments) (old new : List (LaneState R)) (lane : ℕ) (event : Event) (broken : Option ℕ) (lost : Bool) : Type 0 where
+  pub happening : IsHappening segments old new lane event broken
+  pub shows : (sessions : NumberMap Session) (cluster : Cluster) → IsOf segments (state_of old sessions) cluster
+      → lost_in (step (lane_at cluster lane) event happening.called) ≡ lost
 
 -- an event that calls no replica, and may come to each lane
 abbrev pub IsPlain : Event → Type 0

@@ -5,7 +5,7 @@ ghost use Rattle.rk_types.specs.declared.hashing.TheConstants.{LANES};
 ghost use Rattle.rk_world.specs.Cluster.{Asks};
 ghost use Rattle.rk_world.specs.Premises.{IsMaster, MayAct, MOST_MASTERS};
 ghost use Rattle.rk_cluster.specs.Codes.{client_code, notice_code, place_code};
-ghost use Rattle.rk_cluster.specs.Delivering.{Delivers};
+ghost use Rattle.rk_cluster.specs.Delivering.{Delivers, IsDelivery};
 ghost use Rattle.rk_cluster.specs.Effects.{ActsOne, BySomeCall, EndsIn, IsCarriedOut};
 ghost use Rattle.rk_cluster.specs.Makes.{client_makes, deliver_makes, forget_makes, notice_makes};
 ghost use Rattle.rk_cluster.specs.Masters.{masters_of};
@@ -14,7 +14,7 @@ ghost use Rattle.rk_cluster.specs.Steps.{AreLanes, WhereWorn};
 ghost use Rattle.rk_cluster.specs.Visits.{HasSession};
 
 use crate::code::Code;
-use crate::delivering::deliver_in;
+use crate::delivering::{Delivered, deliver_in, listed};
 use crate::error::ClusterError;
 use crate::sessions::{count, has_session, put_session};
 use crate::steps::{act, act_all, in_all_lanes};
@@ -166,12 +166,14 @@ impl<R: Replica + Drop> Cluster<R> {
     }
 
     /// The message of a number is delivered, where it is on a lane's wire; it stays there. A client that has a session takes it
-    /// itself, and what it says of its call then is answered; nobody takes a message for a client without one. `NoMemory` may
-    /// also come once the message is taken. What its receiver takes.
-    pub fn deliver_in(&mut self, lane: u8, number: u64) -> Result<Vec<Said>, ClusterError>
+    /// itself, and what it says of its call then is answered, at most one thing; nobody takes a message for a client without
+    /// one. Answered too is whether the message was lost at a backup, since the backup's replica failed. `NoMemory` may also
+    /// come once the message is taken. What its receiver takes.
+    pub fn deliver_in(&mut self, lane: u8, number: u64) -> Result<Delivered, ClusterError>
         requires { lane < LANES }
-        ensures ok { IfOk result (λ said. Delivers R.segments self.old self.new lane number said.items None) }
+        ensures ok { IfOk result (λ delivered. BySomeCall (IsDelivery R.segments self.old self.new lane number delivered)) }
         ensures err { IfErr result (WhereWorn (λ worn. Delivers R.segments self.old self.new lane number [] (Some worn))) }
+        ensures masters { masters_of self.new ≡ masters_of self.old }
     {
         deliver_in(
             &mut self.lanes,
@@ -191,10 +193,12 @@ impl<R: Replica + Drop> Cluster<R> {
         ensures err { IfErr result (λ e. BySomeCall (λ called. EndsIn R.segments self.old self.new
             (λ cluster. place_code cluster lane place) (λ cluster. deliver_makes cluster lane place called) e)) }
     {
+        let alloc = self.alloc();
         let Some(number) = self.lanes[lane as usize].wire().at(place) else {
             return Err(ClusterError::Code(Code::NoPlace));
         };
-        self.deliver_in(lane, number)
+        let delivered = self.deliver_in(lane, number)?;
+        Ok(listed(alloc, delivered.said)?)
     }
 
     /// The message at a place of a lane's wire, counted from 1, the oldest first, is forgotten. A step for each message up to

@@ -1,18 +1,30 @@
 // How the messages of a lane's wire reach their receivers.
-ghost use Rattle.std.specs.Prelude.{◌≡◌, ◌<◌, [], length, Some, None, IfErr, IfOk};
-ghost use Rattle.rk_cluster.specs.Delivering.{Delivers};
+ghost use Rattle.std.specs.Prelude.{◌≡◌, ◌<◌, ◌&&◌, [], false, length, Some, None, IfErr, IfOk};
+ghost use Rattle.std.specs.Option.{option_to_list};
+ghost use Rattle.rk_cluster.specs.Delivering.{Delivers, IsDelivery, is_backup};
+ghost use Rattle.rk_cluster.specs.Effects.{BySomeCall};
 ghost use Rattle.rk_cluster.specs.Steps.{AreLanes, MayAllAct, WhereWorn, state_of};
 
 use crate::error::ClusterError;
 use crate::sessions::has_session;
-use crate::steps::act;
+use crate::steps::act_told;
 use crate::visits::accept_in;
 use rk_lane::Lane;
 use rk_outside::Replica;
 use rk_session::Session;
-use rk_types::{Node, Said};
+use rk_types::{NoMemory, Node, Said};
 use rk_world::Event;
+use std::alloc::Global;
 use std::collections::BTreeMap;
+
+/// What came of the delivery of a message.
+#[derive(Debug, Drop, PartialEq, Eq)]
+pub struct Delivered {
+    /// What a client that took it said of its call.
+    pub said: Option<Said>,
+    /// Whether it was lost at a backup, since the backup's replica failed.
+    pub failed: bool,
+}
 
 /// The message of a number is delivered, where it is on a lane's wire: a client that has a session takes it itself, and says
 /// what it tells of its call; a client without one takes nothing; each other node takes it by an event of the lane.
@@ -22,28 +34,62 @@ pub(crate) fn deliver_in<R: Replica + Drop>(
     masters: u8,
     lane: u8,
     number: u64,
-) -> Result<Vec<Said>, ClusterError>
+) -> Result<Delivered, ClusterError>
     requires there { lane < length lanes.old.items }
     requires lanes { AreLanes masters 0 lanes.old.items }
     requires acts { MayAllAct masters sessions.old.entries }
-    ensures ok { IfOk result (λ said. Delivers R.segments (state_of lanes.old.items sessions.old.entries)
-        (state_of lanes.new.items sessions.new.entries) lane number said.items None) }
+    ensures ok { IfOk result (λ delivered. BySomeCall (IsDelivery R.segments (state_of lanes.old.items sessions.old.entries)
+        (state_of lanes.new.items sessions.new.entries) lane number delivered)) }
     ensures err { IfErr result (WhereWorn (λ worn. Delivers R.segments (state_of lanes.old.items sessions.old.entries)
         (state_of lanes.new.items sessions.new.entries) lane number [] (Some worn))) }
     ensures lanes { AreLanes masters 0 lanes.new.items }
     ensures count { length lanes.new.items ≡ length lanes.old.items }
     ensures acts { MayAllAct masters sessions.new.entries }
 {
-    let alloc = *lanes.allocator();
     let Ok(to) = lanes[lane as usize].wire().address(number) else {
-        return Ok(Vec::new(alloc));
+        return Ok(quietly());
     };
     let Node::Client(client) = to else {
-        act(lanes, lane, Event::Deliver(number))?;
-        return Ok(Vec::new(alloc));
+        let lost = act_told(lanes, lane, Event::Deliver(number))?;
+        return Ok(Delivered {
+            said: None,
+            failed: is_lost_at_backup(to, lost),
+        });
     };
     if !has_session(sessions, client) {
-        return Ok(Vec::new(alloc));
+        return Ok(quietly());
     }
-    accept_in(lanes, sessions, masters, lane, number, client)
+    let said = accept_in(lanes, sessions, masters, lane, number, client)?;
+    Ok(Delivered {
+        said,
+        failed: false,
+    })
+}
+
+/// What was said, in a list.
+pub(crate) fn listed(alloc: Global, said: Option<Said>) -> Result<Vec<Said>, NoMemory>
+    ensures { IfOk result (λ list. list.items ≡ option_to_list said) }
+{
+    let mut list = Vec::new(alloc);
+    if let Some(said) = said {
+        list.push(said)?;
+    }
+    Ok(list)
+}
+
+// Nobody said anything, and no replica failed.
+fn quietly() -> Delivered
+    ensures { result ≡ record { said = None; failed = false } }
+{
+    Delivered {
+        said: None,
+        failed: false,
+    }
+}
+
+// Whether a message to this node was lost at a backup, where it may have been lost.
+fn is_lost_at_backup(to: Node, lost: bool) -> bool
+    ensures { result ≡ (is_backup (Some to) && lost) }
+{
+    matches!(to, Node::Backup(_)) && lost
 }

@@ -8,6 +8,7 @@
 
 pub use cluster::Cluster;
 pub use code::Code;
+pub use delivering::Delivered;
 pub use error::ClusterError;
 
 mod admissions;

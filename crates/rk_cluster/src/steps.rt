@@ -2,7 +2,7 @@
 ghost use Rattle.std.specs.Prelude.{◌≡◌, ◌<◌, [], ℕ, All, length, map, Some, None, IfErr, IfOk, OnOk};
 ghost use Rattle.std.specs.List.{range_with_len};
 ghost use Rattle.rk_types.specs.declared.hashing.TheConstants.{LANES};
-ghost use Rattle.rk_cluster.specs.Steps.{AreLanes, CarriesSteps, IsDeed, IsHappening, MayComeAt, StepsEndWorn, WhereWorn, failure_of};
+ghost use Rattle.rk_cluster.specs.Steps.{AreLanes, CarriesSteps, IsDeed, IsHappening, IsLosing, MayComeAt, StepsEndWorn, WhereWorn, failure_of, lost_by};
 
 use crate::error::ClusterError;
 use rk_lane::Lane;
@@ -31,8 +31,36 @@ pub(crate) fn act<R: Replica + Drop>(
     ensures lanes { (masters : ℕ) → AreLanes masters 0 lanes.old.items → AreLanes masters 0 lanes.new.items }
     ensures count { length lanes.new.items ≡ length lanes.old.items }
 {
+    act_told(lanes, lane, event)?;
+    Ok(())
+}
+
+/// An event comes to a lane in the same way; answers whether it showed that a message was lost.
+pub(crate) fn act_told<R: Replica + Drop>(
+    lanes: &mut Vec<Lane<R>>,
+    lane: u8,
+    event: Event,
+) -> Result<bool, ClusterError>
+    requires there { lane < length lanes.old.items }
+    requires may { MayComeAt lanes.old.items lane event }
+    ensures ok { IfOk result (IsLosing R.segments lanes.old.items lanes.new.items lane event None) }
+    ensures err { IfErr result (WhereWorn (λ number. IsHappening R.segments lanes.old.items lanes.new.items lane event (Some number))) }
+    ensures lanes { (masters : ℕ) → AreLanes masters 0 lanes.old.items → AreLanes masters 0 lanes.new.items }
+    ensures count { length lanes.new.items ≡ length lanes.old.items }
+{
     let answer = lanes[lane as usize].step(event);
-    heard(&answer)
+    heard(&answer)?;
+    Ok(has_lost(&answer))
+}
+
+// Whether a lane's answer shows that a message was lost.
+fn has_lost(answer: &Result<Seen, StepError>) -> bool
+    ensures { result ≡ lost_by answer.now }
+{
+    match answer {
+        Ok(seen) => seen.lost,
+        Err(_) => false,
+    }
 }
 
 /// What a call makes of a lane's answer.

@@ -1,5 +1,6 @@
 // How clients take their turns and their answers in the lanes of a cluster.
 ghost use Rattle.std.specs.Prelude.{◌≡◌, ◌<◌, [], ℕ, length, Some, None, IfErr, IfOk, OnOk};
+ghost use Rattle.std.specs.Option.{option_to_list};
 ghost use Rattle.rk_world.specs.Cluster.{Accepts, Asks};
 ghost use Rattle.rk_cluster.specs.Effects.{ActsOne};
 ghost use Rattle.rk_cluster.specs.Steps.{AreLanes, MayAllAct, WhereWorn, state_of};
@@ -53,25 +54,24 @@ pub(crate) fn accept_in<R: Replica + Drop>(
     lane: u8,
     number: u64,
     client: u32,
-) -> Result<Vec<Said>, ClusterError>
+) -> Result<Option<Said>, ClusterError>
     requires there { lane < length lanes.old.items }
     requires session { HasSession sessions.old.entries client }
     requires lanes { AreLanes masters 0 lanes.old.items }
     requires acts { MayAllAct masters sessions.old.entries }
     ensures ok { IfOk result (λ said. ActsOne R.segments (state_of lanes.old.items sessions.old.entries)
-        (state_of lanes.new.items sessions.new.entries) (Accepts lane number client) said.items None) }
+        (state_of lanes.new.items sessions.new.entries) (Accepts lane number client) (option_to_list said) None) }
     ensures memory { IfErr result (λ e. e ≡ ClusterError.NoMemory) }
     ensures lanes { AreLanes masters 0 lanes.new.items }
     ensures count { length lanes.new.items ≡ length lanes.old.items }
     ensures acts { MayAllAct masters sessions.new.entries }
     ensures clients { (other : ℕ) → HasSession sessions.old.entries other → HasSession sessions.new.entries other }
 {
-    let alloc = *lanes.allocator();
     let Some(session) = sessions.get_mut(&client) else {
-        return Ok(Vec::new(alloc));
+        return Ok(None);
     };
     let asked = asked_by(session);
     let at = &mut lanes[lane as usize];
     let answer = at.accept(number, session);
-    tell(alloc, asked, session, answer)
+    tell(asked, session, answer)
 }

@@ -1,10 +1,11 @@
-use Rattle.std.proofs.Common.{List, [], None, Some, sym, ap, subst, ◌∙◌}
-use Rattle.std.proofs.lemmas.Result.{IfOk-weaker, err_from_is_err_and}
-use Rattle.rk_types.specs.declared.node.Said.{Said}
+use Rattle.std.proofs.Common.{Bool, [], None, Some, sym, ap, subst, ◌∙◌}
+use Rattle.std.proofs.lemmas.Result.{err_from_is_err_and}
 use Rattle.rk_world.specs.declared.event.Event.TheVariants as events
-use Rattle.rk_cluster.specs.Delivering.{Delivers}
+use Rattle.rk_cluster.specs.Delivering.{Delivers, IsDelivery}
+use Rattle.rk_cluster.specs.Effects.{BySomeCall}
 use Rattle.rk_cluster.specs.Steps.{IsHappening, state_of}
-use Rattle.rk_cluster.proofs.Deliveries.{delivers_client, delivers_node, delivers_nothing, delivers_stranger, no_receiver}
+use Rattle.rk_cluster.specs.declared.delivering.Delivered.{Delivered}
+use Rattle.rk_cluster.proofs.Deliveries.{delivers_node, delivery_client, delivery_node, delivery_nothing, delivery_stranger, no_receiver}
 use Rattle.rk_cluster.proofs.Heard.{worn_weaker}
 use Rattle.rk_cluster.proofs.Worlds.{there_read}
 use Rattle.rk_cluster.proofs.delivering.deliver_in.Goals as goal
@@ -12,23 +13,23 @@ use Rattle.rk_cluster.proofs.delivering.deliver_in.Goals as goal
 pub returns-in_default-clause-ok : goal.returns-in_default-clause-ok
 returns-in_default-clause-ok g c =
     let there = there_read c.args.lanes.now.items c.args.lane c.index.result.now c.requires.there c.index.ensures in
-    subst (λ (told : List Said). Delivers g.R.Replica.segments (state_of c.args.lanes.now.items c.args.sessions.now.entries) (state_of c.args.lanes.now.items c.args.sessions.now.entries) c.args.lane c.args.number told None) (sym c.new.ensures.items)
-    (delivers_nothing g.R.Replica.segments c.args.lanes.now.items c.args.sessions.now.entries c.args.lane c.args.number c.index.result.now c.wire.result.now there c.wire.ensures
+    subst (λ (delivered : Delivered). BySomeCall (IsDelivery g.R.Replica.segments (state_of c.args.lanes.now.items c.args.sessions.now.entries) (state_of c.args.lanes.now.items c.args.sessions.now.entries) c.args.lane c.args.number delivered)) (sym c.quietly.ensures)
+    (delivery_nothing g.R.Replica.segments c.args.lanes.now.items c.args.sessions.now.entries c.args.lane c.args.number c.index.result.now c.wire.result.now there c.wire.ensures
     (no_receiver c.args.number c.wire.result.now c.in_default.field-0 c.in_default.ensures.err))
 
-pub returns-in_err-act : goal.returns-in_err-act
-returns-in_err-act g c =
-    let lost = err_from_is_err_and c.from_residual.result c.from_residual.ensures.1 in
+pub returns-in_err-lost : goal.returns-in_err-lost
+returns-in_err-lost g c =
+    let failure = err_from_is_err_and c.from_residual.result c.from_residual.ensures.1 in
     let there = there_read c.args.lanes.now.items c.args.lane c.index.result.now c.requires.there c.index.ensures in
-    rw (lost.1, lost.2)
+    rw (failure.1, failure.2)
     (record {
       ok = tt;
-      err = worn_weaker (λ worn. IsHappening g.R.Replica.segments c.args.lanes.now.items c.act.new.lanes.items c.args.lane (events.Deliver c.args.number) (Some worn))
-          (λ worn. Delivers g.R.Replica.segments (state_of c.args.lanes.now.items c.args.sessions.now.entries) (state_of c.act.new.lanes.items c.args.sessions.now.entries) c.args.lane c.args.number [] (Some worn)) c.in_err-act.field-0.0
-          (λ worn happening. delivers_node g.R.Replica.segments c.args.lanes.now.items c.args.sessions.now.entries c.args.lane c.args.number c.index.result.now c.wire.result.now there c.wire.ensures c.act.new.lanes.items c.in-Ok.to (Some worn) c.in_default-to.not-Client c.in-Ok.ensures.ok happening)
-          c.in_err-act.ensures.err;
-      lanes = c.in_err-act.ensures.lanes c.args.masters c.requires.lanes;
-      count = c.in_err-act.ensures.count;
+      err = worn_weaker (λ worn. IsHappening g.R.Replica.segments c.args.lanes.now.items c.act_told.new.lanes.items c.args.lane (events.Deliver c.args.number) (Some worn))
+          (λ worn. Delivers g.R.Replica.segments (state_of c.args.lanes.now.items c.args.sessions.now.entries) (state_of c.act_told.new.lanes.items c.args.sessions.now.entries) c.args.lane c.args.number [] (Some worn)) c.in_err-lost.field-0.0
+          (λ worn happening. delivers_node g.R.Replica.segments c.args.lanes.now.items c.args.sessions.now.entries c.args.lane c.args.number c.index.result.now c.wire.result.now there c.wire.ensures c.act_told.new.lanes.items c.in-Ok.to (Some worn) c.in_default-to.not-Client c.in-Ok.ensures.ok happening)
+          c.in_err-lost.ensures.err;
+      lanes = c.in_err-lost.ensures.lanes c.args.masters c.requires.lanes;
+      count = c.in_err-lost.ensures.count;
       acts = c.requires.acts;
     })
 
@@ -36,28 +37,26 @@ pub returns-in_default-to : goal.returns-in_default-to
 returns-in_default-to g c =
     let there = there_read c.args.lanes.now.items c.args.lane c.index.result.now c.requires.there c.index.ensures in
     record {
-      ok = subst (λ (told : List Said). Delivers g.R.Replica.segments (state_of c.args.lanes.now.items c.args.sessions.now.entries) (state_of c.act.new.lanes.items c.args.sessions.now.entries) c.args.lane c.args.number told None) (sym c.new-in_default-to.ensures.items)
-          (delivers_node g.R.Replica.segments c.args.lanes.now.items c.args.sessions.now.entries c.args.lane c.args.number c.index.result.now c.wire.result.now there c.wire.ensures c.act.new.lanes.items c.in-Ok.to None c.in_default-to.not-Client c.in-Ok.ensures.ok c.in_ok-act.ensures.ok);
+      ok = subst (λ (failed : Bool). BySomeCall (IsDelivery g.R.Replica.segments (state_of c.args.lanes.now.items c.args.sessions.now.entries) (state_of c.act_told.new.lanes.items c.args.sessions.now.entries) c.args.lane c.args.number
+          (record { said = None; failed = failed }))) (sym c.is_lost_at_backup.ensures)
+          (delivery_node g.R.Replica.segments c.args.lanes.now.items c.args.sessions.now.entries c.args.lane c.args.number c.index.result.now c.wire.result.now there c.wire.ensures c.act_told.new.lanes.items c.in-Ok.to c.in_ok-lost.lost c.in_default-to.not-Client c.in-Ok.ensures.ok c.in_ok-lost.ensures.ok);
       err = tt;
-      lanes = c.in_ok-act.ensures.lanes c.args.masters c.requires.lanes;
-      count = c.in_ok-act.ensures.count;
+      lanes = c.in_ok-lost.ensures.lanes c.args.masters c.requires.lanes;
+      count = c.in_ok-lost.ensures.count;
       acts = c.requires.acts;
     }
 
 pub returns-then-not-has_session-clause-ok : goal.returns-then-not-has_session-clause-ok
 returns-then-not-has_session-clause-ok g c =
     let there = there_read c.args.lanes.now.items c.args.lane c.index.result.now c.requires.there c.index.ensures in
-    subst (λ (told : List Said). Delivers g.R.Replica.segments (state_of c.args.lanes.now.items c.args.sessions.now.entries) (state_of c.args.lanes.now.items c.args.sessions.now.entries) c.args.lane c.args.number told None) (sym c.new-then-not-has_session.ensures.items)
-    (delivers_stranger g.R.Replica.segments c.args.lanes.now.items c.args.sessions.now.entries c.args.lane c.args.number c.index.result.now c.wire.result.now there c.wire.ensures
+    subst (λ (delivered : Delivered). BySomeCall (IsDelivery g.R.Replica.segments (state_of c.args.lanes.now.items c.args.sessions.now.entries) (state_of c.args.lanes.now.items c.args.sessions.now.entries) c.args.lane c.args.number delivered)) (sym c.quietly-then-not-has_session.ensures)
+    (delivery_stranger g.R.Replica.segments c.args.lanes.now.items c.args.sessions.now.entries c.args.lane c.args.number c.index.result.now c.wire.result.now there c.wire.ensures
     c.in-Client.client (c.in-Ok.ensures.ok ∙ ap Some c.in-Client.is)
     (sym c.has_session.ensures ∙ c.if-not-has_session.true))
 
 pub returns-clause-ok : goal.returns-clause-ok
 returns-clause-ok g c =
     let there = there_read c.args.lanes.now.items c.args.lane c.index.result.now c.requires.there c.index.ensures in
-    IfOk-weaker c.accept_in.result _ _
-    (λ said one.
-    delivers_client g.R.Replica.segments c.args.lanes.now.items c.args.sessions.now.entries c.args.lane c.args.number c.index.result.now c.wire.result.now there c.wire.ensures
-    (state_of c.accept_in.new.lanes.items c.accept_in.new.sessions.entries) c.in-Client.client said.items None (c.in-Ok.ensures.ok ∙ ap Some c.in-Client.is)
-    (sym c.has_session.ensures ∙ c.if-not-has_session.false) one)
-    c.accept_in.ensures.ok
+    delivery_client g.R.Replica.segments c.args.lanes.now.items c.args.sessions.now.entries c.args.lane c.args.number c.index.result.now c.wire.result.now there c.wire.ensures
+    (state_of c.accept_in.new.lanes.items c.accept_in.new.sessions.entries) c.in-Client.client c.in_ok-said.said (c.in-Ok.ensures.ok ∙ ap Some c.in-Client.is)
+    (sym c.has_session.ensures ∙ c.if-not-has_session.false) c.in_ok-said.ensures.ok

@@ -1,5 +1,6 @@
 use Rattle.std.proofs.Common.{◌≡◌, ℕ, List, Option, None, Some, IsSome, slice_set, refl, sym, subst, ◌∙◌}
 use Rattle.std.proofs.lemmas.Result.{IfOk-weaker}
+use Rattle.std.specs.Option.{option_to_list}
 use Rattle.rk_types.specs.NumberMap.{NumberMap, get, insert}
 use Rattle.rk_types.specs.declared.node.Said.{Said}
 use Rattle.rk_types.proofs.NumberMaps.{each_insert}
@@ -35,7 +36,7 @@ returns-clause-ok g c =
     (λ said telling.
     let heard = heard_well c.accept-answer.result telling.well in
     subst (λ (sessions : NumberMap Session). ActsOne g.R.Replica.segments (state_of c.args.lanes.now.items c.args.sessions.now.entries)
-    (state_of (slice_set c.args.lanes.now.items c.args.lane c.accept-answer.new.self) sessions) (Accepts c.args.lane c.args.number c.args.client) said.items None) (sym put)
+    (state_of (slice_set c.args.lanes.now.items c.args.lane c.accept-answer.new.self) sessions) (Accepts c.args.lane c.args.number c.args.client) (option_to_list said) None) (sym put)
     (subst (λ (told : List Said). ActsOne g.R.Replica.segments (state_of c.args.lanes.now.items c.args.sessions.now.entries)
     (state_of (slice_set c.args.lanes.now.items c.args.lane c.accept-answer.new.self) (insert c.args.sessions.now.entries c.args.client later)) (Accepts c.args.lane c.args.number c.args.client) told None) (sym (telling.said c.in-Some.session.now.outstanding (sym c.asked_by-asked.ensures)))
     (subst (λ (broken : Option ℕ). ActsOne g.R.Replica.segments (state_of c.args.lanes.now.items c.args.sessions.now.entries)

@@ -1,9 +1,11 @@
-use Rattle.std.proofs.Common.{◌≡◌, [], None, Some, refl, sym, subst, ◌∙◌, arith}
-use Rattle.std.proofs.lemmas.Result.{IfErr-weaker, IfOk-weaker}
+use Rattle.std.proofs.Common.{◌≡◌, List, [], None, Some, refl, sym, subst, ◌∙◌, arith}
+use Rattle.std.specs.Option.{option_to_list}
+use Rattle.std.proofs.lemmas.Result.{err_from_is_err_and}
+use Rattle.rk_types.specs.declared.node.Said.{Said}
 use Rattle.rk_message.specs.Wire.{number_at}
 use Rattle.rk_world.specs.Backup.{Gave}
 use Rattle.rk_cluster.specs.Codes.{place_code}
-use Rattle.rk_cluster.specs.Delivering.{Delivers}
+use Rattle.rk_cluster.specs.Delivering.{Delivers, IsDelivery}
 use Rattle.rk_cluster.specs.Effects.{BySomeCall, EndsIn, HasCode, IsCarriedOut}
 use Rattle.rk_cluster.specs.Makes.{deliver_makes}
 use Rattle.rk_cluster.specs.State.{ClusterState}
@@ -29,30 +31,30 @@ returns-in_default-clause-err g c =
       );
     }
 
+pub returns-in_err-delivered-clause-err : goal.returns-in_err-delivered-clause-err
+returns-in_err-delivered-clause-err g c =
+    let failure = err_from_is_err_and c.from_residual.result c.from_residual.ensures.1 in
+    let lanes = c.self.inside.lanes.items in
+    let now = c.self.inside.sessions.entries in
+    let there = there_read lanes c.args.lane c.index.result.now (omega (arith, c.requires, c.self.invariant.count)) c.index.ensures in
+    let found : number_at c.args.place c.wire.result.now ≡ Some c.in-Some.number = sym c.at.ensures ∙ c.in-Some.is in
+    rw (failure.1, failure.2)
+    (subst (λ (state : ClusterState g.row.R.Denot). BySomeCall (λ called. EndsIn g.R.Replica.segments state c.deliver_in.new.self (λ cluster. place_code cluster c.args.lane c.args.place)
+    (λ cluster. deliver_makes cluster c.args.lane c.args.place called) c.in_err-delivered.field-0.0)) c.self.view_is
+    (ends g.R.Replica.segments lanes now c.args.lane c.in-Some.number c.index.result.now c.wire.result.now there c.wire.ensures c.args.place c.deliver_in.new.self found c.in_err-delivered.field-0.0
+    (subst (λ (state : ClusterState g.row.R.Denot). WhereWorn (λ number. Delivers g.R.Replica.segments state c.deliver_in.new.self c.args.lane c.in-Some.number [] (Some number)) c.in_err-delivered.field-0.0)
+    (sym c.self.view_is) c.in_err-delivered.ensures.err)))
+
 pub returns-clause-ok : goal.returns-clause-ok
 returns-clause-ok g c =
     let lanes = c.self.inside.lanes.items in
     let now = c.self.inside.sessions.entries in
     let there = there_read lanes c.args.lane c.index.result.now (omega (arith, c.requires, c.self.invariant.count)) c.index.ensures in
     let found : number_at c.args.place c.wire.result.now ≡ Some c.in-Some.number = sym c.at.ensures ∙ c.in-Some.is in
-    IfOk-weaker c.deliver_in.result _ _
-    (λ said it.
-    subst (λ (state : ClusterState g.row.R.Denot). BySomeCall (λ called. IsCarriedOut g.R.Replica.segments state c.deliver_in.new.self (λ cluster. place_code cluster c.args.lane c.args.place)
-    (λ cluster. deliver_makes cluster c.args.lane c.args.place called) said.items)) c.self.view_is
-    (carried_out g.R.Replica.segments lanes now c.args.lane c.in-Some.number c.index.result.now c.wire.result.now there c.wire.ensures c.args.place c.deliver_in.new.self found said.items
-    (subst (λ (state : ClusterState g.row.R.Denot). Delivers g.R.Replica.segments state c.deliver_in.new.self c.args.lane c.in-Some.number said.items None) (sym c.self.view_is) it)))
-    c.deliver_in.ensures.ok
-
-pub returns-clause-err : goal.returns-clause-err
-returns-clause-err g c =
-    let lanes = c.self.inside.lanes.items in
-    let now = c.self.inside.sessions.entries in
-    let there = there_read lanes c.args.lane c.index.result.now (omega (arith, c.requires, c.self.invariant.count)) c.index.ensures in
-    let found : number_at c.args.place c.wire.result.now ≡ Some c.in-Some.number = sym c.at.ensures ∙ c.in-Some.is in
-    IfErr-weaker c.deliver_in.result _ _
-    (λ e worn.
-    subst (λ (state : ClusterState g.row.R.Denot). BySomeCall (λ called. EndsIn g.R.Replica.segments state c.deliver_in.new.self (λ cluster. place_code cluster c.args.lane c.args.place)
-    (λ cluster. deliver_makes cluster c.args.lane c.args.place called) e)) c.self.view_is
-    (ends g.R.Replica.segments lanes now c.args.lane c.in-Some.number c.index.result.now c.wire.result.now there c.wire.ensures c.args.place c.deliver_in.new.self found e
-    (subst (λ (state : ClusterState g.row.R.Denot). WhereWorn (λ number. Delivers g.R.Replica.segments state c.deliver_in.new.self c.args.lane c.in-Some.number [] (Some number)) e) (sym c.self.view_is) worn)))
-    c.deliver_in.ensures.err
+    subst (λ (told : List Said). BySomeCall (λ called. IsCarriedOut g.R.Replica.segments c.args.self.now c.deliver_in.new.self (λ cluster. place_code cluster c.args.lane c.args.place)
+    (λ cluster. deliver_makes cluster c.args.lane c.args.place called) told)) (sym c.in_ok-listed.ensures)
+    (subst (λ (state : ClusterState g.row.R.Denot). BySomeCall (λ called. IsCarriedOut g.R.Replica.segments state c.deliver_in.new.self (λ cluster. place_code cluster c.args.lane c.args.place)
+    (λ cluster. deliver_makes cluster c.args.lane c.args.place called) (option_to_list c.in_ok-delivered.delivered.said))) c.self.view_is
+    (carried_out g.R.Replica.segments lanes now c.args.lane c.in-Some.number c.index.result.now c.wire.result.now there c.wire.ensures c.args.place c.deliver_in.new.self found c.in_ok-delivered.delivered
+    (subst (λ (state : ClusterState g.row.R.Denot). BySomeCall (IsDelivery g.R.Replica.segments state c.deliver_in.new.self c.args.lane c.in-Some.number c.in_ok-delivered.delivered))
+    (sym c.self.view_is) c.in_ok-delivered.ensures.ok)))
