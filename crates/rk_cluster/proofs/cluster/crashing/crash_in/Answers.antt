@@ -14,7 +14,7 @@ returns-clause-happens g c =
     subst (λ (broken : Option ℕ). IsHappening g.R.Replica.segments lanes (slice_set lanes c.args.lane c.step.new.self) c.args.lane (events.Crash c.args.master) broken)
     (crash_well g.R.Replica.faults its c.step.new.self c.args.master c.step.result memory c.step.ensures.refused)
     (happened g.R.Replica.segments g.R.Replica.faults lanes c.args.lane its c.step.new.self (events.Crash c.args.master)
-    (there_read lanes c.args.lane its c.requires.there c.index_mut.ensures.value) c.step.result memory c.step.ensures.ok c.step.ensures.refused)
+    (there_read lanes c.args.lane its c.requires.there c.index_mut.ensures.value) c.step.result memory c.step.ensures.ok c.step.ensures.refused).happening
 
 pub returns-clause-beside : goal.returns-clause-beside
 returns-clause-beside g c = set_beside c.args.lanes.now.items c.args.lane c.step.new.self
