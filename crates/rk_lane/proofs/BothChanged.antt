@@ -145,6 +145,7 @@ module _ (old : Parts) (event : Event) (number : ℕ) (it now : Master) (coordin
       counted = sym sizes;
       distinct = ready.kept.distinct;
       reserved = omega (arith, ready.kept.reserved, same_count);
+      requests = ready.kept.requests;
     };
     lane = record { number = refl; backups = refl; masters = same_count };
   }

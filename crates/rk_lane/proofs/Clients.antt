@@ -29,6 +29,7 @@ use Rattle.rk_world.specs.declared.event.Taken.{Taken}
 use Rattle.rk_world.specs.declared.event.Taken.TheVariants as takes
 use Rattle.rk_world.specs.declared.ledger.LastCall.{LastCall}
 use Rattle.rk_lane.specs.Parts.{IsKept, world_of}
+use Rattle.rk_lane.specs.Requests.{AreForMasters}
 use Rattle.rk_lane.specs.Sends.{IsFitToSend}
 use Rattle.rk_lane.specs.Visiting.{MayTurn, last_to_note, noted, request_told, saved}
 use Rattle.rk_lane.specs.Visits.{IsVisited}
@@ -36,18 +37,21 @@ use Rattle.rk_lane.specs.declared.parts.Parts.{Parts}
 use Rattle.rk_laws_formed.proofs.Bounds.{all_in_map}
 use Rattle.rk_laws_formed.proofs.Happenings.{formed_accepts, formed_asks}
 use Rattle.rk_laws_formed.proofs.Rises.{KeepsTo, all_inserted, keeps_to_more, keeps_to_top}
+use Rattle.rk_lane.proofs.Requests.{asked_for_masters, requested_for_masters, taken_for_masters, turned_to_master}
 use Rattle.rk_lane.proofs.Sendable.{fit_to_send}
 use Rattle.rk_lane.proofs.Topped.{keeps_once_topped, topped}
 
 -- all is kept where ledger, wire and greatest number alone are others
 pub kept_with : (old : Parts) (ledger : Ledger) (wire : Traffic) (top : ℕ) → IsKept old
-    → IsFormedWithRoom (world_of (record old { ledger = ledger; wire = wire; top = top }) []) → IsKept (record old { ledger = ledger; wire = wire; top = top })
-kept_with old ledger wire top kept formed = record {
+    → IsFormedWithRoom (world_of (record old { ledger = ledger; wire = wire; top = top }) []) → AreForMasters ledger.requests
+    → IsKept (record old { ledger = ledger; wire = wire; top = top })
+kept_with old ledger wire top kept formed requests = record {
   present = kept.present;
   formed = formed;
   counted = kept.counted;
   distinct = kept.distinct;
   reserved = kept.reserved;
+  requests = requests;
 }
 
 -- each call comes after a start that tells nothing
@@ -257,7 +261,10 @@ module _ (old : Parts) (session later : Session) (message : Message) (may : MayT
   turn_made = record {
     visited = λ stored. asked_is stored
         ∙ (λ i. Ok (record { world = world_then stored i; session = later; seen = record { first = old.wire.sent + 1; sent = 1; lost = false; taken = None } }));
-    kept = kept_with old ledger_then (with_message message old.wire) parts_then.top may.kept (subst IsFormedWithRoom (world_then []) formed_then);
+    kept = kept_with old ledger_then (with_message message old.wire) parts_then.top may.kept (subst IsFormedWithRoom (world_then []) formed_then)
+        (subst (λ (ledger : Ledger). AreForMasters ledger.requests) (sym ledger_is)
+        (requested_for_masters (ledger_asked old.ledger session its.call) session.client message message.body (turned_to_master session later message turn)
+        (asked_for_masters old.ledger session its.call may.kept.requests)));
     lane = record { number = refl; backups = refl; masters = refl };
   }
 
@@ -287,6 +294,7 @@ module _ (old : Parts) (number : ℕ) (session : Session) (kept : IsKept old) (m
     kept =
         kept_with old parts_taken.ledger old.wire old.top kept
         (subst (λ (result : Result Visited StepError). IsFormedWithRoom (world_visited (world_of old []) result)) (accepted [])
-        (formed_accepts (world_of old []) number session may kept.formed));
+        (formed_accepts (world_of old []) number session may kept.formed))
+        (taken_for_masters old.ledger message.body taken_then kept.requests);
     lane = record { number = refl; backups = refl; masters = refl };
   }

@@ -19,6 +19,7 @@ use Rattle.rk_world.specs.declared.event.Seen.{Seen}
 use Rattle.rk_lane.specs.Events.{MayStep}
 use Rattle.rk_lane.specs.Parts.{IsKept, masters_from, world_of}
 use Rattle.rk_lane.specs.declared.parts.Parts.{Parts}
+use Rattle.rk_lane.proofs.Requests.{still_for_masters}
 
 -- what the bytes and the masters of a lane fit
 pub record Fits (w : World) : Type 0 where
@@ -68,4 +69,5 @@ module _ (old new : Parts) (event : Event) (called : Called) (seen : Seen) (kept
         reserved =
             subst (λ masters. length masters.items ≤ vec_capacity new.crashed) (sym same)
             (subst (λ crashed. length old.masters.items ≤ vec_capacity crashed) (sym stays) kept.reserved);
+        requests = still_for_masters old new event called seen is kept.requests;
       }

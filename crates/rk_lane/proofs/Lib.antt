@@ -7,6 +7,7 @@ pub mod AtEnd
 pub mod Journals
 pub mod New
 pub mod Refusing
+pub mod Requests
 pub mod Keeping
 pub mod Coordinated
 pub mod Quiet

@@ -43,6 +43,7 @@ use Rattle.rk_lane.specs.Parts.{IsKept, masters_from, world_of}
 use Rattle.rk_lane.specs.Sends.{IsFitToSend}
 use Rattle.rk_lane.specs.Working.{IsSettled, IsUnsettled, IsWeighed, ledger_worked, sends_worked}
 use Rattle.rk_lane.specs.declared.parts.Parts.{Parts}
+use Rattle.rk_lane.proofs.Requests.{still_for_masters}
 use Rattle.rk_lane.proofs.AtEnd.{IsReached, sends_made}
 use Rattle.rk_lane.proofs.Coordinated.{delivered_is, delivery_allowed}
 use Rattle.rk_lane.proofs.Quiet.{masters_counted}
@@ -372,6 +373,7 @@ module _ (old : Parts) (event : Event) (number : ℕ) (it : Master) (worked : Wo
               ap (λ masters. length masters.items) new_masters,
               ap (λ crashed. vec_capacity crashed) new_crashed,
             );
+        requests = still_for_masters old new event (Gave None) shown (work_made_in []) ready.kept.requests;
       };
       lane = record {
         number = ap (λ (p : Parts). p.number) finished.parts;

@@ -119,6 +119,7 @@ crashed old new master seen kept may lives is pushed same quiet =
         counted = kept.counted;
         distinct = subst (λ (list : List ℕ). IsDistinct eqb list) (sym pushed) (distinct_push old.crashed.items master kept.distinct lives);
         reserved = subst (λ (room : ℕ). length old.masters.items ≤ room) (sym same) kept.reserved;
+        requests = kept.requests;
       };
       lane = record { number = refl; backups = refl; masters = refl };
     })

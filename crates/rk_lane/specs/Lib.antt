@@ -1,4 +1,5 @@
 pub mod LaneState
+pub mod Requests
 pub mod Parts
 pub mod Lane
 pub mod Events

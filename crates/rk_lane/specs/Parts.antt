@@ -8,6 +8,7 @@ use Rattle.rk_world.specs.Master.{Master, new_master}
 use Rattle.rk_world.specs.Runs.{IsFormedWithRoom}
 use Rattle.rk_world.specs.World.{World, bytes_of_logs}
 use Rattle.rk_lane.specs.LaneState.{Running}
+use Rattle.rk_lane.specs.Requests.{AreForMasters}
 use Rattle.rk_lane.specs.declared.parts.Parts.{Parts}
 
 -- masters under their numbers, which count from this one on
@@ -42,10 +43,11 @@ world_of parts backups = record {
 }
 
 -- what is kept of a lane that is not spent: no master is spent, its world is well formed and has room, the bytes of all logs are
--- counted, and there is room for each crash; none of it reads what backups store
+-- counted, there is room for each crash, and requests are for masters; none of it reads what backups store
 pub record IsKept (parts : Parts) : Type 0 where
   pub present : All IsSome parts.masters.items
   pub formed : IsFormedWithRoom (world_of parts [])
   pub counted : parts.log_bytes ≡ bytes_of_logs (world_of parts [])
   pub distinct : IsDistinct eqb parts.crashed.items
   pub reserved : length parts.masters.items ≤ vec_capacity parts.crashed
+  pub requests : AreForMasters parts.ledger.requests

@@ -10,6 +10,7 @@ ghost use Rattle.rk_world.specs.World.{bytes_of_logs, has_crashed, master_at, ne
 ghost use Rattle.rk_lane.specs.Copies.{value_bytes};
 ghost use Rattle.rk_lane.specs.LaneState.{AreTold, replicas_of, world_with};
 ghost use Rattle.rk_lane.specs.Lane.{AreNumbered};
+ghost use Rattle.rk_lane.specs.Requests.{AreForMasters};
 
 use crate::copies::{copy_records, value_bytes};
 use crate::parts::{Parts, lives_another};
@@ -90,11 +91,12 @@ impl<R: Replica + Drop> Lane<R> {
     }
 
     /// Whether the lane is spent: memory was wanting within an event. What is known of each other one: its world is well
-    /// formed and has room, and its coordinator counts its masters.
+    /// formed and has room, its coordinator counts its masters, and the last request of each client is for a master.
     pub fn spent(&self) -> bool
         ensures spent { result ≡ not (is_some self.now.running) }
         ensures formed { IfSome self.now.running (λ running. IsFormedWithRoom (world_with self.now running [])) }
         ensures masters { IfSome self.now.running (λ running. running.coordinator.masters ≡ self.now.masters) }
+        ensures requests { IfSome self.now.running (λ _. AreForMasters self.now.ledger.requests) }
     {
         self.spent
     }

@@ -1,10 +1,12 @@
 use Rattle.std.proofs.Common.{◌≡◌, [], List, Option, length, eqb, ap, sym, ◌∙◌, subst, arith, All, IsSome}
 use Rattle.std.specs.List.{IsDistinct}
 use Rattle.std.proofs.lemmas.List.FromFn.{length-map-range_with_len}
+use Rattle.rk_world.specs.Ledger.{Ledger}
 use Rattle.rk_world.specs.Master.{Master}
 use Rattle.rk_world.specs.Runs.{IsFormedWithRoom}
 use Rattle.rk_world.specs.World.{bytes_of_logs, new_world}
 use Rattle.rk_lane.specs.Parts.{masters_from, world_of}
+use Rattle.rk_lane.specs.Requests.{AreForMasters}
 use Rattle.rk_lane.proofs.New.{new_at, new_masters_are, new_present, new_is_formed, none_crashed, new_counted}
 use Rattle.rk_lane.proofs.parts.Parts.new.Goals as goal
 
@@ -54,4 +56,6 @@ returns-clause-kept c = record {
             ∙ length-map-range_with_len (new_at c.args.backups) 1 c.args.masters,
         c.in_ok-with_capacity.ensures.capacity,
       );
+  requests =
+      subst (λ (ledger : Ledger). AreForMasters ledger.requests) (sym c.new-3.ensures) (λ client request found. absurd (cc found));
 }
