@@ -20,3 +20,5 @@ pub mod Calling
 pub mod Resting
 pub mod Eighths
 pub mod NewLanes
+pub mod Making
+pub mod Resending

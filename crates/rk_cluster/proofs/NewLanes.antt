@@ -17,7 +17,7 @@ use Rattle.rk_cluster.specs.Dealt.{AreDealt, IsEighth}
 use Rattle.rk_cluster.specs.Fresh.{AreEmpty, AreMadeOf, IsHand, IsMadeOf, IsNewLane}
 use Rattle.rk_cluster.specs.State.{AreWorlds, ClusterState, IsOf, IsWorld}
 use Rattle.rk_cluster.specs.Steps.{AreLanes, state_of}
-use Rattle.rk_cluster.proofs.Worlds.{all_at}
+use Rattle.rk_cluster.proofs.Worlds.{all_at, something_within}
 
 -- ---- hands
 
@@ -32,11 +32,6 @@ nothing_within : {X : Type 0} (xs : List X) (place : ℕ) → place < length xs 
 nothing_within [] place within none = absurd (omega (arith, within))
 nothing_within (x ∷ xs) zero within none = absurd (cc none)
 nothing_within (x ∷ xs) (suc place) within none = nothing_within xs place (omega (arith, within)) none
-
-something_within : {X : Type 0} (xs : List X) (place : ℕ) → place < length xs → (x : X) × (slice_get xs place ≡ Some x)
-something_within [] place within = absurd (omega (arith, within))
-something_within (x ∷ xs) zero within = (x, refl)
-something_within (x ∷ xs) (suc place) within = something_within xs place (omega (arith, within))
 
 -- each lane gets its share
 pub eighth_length : {X : Type 0} (things its : List X) (lane count : ℕ) → lane < LANES → length things ≡ LANES * count → IsEighth things lane its → length its ≡ count

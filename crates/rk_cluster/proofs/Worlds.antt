@@ -30,6 +30,11 @@ all_at Holds (y ∷ ys) zero x there all = let same : y ≡ x = cc there in subs
 all_at Holds (y ∷ ys) (suc place) x there all = all_at Holds ys place x there (All-tail Holds y ys all)
 
 -- within a list something stands
+pub something_within : {X : Type 0} (xs : List X) (place : ℕ) → place < length xs → (x : X) × (slice_get xs place ≡ Some x)
+something_within [] place within = absurd (omega (arith, within))
+something_within (x ∷ xs) zero within = (x, refl)
+something_within (x ∷ xs) (suc place) within = something_within xs place (omega (arith, within))
+
 pub there_within : {X : Type 0} (xs : List X) (place : ℕ) (d : X) → place < length xs → slice_get xs place ≡ Some (slice_index_or xs place d)
 there_within [] place d within = absurd (omega (arith, within))
 there_within (x ∷ xs) zero d within = refl

@@ -19,3 +19,4 @@ pub mod Crashing
 pub mod Calling
 pub mod Dealt
 pub mod Fresh
+pub mod Again

@@ -28,6 +28,7 @@ use std::alloc::Global;
 use std::collections::BTreeMap;
 use std::marker::Model;
 
+mod again;
 mod calling;
 mod crashing;
 mod fresh;

@@ -1,0 +1,276 @@
+-- How a client sends its last request again: it reaches a master.
+use Rattle.std.proofs.Common.{◌≡◌, ◌<◌, ◌≤◌, ◌+◌, ℕ, zero, suc, Bool, true, false, not, List, [], ◌∷◌, ◌++◌, length, slice_get, slice_set, slice_index_or, is_none, is_some, unwrap_or, Option, Some, None, IfSome, Result, Ok, Err, refl, sym, ap, subst, ◌∙◌, arith}
+use Rattle.std.proofs.lemmas.Option.{slice_get_within}
+use Rattle.rk_types.specs.NumberMap.{NumberMap, get}
+use Rattle.rk_types.specs.declared.node.Said.{Said}
+use Rattle.rk_outside.specs.Segments.{Segments}
+use Rattle.rk_types.proofs.NumberMaps.{get_same}
+use Rattle.rk_types.specs.declared.node.Node.{Node}
+use Rattle.rk_types.specs.declared.node.Node.TheVariants as nodes
+use Rattle.rk_message.specs.Wire.{HasSentNumbers, Traffic}
+use Rattle.rk_message.specs.declared.message.Message.{Message}
+use Rattle.rk_world.specs.Backup.{Called, Gave}
+use Rattle.rk_world.specs.Refusals.{refusal}
+use Rattle.rk_world.specs.Room.{MOST_NUMBER}
+use Rattle.rk_world.specs.Runs.{IsFormedWithRoom, world_stepped}
+use Rattle.rk_world.specs.Step.{delivered, delivered_to, sent_again, step, stepped_by, Stepped}
+use Rattle.rk_world.specs.World.{World, new_world, standing}
+use Rattle.rk_world.specs.declared.error.StepError.{StepError}
+use Rattle.rk_world.specs.declared.event.Event.TheVariants as events
+use Rattle.rk_world.specs.Client.{Session, new_session}
+use Rattle.rk_world.specs.Cluster.{Cluster, Happens, Occurrence, cluster_stepped, lane_at, session_at}
+use Rattle.rk_lane.specs.LaneState.{LaneState, Running, world_with}
+use Rattle.rk_lane.specs.Requests.{AreForMasters, IsOfMaster}
+use Rattle.rk_cluster.specs.Acted.{Acted, acted, all_acted, going_on, worn_in}
+use Rattle.rk_cluster.specs.Again.{IsNextIn, IsSentAgain, again_at}
+use Rattle.rk_cluster.specs.Codes.{again_code, code_where, first_code}
+use Rattle.rk_cluster.specs.Effects.{Acts, ActsBy, ActsOne, HasCode, IsActedAs}
+use Rattle.rk_cluster.specs.Looks.{is_client}
+use Rattle.rk_cluster.specs.Makes.{again_by, again_in, again_makes, in_lane, request_lane}
+use Rattle.rk_cluster.specs.State.{ClusterState, IsOf, IsWorld}
+use Rattle.rk_cluster.specs.Steps.{IsHappening, state_of}
+use Rattle.rk_cluster.specs.declared.code.Code.{Code}
+use Rattle.rk_cluster.specs.declared.code.Code.TheVariants.{NothingSent, Unknown}
+use Rattle.rk_cluster.proofs.Carrying.{only_acts, worn_acts}
+use Rattle.rk_cluster.proofs.Deeds.{happens_plain}
+use Rattle.rk_cluster.proofs.Worlds.{all_at, same_count, world_at}
+
+-- ---- a message for a master calls no replica
+
+reached_same : (w : World) (message : Message) (to : Node) (called : Called) → IsOfMaster to → delivered_to w message to called ≡ delivered_to w message to (Gave None)
+reached_same w message (nodes.Client client) called is = absurd is
+reached_same w message nodes.Coordinator called is = absurd is
+reached_same w message (nodes.Master master) called is = refl
+reached_same w message (nodes.Backup backup) called is = absurd is
+
+delivered_same : (w : World) (message : Option Message) (called : Called) → IfSome message (λ it. IsOfMaster it.to) → delivered w message called ≡ delivered w message (Gave None)
+delivered_same w None called is = refl
+delivered_same w (Some message) called is = reached_same w message message.to called is
+
+stepped_same : (w : World) (number : ℕ) (called : Called) (refused : Option StepError) → IfSome (get w.wire.messages number) (λ it. IsOfMaster it.to)
+    → stepped_by w (events.Deliver number) called refused ≡ stepped_by w (events.Deliver number) (Gave None) refused
+stepped_same w number called None is = ap Ok (delivered_same w (get w.wire.messages number) called is)
+stepped_same w number called (Some error) is = refl
+
+pub deliver_same : (w : World) (number : ℕ) (called : Called) → IfSome (get w.wire.messages number) (λ it. IsOfMaster it.to)
+    → step w (events.Deliver number) called ≡ step w (events.Deliver number) (Gave None)
+deliver_same w number called is = stepped_same w number called (refusal w (events.Deliver number)) is
+
+-- ---- what is sent again is for a master
+
+none_next : (w : World) (found : Option Message) → get w.wire.messages (w.wire.sent + 1) ≡ found → HasSentNumbers w.wire → IfSome found (λ it. IsOfMaster it.to)
+none_next w None is numbered = tt
+none_next w (Some message) is numbered = absurd (omega (arith, (numbered (w.wire.sent + 1) message is).1))
+
+module _ (w : World) (numbered : HasSentNumbers w.wire) where
+  sent_for_master : (found : Option Message) → IfSome found (λ it. IsOfMaster it.to)
+      → IfSome (get (sent_again w found).world.wire.messages (w.wire.sent + 1)) (λ it. IsOfMaster it.to)
+  sent_for_master None is = none_next w (get w.wire.messages (w.wire.sent + 1)) refl numbered
+  sent_for_master (Some message) is =
+      subst (λ (found : Option Message). IfSome found (λ it. IsOfMaster it.to)) (sym (get_same w.wire.messages (w.wire.sent + 1) message (w.wire.sent + 1) refl)) is
+
+  refused_or_sent : (client : ℕ) (refused : Option StepError) → IfSome (get w.ledger.requests client) (λ it. IsOfMaster it.to)
+      → IfSome (get (world_stepped w (stepped_by w (events.Again client) (Gave None) refused)).wire.messages (w.wire.sent + 1)) (λ it. IsOfMaster it.to)
+  refused_or_sent client None is = sent_for_master (get w.ledger.requests client) is
+  refused_or_sent client (Some error) is = none_next w (get w.wire.messages (w.wire.sent + 1)) refl numbered
+
+  pub again_for_master : (client : ℕ) → IfSome (get w.ledger.requests client) (λ it. IsOfMaster it.to)
+      → IfSome (get (world_stepped w (step w (events.Again client) (Gave None))).wire.messages (w.wire.sent + 1)) (λ it. IsOfMaster it.to)
+  again_for_master client is = refused_or_sent client (refusal w (events.Again client)) is
+
+-- ---- in a cluster
+
+read_set : {X : Type 0} (xs : List X) (place : ℕ) (x d : X) → place < length xs → slice_index_or (slice_set xs place x) place d ≡ x
+read_set [] place x d within = absurd (omega (arith, within))
+read_set (y ∷ ys) zero x d within = refl
+read_set (y ∷ ys) (suc place) x d within = read_set ys place x d (omega (arith, within))
+
+-- what an event makes of a lane
+lane_after : (cluster : Cluster) (lane : ℕ) (stepped : Result Stepped StepError) → lane < length cluster.lanes
+    → lane_at (cluster_stepped cluster lane stepped) lane ≡ world_stepped (lane_at cluster lane) stepped
+lane_after cluster lane (Ok stepped) within = read_set cluster.lanes lane stepped.world (new_world lane 0 0) within
+lane_after cluster lane (Err error) within = refl
+
+found_for_master : (requests : NumberMap Message) (client : ℕ) (found : Option Message) → get requests client ≡ found → AreForMasters requests → IfSome found (λ it. IsOfMaster it.to)
+found_for_master requests client None is for = tt
+found_for_master requests client (Some request) is for = for client request is
+
+only_code : (code : Option Code) → first_code (code ∷ []) ≡ code
+only_code None = refl
+only_code (Some code) = refl
+
+module _ {R : Type 0} (segments : R → Option Segments) where
+  worn_here : (next : ClusterState R) (number : ℕ) (later : List Occurrence) (it : Acted) → IsActedAs segments next [] (Some number) it
+      → IsActedAs segments next [] (Some number) (going_on it it.worn (λ cluster. all_acted cluster later))
+  worn_here next number later it is =
+      subst (λ (o : Option ℕ). IsActedAs segments next [] (Some number) (going_on it o (λ cluster. all_acted cluster later))) (sym is.worn) is
+
+  last_acts : (old new : ClusterState R) (occurrence : Occurrence) (broken : Option ℕ) → ActsOne segments old new occurrence [] broken
+      → Acts segments old new (occurrence ∷ []) [] broken
+  last_acts old new occurrence None one = only_acts segments old new occurrence [] one
+  last_acts old new occurrence (Some number) one = worn_acts segments old new occurrence [] number one
+
+  -- what follows on one occurrence, in one cluster
+  on_from : (next final : ClusterState R) (broken : Option ℕ) (later : List Occurrence) (it : Acted) → IsActedAs segments next [] None it
+      → IsActedAs segments final [] broken (all_acted it.cluster later) → IsActedAs segments final [] broken (going_on it it.worn (λ cluster. all_acted cluster later))
+  on_from next final broken later it is after =
+      subst (λ (o : Option ℕ). IsActedAs segments final [] broken (going_on it o (λ cluster. all_acted cluster later))) (sym is.worn)
+      (record {
+        cluster = after.cluster;
+        said = ap (λ (said : List Said). said ++ (all_acted it.cluster later).said) is.said ∙ after.said;
+        worn = after.worn;
+      })
+
+  -- a message for a master calls no replica
+  delivers : (old new : List (LaneState R)) (sessions : NumberMap Session) (lane number : ℕ) (broken : Option ℕ) (cluster : Cluster) → IsOf segments (state_of old sessions) cluster
+      → IsHappening segments old new lane (events.Deliver number) broken → IfSome (get (lane_at cluster lane).wire.messages number) (λ it. IsOfMaster it.to)
+      → IsActedAs segments (state_of new sessions) [] broken (acted cluster (Happens lane (events.Deliver number) (Gave None)))
+  delivers old new sessions lane number broken cluster is it for =
+      subst (λ (stepped : Result Stepped StepError). IsActedAs segments (state_of new sessions) [] broken
+      (record { cluster = cluster_stepped cluster lane stepped; said = []; worn = worn_in stepped }))
+      (deliver_same (lane_at cluster lane) number it.called for) (it.acts sessions cluster is)
+
+  module _ (old : List (LaneState R)) (lane client number : ℕ) (its : LaneState R) (there : slice_get old lane ≡ Some its) (next : IsNextIn number its)
+      (sessions : NumberMap Session) (cluster : Cluster) (is : IsOf segments (state_of old sessions) cluster) where
+    its_world : IsWorld segments its (lane_at cluster lane)
+    its_world = world_at segments old cluster.lanes lane its (new_world lane 0 0) is.lanes there
+
+    number_is : number ≡ (lane_at cluster lane).wire.sent + 1
+    number_is =
+        subst (λ (o : Option Running). IfSome o (λ running. number ≡ running.wire.sent + 1)) its_world.runs next.next
+        ∙ ap (λ (w : World). w.wire.sent + 1) (sym its_world.is)
+
+    numbered_there : HasSentNumbers (lane_at cluster lane).wire
+    numbered_there =
+        subst (λ (w : World). HasSentNumbers w.wire) (sym its_world.is)
+        (subst (λ (o : Option Running). IfSome o (λ running. HasSentNumbers running.wire)) its_world.runs next.numbered)
+
+    requests_there : AreForMasters (lane_at cluster lane).ledger.requests
+    requests_there =
+        subst (λ (w : World). AreForMasters w.ledger.requests) (sym its_world.is)
+        (subst (λ (o : Option Running). IfSome o (λ _. AreForMasters its.ledger.requests)) its_world.runs next.requests)
+
+    within_cluster : lane < length cluster.lanes
+    within_cluster = omega (arith, slice_get_within old lane its there, same_count segments old cluster.lanes is.lanes)
+
+    -- once the request is sent again, the message of its number is for a master
+    for_master : IfSome (get (lane_at (acted cluster (Happens lane (events.Again client) (Gave None))).cluster lane).wire.messages number) (λ it. IsOfMaster it.to)
+    for_master =
+        let w = lane_at cluster lane in
+        let stepped = step w (events.Again client) (Gave None) in
+        subst (λ (n : ℕ). IfSome (get (lane_at (cluster_stepped cluster lane stepped) lane).wire.messages n) (λ it. IsOfMaster it.to)) (sym number_is)
+        (subst (λ (v : World). IfSome (get v.wire.messages (w.wire.sent + 1)) (λ it. IsOfMaster it.to)) (sym (lane_after cluster lane stepped within_cluster))
+        (again_for_master w numbered_there client (found_for_master w.ledger.requests client (get w.ledger.requests client) refl requests_there)))
+
+    -- ---- event by event
+
+    module _ (now : List (LaneState R)) (sent : IsHappening segments old now lane (events.Again client) None) where
+      sends_one : IsActedAs segments (state_of now sessions) [] None (acted cluster (Happens lane (events.Again client) (Gave None)))
+      sends_one = happens_plain segments old now lane (events.Again client) None tt sent sessions cluster is
+
+      pub again_undelivered : (new : List (LaneState R)) (broken : ℕ) → IsHappening segments now new lane (events.Deliver number) (Some broken)
+          → IsActedAs segments (state_of new sessions) [] (Some broken) (all_acted cluster (again_at lane client number))
+      again_undelivered new broken reached =
+          let first = acted cluster (Happens lane (events.Again client) (Gave None)) in
+          on_from (state_of now sessions) (state_of new sessions) (Some broken) (in_lane lane (events.Deliver number) ∷ in_lane lane (events.Forget number) ∷ []) first sends_one
+          (worn_here (state_of new sessions) broken (in_lane lane (events.Forget number) ∷ []) (acted first.cluster (Happens lane (events.Deliver number) (Gave None)))
+          (delivers now new sessions lane number (Some broken) first.cluster sends_one.cluster reached for_master))
+
+      pub again_to_end : (later new : List (LaneState R)) (broken : Option ℕ) → IsHappening segments now later lane (events.Deliver number) None
+          → IsHappening segments later new lane (events.Forget number) broken → IsActedAs segments (state_of new sessions) [] broken (all_acted cluster (again_at lane client number))
+      again_to_end later new broken reached forgotten =
+          let first = acted cluster (Happens lane (events.Again client) (Gave None)) in
+          let second = acted first.cluster (Happens lane (events.Deliver number) (Gave None)) in
+          let delivered = delivers now later sessions lane number None first.cluster sends_one.cluster reached for_master in
+          on_from (state_of now sessions) (state_of new sessions) broken (in_lane lane (events.Deliver number) ∷ in_lane lane (events.Forget number) ∷ []) first sends_one
+          (on_from (state_of later sessions) (state_of new sessions) broken (in_lane lane (events.Forget number) ∷ []) second delivered
+          (last_acts (state_of later sessions) (state_of new sessions) (Happens lane (events.Forget number) (Gave None)) broken
+          (happens_plain segments later new lane (events.Forget number) broken tt forgotten sessions) second.cluster delivered.cluster))
+
+  -- ---- what comes of it, in every cluster
+
+  pub unsent : (old new : List (LaneState R)) (lane client number broken : ℕ) → IsHappening segments old new lane (events.Again client) (Some broken)
+      → IsSentAgain segments old new lane client number (Some broken)
+  unsent old new lane client number broken sent sessions =
+      worn_acts segments (state_of old sessions) (state_of new sessions) (Happens lane (events.Again client) (Gave None))
+      (in_lane lane (events.Deliver number) ∷ in_lane lane (events.Forget number) ∷ []) broken
+      (happens_plain segments old new lane (events.Again client) (Some broken) tt sent sessions)
+
+  pub undelivered : (old now new : List (LaneState R)) (lane client number : ℕ) (its : LaneState R) → slice_get old lane ≡ Some its → IsNextIn number its
+      → IsHappening segments old now lane (events.Again client) None → (broken : ℕ) → IsHappening segments now new lane (events.Deliver number) (Some broken)
+      → IsSentAgain segments old new lane client number (Some broken)
+  undelivered old now new lane client number its there next sent broken reached sessions cluster is =
+      again_undelivered old lane client number its there next sessions cluster is now sent new broken reached
+
+  pub to_end : (old now later new : List (LaneState R)) (lane client number : ℕ) (its : LaneState R) → slice_get old lane ≡ Some its → IsNextIn number its
+      → IsHappening segments old now lane (events.Again client) None → IsHappening segments now later lane (events.Deliver number) None → (broken : Option ℕ)
+      → IsHappening segments later new lane (events.Forget number) broken → IsSentAgain segments old new lane client number broken
+  to_end old now later new lane client number its there next sent reached broken forgotten sessions cluster is =
+      again_to_end old lane client number its there next sessions cluster is now sent later new broken reached forgotten
+
+  -- ---- the whole call
+
+  module _ (lanes : List (LaneState R)) (sessions : NumberMap Session) (client : ℕ) where
+    pub again_unknown : get sessions client ≡ None → HasCode segments (state_of lanes sessions) (λ cluster. again_code cluster client) (Some Unknown)
+    again_unknown absent cluster is =
+        let here : is_client cluster client ≡ false = ap (λ (known : NumberMap Session). is_some (get known client)) is.sessions ∙ ap (λ (o : Option Session). is_some o) absent in
+        ap (λ (b : Bool). first_code (code_where (not b) Unknown ∷ code_where (is_none (session_at cluster client).request) NothingSent ∷ [])) here
+
+    module _ (session : Session) (found : get sessions client ≡ Some session) (cluster : Cluster) (is : IsOf segments (state_of lanes sessions) cluster) where
+      session_is : session_at cluster client ≡ session
+      session_is =
+          ap (λ (known : NumberMap Session). unwrap_or (get known client) (new_session client)) is.sessions ∙ ap (λ (o : Option Session). unwrap_or o (new_session client)) found
+
+      client_is : is_client cluster client ≡ true
+      client_is = ap (λ (known : NumberMap Session). is_some (get known client)) is.sessions ∙ ap (λ (o : Option Session). is_some o) found
+
+    pub again_code_by : (session : Session) (request : Option Message) → get sessions client ≡ Some session → session.request ≡ request
+        → HasCode segments (state_of lanes sessions) (λ cluster. again_code cluster client) (code_where (is_none request) NothingSent)
+    again_code_by session request found asked cluster is =
+        let one = client_is session found cluster is in
+        let two : is_none (session_at cluster client).request ≡ is_none request =
+        ap (λ (it : Session). is_none it.request) (session_is session found cluster is) ∙ ap (λ (o : Option Message). is_none o) asked in
+        (λ i. first_code (code_where (not (one i)) Unknown ∷ code_where (two i) NothingSent ∷ [])) ∙ only_code (code_where (is_none request) NothingSent)
+
+    pub again_acts : (session : Session) (message : Message) (lane number : ℕ) (its : LaneState R) (new : List (LaneState R)) (broken : Option ℕ) → get sessions client ≡ Some session
+        → session.request ≡ Some message → request_lane message.body ≡ lane → slice_get lanes lane ≡ Some its → IsNextIn number its
+        → IsSentAgain segments lanes new lane client number broken
+        → ActsBy segments (state_of lanes sessions) (state_of new sessions) (λ cluster. again_makes cluster client) [] broken
+    again_acts session message lane number its new broken found asked place there next sent cluster is =
+        let request : (session_at cluster client).request ≡ Some message = ap (λ (it : Session). it.request) (session_is session found cluster is) ∙ asked in
+        let made : again_makes cluster client ≡ again_at lane client number =
+        ap (again_by cluster client) request ∙ ap (again_in cluster client) place
+        ∙ ap (again_at lane client) (sym (number_is lanes lane client number its there next sessions cluster is)) in
+        subst (λ (list : List Occurrence). IsActedAs segments (state_of new sessions) [] broken (all_acted cluster list)) (sym made) (sent sessions cluster is)
+
+-- ---- the lane
+
+-- the next number of a lane that is not spent
+pub next_in : {R : Type 0} (its : LaneState R) (wire : Traffic) (sent : ℕ) → sent ≡ wire.sent → IfSome its.running (λ running. wire ≡ running.wire)
+    → IfSome its.running (λ running. IsFormedWithRoom (world_with its running [])) → IfSome its.running (λ _. AreForMasters its.ledger.requests) → IsNextIn (sent + 1) its
+next_in its wire sent is known formed requests = record {
+  next = by_wire its.running known;
+  numbered = by_form its.running formed;
+  requests = requests;
+}
+  where
+    by_wire : (running : Option Running) → IfSome running (λ it. wire ≡ it.wire) → IfSome running (λ it. sent + 1 ≡ it.wire.sent + 1)
+    by_wire None same = tt
+    by_wire (Some running) same = ap (λ (n : ℕ). n + 1) (is ∙ ap (λ (w : Traffic). w.sent) same)
+
+    by_form : (running : Option Running) → IfSome running (λ it. IsFormedWithRoom (world_with its it [])) → IfSome running (λ it. HasSentNumbers it.wire)
+    by_form None whole = tt
+    by_form (Some running) whole = whole.formed.wire.numbered
+
+-- it is no great number
+pub few_sent : {R : Type 0} (its : LaneState R) (wire : Traffic) (sent : ℕ) (spent : Bool) → spent ≡ not (is_some its.running) → spent ≡ false → sent ≡ wire.sent
+    → IfSome its.running (λ running. wire ≡ running.wire) → IfSome its.running (λ running. IsFormedWithRoom (world_with its running [])) → sent < MOST_NUMBER
+few_sent its wire sent spent told lives is known formed = by its.running (sym told ∙ lives) known formed
+  where
+    by : (running : Option Running) → not (is_some running) ≡ false → IfSome running (λ it. wire ≡ it.wire) → IfSome running (λ it. IsFormedWithRoom (world_with its it []))
+        → sent < MOST_NUMBER
+    by None never same whole = absurd (cc never)
+    by (Some running) runs same whole =
+        let w = world_with its running [] in
+        let low : running.wire.sent ≤ w.top = all_at (λ (number : ℕ). number ≤ w.top) (standing w) 0 running.wire.sent refl whole.formed.standing in
+        omega (arith, low, whole.room.number, is, ap (λ (t : Traffic). t.sent) same)

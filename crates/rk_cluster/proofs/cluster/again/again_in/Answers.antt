@@ -1,0 +1,54 @@
+use Rattle.std.proofs.Common.{None, Some}
+use Rattle.std.proofs.lemmas.Result.{IfErr-weaker, err_from_is_err_and, on_ok_weaker}
+use Rattle.rk_world.specs.declared.event.Event.TheVariants as events
+use Rattle.rk_cluster.specs.Again.{IsSentAgain}
+use Rattle.rk_cluster.specs.Steps.{IsHappening}
+use Rattle.rk_cluster.proofs.Heard.{worn_weaker}
+use Rattle.rk_cluster.proofs.Resending.{to_end, undelivered, unsent}
+use Rattle.rk_cluster.proofs.Worlds.{something_within}
+use Rattle.rk_cluster.proofs.cluster.again.again_in.Goals as goal
+
+pub returns-in_err-act-clause-err : goal.returns-in_err-act-clause-err
+returns-in_err-act-clause-err g c =
+    let lost = err_from_is_err_and c.from_residual.result c.from_residual.ensures.1 in
+    let old = c.args.lanes.now.items in
+    let new = c.act.new.lanes.items in
+    rw (lost.1, lost.2)
+    (worn_weaker (λ broken. IsHappening g.R.Replica.segments old new c.args.lane (events.Again c.args.client) (Some broken))
+    (λ broken. IsSentAgain g.R.Replica.segments old new c.args.lane c.args.client c.args.number (Some broken)) c.in_err-act.field-0.0
+    (unsent g.R.Replica.segments old new c.args.lane c.args.client c.args.number) c.in_err-act.ensures.err)
+
+pub returns-in_err-act-2-clause-err : goal.returns-in_err-act-2-clause-err
+returns-in_err-act-2-clause-err g c =
+    let lost = err_from_is_err_and c.from_residual-in_err-act-2.result c.from_residual-in_err-act-2.ensures.1 in
+    let old = c.args.lanes.now.items in
+    let now = c.act.new.lanes.items in
+    let new = c.act-2.new.lanes.items in
+    let its = something_within old c.args.lane c.requires.there in
+    rw (lost.1, lost.2)
+    (worn_weaker (λ broken. IsHappening g.R.Replica.segments now new c.args.lane (events.Deliver c.args.number) (Some broken))
+    (λ broken. IsSentAgain g.R.Replica.segments old new c.args.lane c.args.client c.args.number (Some broken)) c.in_err-act-2.field-0.0
+    (undelivered g.R.Replica.segments old now new c.args.lane c.args.client c.args.number its.0 its.1 (c.requires.next its.0 its.1) c.in_ok-act.ensures.ok)
+    c.in_err-act-2.ensures.err)
+
+pub returns-clause-ok : goal.returns-clause-ok
+returns-clause-ok g c =
+    let old = c.args.lanes.now.items in
+    let its = something_within old c.args.lane c.requires.there in
+    on_ok_weaker c.act-3.result
+    (to_end g.R.Replica.segments old c.act.new.lanes.items c.act-2.new.lanes.items c.act-3.new.lanes.items c.args.lane c.args.client c.args.number its.0 its.1
+    (c.requires.next its.0 its.1) c.in_ok-act.ensures.ok c.in_ok-act-2.ensures.ok None)
+    c.act-3.ensures.ok
+
+pub returns-clause-err : goal.returns-clause-err
+returns-clause-err g c =
+    let old = c.args.lanes.now.items in
+    let later = c.act-2.new.lanes.items in
+    let new = c.act-3.new.lanes.items in
+    let its = something_within old c.args.lane c.requires.there in
+    IfErr-weaker c.act-3.result _ _
+    (λ e. worn_weaker (λ broken. IsHappening g.R.Replica.segments later new c.args.lane (events.Forget c.args.number) (Some broken))
+    (λ broken. IsSentAgain g.R.Replica.segments old new c.args.lane c.args.client c.args.number (Some broken)) e
+    (λ broken. to_end g.R.Replica.segments old c.act.new.lanes.items later new c.args.lane c.args.client c.args.number its.0 its.1 (c.requires.next its.0 its.1)
+    c.in_ok-act.ensures.ok c.in_ok-act-2.ensures.ok (Some broken)))
+    c.act-3.ensures.err

@@ -1,0 +1,75 @@
+// How a client sends its last request again.
+ghost use Rattle.std.specs.Prelude.{◌≡◌, ◌<◌, ℕ, length, None, Some, IfErr, IfOk, OnOk};
+ghost use Rattle.rk_types.specs.declared.hashing.TheConstants.{LANES};
+ghost use Rattle.rk_cluster.specs.Again.{IsNextAt, IsSentAgain};
+ghost use Rattle.rk_cluster.specs.Codes.{again_code};
+ghost use Rattle.rk_cluster.specs.Effects.{EndsIn, IsCarriedOut};
+ghost use Rattle.rk_cluster.specs.Makes.{again_makes, request_lane as request_lane_lem};
+ghost use Rattle.rk_cluster.specs.Steps.{AreLanes, WhereWorn};
+
+use super::{Cluster, nothing_said};
+use crate::code::Code;
+use crate::error::ClusterError;
+use crate::steps::act;
+use rk_lane::Lane;
+use rk_message::Body;
+use rk_outside::Replica;
+use rk_types::{Said, hash, lane_of};
+use rk_world::Event;
+
+impl<R: Replica + Drop> Cluster<R> {
+    /// A client sends its last request again, which is delivered at once and taken off the wire. Where the lane of the request
+    /// is spent the answer is `NoMemory`. A search for the client, and what the request takes in that lane.
+    pub fn again(&mut self, client: u32) -> Result<Vec<Said>, ClusterError>
+        ensures ok { IfOk result (λ said. IsCarriedOut R.segments self.old self.new
+            (λ cluster. again_code cluster client) (λ cluster. again_makes cluster client) said.items) }
+        ensures err { IfErr result (EndsIn R.segments self.old self.new (λ cluster. again_code cluster client)
+            (λ cluster. again_makes cluster client)) }
+    {
+        let alloc = self.alloc();
+        let Some(session) = self.sessions.get(&client) else {
+            return Err(ClusterError::Code(Code::Unknown));
+        };
+        let Some(request) = session.last_request() else {
+            return Err(ClusterError::Code(Code::NothingSent));
+        };
+        let lane = request_lane(&request.body);
+        let its = &self.lanes[lane as usize];
+        if its.spent() {
+            return Err(ClusterError::NoMemory);
+        }
+        let next = its.wire().sent() + 1;
+        again_in(&mut self.lanes, lane, client, next)?;
+        Ok(nothing_said(alloc))
+    }
+}
+
+// The lane of a request.
+fn request_lane(body: &Body) -> u8
+    ensures lane { result ≡ request_lane_lem body.now }
+    ensures there { result < LANES }
+{
+    match body {
+        Body::Request(request) => lane_of(hash(request.key.bytes())),
+        _ => 0,
+    }
+}
+
+// The last request of a client is sent again in a lane, where it gets this number, delivered and forgotten.
+fn again_in<R: Replica + Drop>(
+    lanes: &mut Vec<Lane<R>>,
+    lane: u8,
+    client: u32,
+    number: u64,
+) -> Result<(), ClusterError>
+    requires there { lane < length lanes.old.items }
+    requires next { IsNextAt lanes.old.items lane number }
+    ensures ok { OnOk result (IsSentAgain R.segments lanes.old.items lanes.new.items lane client number None) }
+    ensures err { IfErr result (WhereWorn (λ broken. IsSentAgain R.segments lanes.old.items lanes.new.items lane client number (Some broken))) }
+    ensures lanes { (masters : ℕ) → AreLanes masters 0 lanes.old.items → AreLanes masters 0 lanes.new.items }
+    ensures count { length lanes.new.items ≡ length lanes.old.items }
+{
+    act(lanes, lane, Event::Again(client))?;
+    act(lanes, lane, Event::Deliver(number))?;
+    act(lanes, lane, Event::Forget(number))
+}
