@@ -44,21 +44,21 @@ pub record IsDealing {X : Type 0} (all things left : List X) (hands : List (Vec 
   pub next : place ≡ length things % LANES
 
 -- one more goes to the hand whose place it has
-eighth_here : {X : Type 0} (xs : List X) (x : X) (place : ℕ) → place < 8 → length xs % 8 ≡ place → each_eighth place (xs ++ x ∷ []) ≡ each_eighth place xs ++ x ∷ []
+pub eighth_here : {X : Type 0} (xs : List X) (x : X) (place : ℕ) → place < 8 → length xs % 8 ≡ place → each_eighth place (xs ++ x ∷ []) ≡ each_eighth place xs ++ x ∷ []
 eighth_here [] x zero within is = refl
 eighth_here [] x (suc place) within is = absurd (omega (arith, is))
 eighth_here (y ∷ ys) x zero within is = ap (λ rest. y ∷ rest) (eighth_here ys x 7 (omega arith) (omega (arith, is)))
 eighth_here (y ∷ ys) x (suc place) within is = eighth_here ys x place (omega (arith, within)) (omega (arith, is))
 
 -- and to no other one
-eighth_apart : {X : Type 0} (xs : List X) (x : X) (place : ℕ) → place < 8 → length xs % 8 ≢ place → each_eighth place (xs ++ x ∷ []) ≡ each_eighth place xs
+pub eighth_apart : {X : Type 0} (xs : List X) (x : X) (place : ℕ) → place < 8 → length xs % 8 ≢ place → each_eighth place (xs ++ x ∷ []) ≡ each_eighth place xs
 eighth_apart [] x zero within apart = absurd (apart refl)
 eighth_apart [] x (suc place) within apart = refl
 eighth_apart (y ∷ ys) x zero within apart = ap (λ rest. y ∷ rest) (eighth_apart ys x 7 (omega arith) (λ is. apart (omega (arith, is))))
 eighth_apart (y ∷ ys) x (suc place) within apart = eighth_apart ys x place (omega (arith, within)) (λ is. apart (omega (arith, is)))
 
 -- what is written at a place stands there
-set_here : {X : Type 0} (xs : List X) (place : ℕ) (x : X) → place < length xs → slice_get (slice_set xs place x) place ≡ Some x
+pub set_here : {X : Type 0} (xs : List X) (place : ℕ) (x : X) → place < length xs → slice_get (slice_set xs place x) place ≡ Some x
 set_here [] place x within = absurd (omega (arith, within))
 set_here (y ∷ ys) zero x within = refl
 set_here (y ∷ ys) (suc place) x within = set_here ys place x (omega (arith, within))

@@ -20,5 +20,6 @@ pub mod Calling
 pub mod Resting
 pub mod Eighths
 pub mod NewLanes
+pub mod Gathers
 pub mod Making
 pub mod Resending

@@ -1,6 +1,6 @@
-// How a cluster is made of replicas.
-ghost use Rattle.std.specs.Prelude.{◌≡◌, ◌≤◌, ◌*◌, ℕ, [], All, length, slice_get, Some, IfOk};
-ghost use Rattle.rk_log.specs.declared.copied.TheConstants.{MOST_BACKUPS};
+// How a cluster is made of replicas, and gives them back.
+ghost use Rattle.std.specs.Prelude.{◌≡◌, ◌≤◌, ◌*◌, ℕ, [], All, length, map, slice_get, Some, IfOk};
+ghost use Rattle.rk_log.specs.declared.copied.TheConstants.{MOST_BACKUPS as most_backups};
 ghost use Rattle.rk_types.specs.declared.hashing.TheConstants.{LANES};
 ghost use Rattle.rk_world.specs.Cluster.{new_cluster};
 ghost use Rattle.rk_world.specs.Premises.{IsMaster, MOST_MASTERS};
@@ -10,8 +10,9 @@ ghost use Rattle.rk_cluster.specs.Fresh.{AreEmpty, AreMadeOf, IsHand, IsNewLane}
 ghost use Rattle.rk_cluster.specs.State.{IsOf};
 
 use super::Cluster;
-use crate::dealing::deal;
+use crate::dealing::{deal, gather};
 use rk_lane::Lane;
+use rk_log::MOST_BACKUPS;
 use rk_outside::Replica;
 use rk_types::NoMemory;
 use std::alloc::Global;
@@ -28,7 +29,7 @@ impl<R: Replica + Drop> Cluster<R> {
     ) -> Result<Cluster<R>, NoMemory>
         requires masters { IsMaster MOST_MASTERS masters }
         requires backed { 1 ≤ backups }
-        requires few_backups { backups ≤ MOST_BACKUPS }
+        requires few_backups { backups ≤ most_backups }
         requires count { length replicas.items ≡ LANES * backups }
         ensures lanes { IfOk result (λ cluster. length cluster.lanes ≡ LANES) }
         ensures each { IfOk result (λ cluster. (number : ℕ) (lane : LaneState R) → slice_get cluster.lanes number ≡ Some lane
@@ -43,6 +44,30 @@ impl<R: Replica + Drop> Cluster<R> {
         let lanes = new_lanes(alloc, masters, hands)?;
         Ok(Cluster::new(alloc, masters, lanes))
     }
+
+    /// The replicas, out of the cluster, also of one with a lane that is spent. Where each lane has as many backups they come
+    /// in the order in which they were given: those of backup 1 in lanes 0 to 7, then those of backup 2, and so on. After
+    /// `NoMemory` they are dropped. A step for each replica.
+    pub fn into_replicas(self) -> Result<Vec<R>, NoMemory>
+        ensures { IfOk result (λ replicas. (backups : ℕ) → backups ≤ most_backups → All (λ lane. length lane.backups ≡ backups) self.lanes
+            → (number : ℕ) (lane : LaneState R) → slice_get self.lanes number ≡ Some lane
+            → IsEighth replicas.items number (replicas_of lane.backups)) }
+    {
+        let alloc = self.alloc();
+        let mut hands = hands_of(alloc, self.lanes)?;
+        gather(alloc, &mut hands, MOST_BACKUPS as u8)
+    }
+}
+
+// The replicas of each lane, lane 0 first.
+fn hands_of<R: Replica + Drop>(alloc: Global, lanes: Vec<Lane<R>>) -> Result<Vec<Vec<R>>, NoMemory>
+    ensures { IfOk result (λ hands. map (λ hand. hand.items) hands.items ≡ map (λ lane. replicas_of lane.backups) lanes.items) }
+{
+    let mut hands = Vec::with_capacity(alloc, lanes.len())?;
+    for lane in lanes {
+        hands.push(lane.into_replicas())?;
+    }
+    Ok(hands)
 }
 
 // New lanes, lane 0 first, with so many masters each and with these replicas.
