@@ -21,5 +21,4 @@ pub mod Resting
 pub mod Eighths
 pub mod NewLanes
 pub mod Gathers
-pub mod Making
 pub mod Resending
