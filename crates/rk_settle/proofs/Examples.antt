@@ -15,7 +15,7 @@ use Rattle.rk_entry.specs.Texts.{key_bytes, value_bytes}
 use Rattle.rk_settle.specs.Advance.{advance}
 use Rattle.rk_settle.specs.declared.reach.Reach.TheVariants.{Granted}
 use Rattle.rk_settle.specs.Course.{course_of, error_of}
-use Rattle.rk_settle.specs.Tasks.{Begins}
+use Rattle.rk_settle.specs.declared.task.Task.TheVariants.{Begins}
 use Rattle.rk_settle.specs.declared.error.SettleError.TheVariants.{Replica}
 use Rattle.rk_settle.specs.Rest.{is_at_rest}
 use Rattle.rk_settle.specs.Serve.{serve}

@@ -1,2 +1,9 @@
+pub mod Courses
+pub mod Moving
+pub mod Ending
+pub mod Following
+pub mod Named
+pub mod Found
+pub mod Reached
 pub mod Scene
 mod Examples

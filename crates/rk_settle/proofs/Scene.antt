@@ -9,7 +9,7 @@ use Rattle.rk_world.specs.World.{tablet_in}
 use Rattle.rk_cluster.specs.Makes.{client_makes, migrate_makes, table_makes}
 use Rattle.rk_settle.specs.Course.{Course, course_of}
 use Rattle.rk_settle.specs.Told.{moved_with_all}
-use Rattle.rk_settle.specs.Tasks.{Task}
+use Rattle.rk_settle.specs.declared.task.Task.{Task}
 
 -- the course of these tasks after so many moves
 abbrev pub course_after : ℕ → Cluster → List Task → Course

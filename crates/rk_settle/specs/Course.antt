@@ -1,16 +1,18 @@
 -- The course of a settling command: its tasks are done move by move. A move makes one occurrence, or unfolds a task. The course stands
 -- still once no task is left, and where the command stops: a lane is worn, or replicas have failed in too many rounds.
 use Rattle.std.specs.Prelude.{ℕ, ◌+◌, ◌||◌, Bool, true, false, nat_le, if◌then◌else◌, fold, List, [], ◌∷◌, ◌++◌, Option, Some, None}
-use Rattle.rk_types.specs.NumberMap.{get}
-use Rattle.rk_types.specs.declared.node.Node.{Node}
-use Rattle.rk_types.specs.declared.node.Node.TheVariants as nodes
 use Rattle.rk_types.specs.declared.node.Said.{Said}
-use Rattle.rk_message.specs.declared.message.Message.{Message}
-use Rattle.rk_world.specs.Backup.{Called, Failed, Gave}
-use Rattle.rk_world.specs.Cluster.{Cluster, Happens, Occurrence, lane_at}
-use Rattle.rk_cluster.specs.Acted.{Acted, acted}
-use Rattle.rk_cluster.specs.Makes.{delivery, has_receiver}
-use Rattle.rk_settle.specs.Tasks.{Task, Begins, Delivers, Ends, Occurs}
+use Rattle.rk_world.specs.Backup.{Called, Gave}
+use Rattle.rk_world.specs.Cluster.{Cluster, Occurrence}
+use Rattle.rk_cluster.specs.Acted.{Acted, all_acted}
+use Rattle.rk_cluster.specs.Delivering.{is_lost_at_backup}
+use Rattle.rk_cluster.specs.Looks.{is_client}
+use Rattle.rk_cluster.specs.Makes.{deliver_in_makes}
+use Rattle.rk_settle.specs.Tasks.{occurrence_of}
+use Rattle.rk_settle.specs.declared.task.Act.{Act}
+use Rattle.rk_settle.specs.declared.task.Act.TheVariants as acts
+use Rattle.rk_settle.specs.declared.task.Task.{Task}
+use Rattle.rk_settle.specs.declared.task.Task.TheVariants as tasks
 use Rattle.rk_settle.specs.Unfolding.{unfolded}
 use Rattle.rk_settle.specs.declared.error.SettleError.{SettleError}
 use Rattle.rk_settle.specs.declared.error.SettleError.TheVariants as errors
@@ -38,44 +40,22 @@ course_of cluster tasks =
 abbrev pub with_tasks : Course → List Task → Course
 with_tasks course tasks = record course { tasks = tasks }
 
--- whether the call of a replica failed
-abbrev pub is_failure : Called → Bool
-is_failure (Failed stored) = true
-is_failure called = false
-
--- whether a replica failed at an occurrence
-abbrev pub has_failed : Occurrence → Bool
-has_failed (Happens lane event called) = is_failure called
-has_failed occurrence = false
-
--- something occurred, and these tasks are left; one that is refused, since its lane is worn, leaves all as it was
-abbrev pub occurring_by : Course → Occurrence → List Task → Acted → Option ℕ → Course
-occurring_by course occurrence rest came None = record {
+-- these occurred, where a replica failed or not, and these tasks are left; where a lane is worn all is left as it was
+abbrev pub occurring_by : Course → List Occurrence → Bool → List Task → Acted → Option ℕ → Course
+occurring_by course occurrences failed rest came None = record {
   cluster = came.cluster;
   tasks = rest;
-  occurred = course.occurred ++ occurrence ∷ [];
+  occurred = course.occurred ++ occurrences;
   said = course.said ++ came.said;
   faults = course.faults;
-  failing = course.failing || has_failed occurrence;
+  failing = course.failing || failed;
 }
-occurring_by course occurrence rest came (Some number) = course
+occurring_by course occurrences failed rest came (Some number) = course
 
--- something occurs, unless its lane is worn, and these tasks are left
-abbrev pub occurring : Course → Occurrence → List Task → Course
-occurring course occurrence rest =
-    occurring_by course occurrence rest (acted course.cluster occurrence) (acted course.cluster occurrence).worn
-
--- what the call of a replica comes to where a message reaches its receiver; only a backup calls one
-abbrev pub called_for : Node → Called → Called
-called_for (nodes.Backup backup) called = called
-called_for to called = Gave None
-
--- a message, if it is there and somebody takes it, is delivered; `called` is what the call of a replica comes to
-abbrev pub delivering : Course → ℕ → ℕ → Called → List Task → Option Message → Course
-delivering course lane number called rest None = with_tasks course rest
-delivering course lane number called rest (Some message) =
-    let occurrence = delivery lane number (called_for message.to called) message.to in
-    if has_receiver course.cluster message.to then occurring course occurrence rest else with_tasks course rest
+-- one thing occurs, or none, unless its lane is worn, and these tasks are left
+abbrev pub occurring : Course → List Occurrence → Bool → List Task → Course
+occurring course occurrences failed rest =
+    let came = all_acted course.cluster occurrences in occurring_by course occurrences failed rest came came.worn
 
 -- whether replicas have failed in as many rounds as they may
 abbrev pub is_at_limit : Course → Bool
@@ -86,14 +66,23 @@ abbrev pub round_over : Course → List Task → Course
 round_over course rest =
     record course { tasks = rest; faults = course.faults + (if course.failing then 1 else 0); failing = false }
 
+-- whether somebody acts: a client without a session takes no turn
+abbrev pub has_actor : Cluster → Act → Bool
+has_actor cluster (acts.Asks client) = is_client cluster client
+has_actor cluster act = true
+
+-- what occurs, if somebody acts
+abbrev pub act_makes : Cluster → ℕ → Act → List Occurrence
+act_makes cluster lane act = if has_actor cluster act then occurrence_of lane act ∷ [] else []
+
 -- the first of these tasks makes its move
 abbrev pub moved_by : Course → Called → List Task → Course
 moved_by course called [] = course
-moved_by course called (Occurs occurrence ∷ rest) = occurring course occurrence rest
-moved_by course called (Delivers lane number ∷ rest) =
-    delivering course lane number called rest (get (lane_at course.cluster lane).wire.messages number)
-moved_by course called (Begins ∷ rest) = if is_at_limit course then course else with_tasks course rest
-moved_by course called (Ends ∷ rest) = round_over course rest
+moved_by course called (tasks.Occurs lane act ∷ rest) = occurring course (act_makes course.cluster lane act) false rest
+moved_by course called (tasks.Delivers lane number ∷ rest) =
+    occurring course (deliver_in_makes course.cluster lane number called) (is_lost_at_backup course.cluster lane number called) rest
+moved_by course called (tasks.Begins ∷ rest) = if is_at_limit course then course else with_tasks course rest
+moved_by course called (tasks.Ends ∷ rest) = round_over course rest
 moved_by course called (task ∷ rest) = with_tasks course (unfolded course.cluster task ++ rest)
 
 -- a move; `called` is what the call of a replica comes to, if the move makes one
@@ -109,20 +98,17 @@ abbrev pub worn_error : Option ℕ → Option SettleError
 worn_error None = None
 worn_error (Some number) = Some (errors.Worn number)
 
--- why the delivery of a message, if it is there and somebody takes it, is refused
-abbrev pub delivery_error : Cluster → ℕ → ℕ → Option Message → Option SettleError
-delivery_error cluster lane number None = None
-delivery_error cluster lane number (Some message) =
-    if has_receiver cluster message.to then worn_error (acted cluster (delivery lane number (Gave None) message.to)).worn
-    else None
+-- why what is to occur, if it does, is refused
+abbrev pub occurrence_error : Cluster → List Occurrence → Option SettleError
+occurrence_error cluster occurrences = worn_error (all_acted cluster occurrences).worn
 
 -- why a command stops at the first of these tasks
 abbrev pub error_by : Course → List Task → Option SettleError
-error_by course (Occurs occurrence ∷ rest) = worn_error (acted course.cluster occurrence).worn
-error_by course (Delivers lane number ∷ rest) =
-    delivery_error course.cluster lane number (get (lane_at course.cluster lane).wire.messages number)
-error_by course (Begins ∷ rest) = if is_at_limit course then Some (errors.Replica course.faults) else None
-error_by course tasks = None
+error_by course (tasks.Occurs lane act ∷ rest) = occurrence_error course.cluster (act_makes course.cluster lane act)
+error_by course (tasks.Delivers lane number ∷ rest) =
+    occurrence_error course.cluster (deliver_in_makes course.cluster lane number (Gave None))
+error_by course (tasks.Begins ∷ rest) = if is_at_limit course then Some (errors.Replica course.faults) else None
+error_by course left = None
 
 -- why a command stops where it is, if it does
 abbrev pub error_of : Course → Option SettleError

@@ -1,5 +1,7 @@
 pub mod Topics
+pub mod Failures
 pub mod Tasks
+pub mod Lawful
 pub mod Rest
 pub mod Exchange
 pub mod Settle
@@ -10,3 +12,6 @@ pub mod Advance
 pub mod Unfolding
 pub mod Course
 pub mod Told
+pub mod Codes
+pub mod Outcomes
+pub mod States

@@ -11,8 +11,10 @@ use Rattle.rk_world.specs.Tablet.{Tablet}
 use Rattle.rk_world.specs.RoleTests.{is_receiving}
 use Rattle.rk_world.specs.World.{World, tablet_in}
 use Rattle.rk_settle.specs.Settle.{lane_numbers}
-use Rattle.rk_settle.specs.Tasks.{Task, Hastens, turn_exchange}
-use Rattle.rk_settle.specs.Topics.{OfWants}
+use Rattle.rk_settle.specs.Tasks.{turn_exchange}
+use Rattle.rk_settle.specs.declared.task.Task.{Task}
+use Rattle.rk_settle.specs.declared.task.Task.TheVariants as tasks
+use Rattle.rk_settle.specs.declared.topic.Topic.TheVariants as topics
 
 -- whether a target that pulls wants some records first
 abbrev pub wants_first : Tablet → Bool
@@ -21,7 +23,7 @@ wants_first tablet = is_receiving tablet.handover.role && is_waiting tablet.pull
 -- the target of a moving tablet asks for what it wants first
 abbrev pub hasten_phase : World → ℕ → ℕ → Phase → List Task
 hasten_phase w lane tablet (Moving source sfrom target dfrom) =
-    if wants_first (tablet_in w target tablet) then turn_exchange lane (OfWants tablet) (nodes.Master target) ∷ [] else []
+    if wants_first (tablet_in w target tablet) then turn_exchange lane (topics.Wants tablet) (nodes.Master target) ∷ [] else []
 hasten_phase w lane tablet phase = []
 
 -- the target of a row, if it moves, asks for what it wants first
@@ -35,4 +37,4 @@ hasten_tasks w lane tablet = hasten_row w lane tablet (row_of w.coordinator.rows
 
 -- priority
 abbrev pub priority : Cluster → ℕ → List Task
-priority cluster tablet = map (λ lane. Hastens lane tablet) (lane_numbers cluster)
+priority cluster tablet = map (λ lane. tasks.Hastens lane tablet) (lane_numbers cluster)

@@ -5,13 +5,14 @@ use Rattle.rk_world.specs.Cluster.{Cluster, lane_at}
 use Rattle.rk_world.specs.Step.{told_by_replica}
 use Rattle.rk_world.specs.declared.event.Event.TheVariants as events
 use Rattle.rk_settle.specs.Course.{Course, moved}
-use Rattle.rk_settle.specs.Tasks.{Task, Delivers}
+use Rattle.rk_settle.specs.declared.task.Task.{Task}
+use Rattle.rk_settle.specs.declared.task.Task.TheVariants as tasks
 
 -- what the call of a replica comes to at the first of these tasks, where `fault` tells whether that fails
 abbrev pub told_by_tasks : Cluster → Option ℕ → List Task → Called
-told_by_tasks cluster fault (Delivers lane number ∷ rest) =
+told_by_tasks cluster fault (tasks.Delivers lane number ∷ rest) =
     told_by_replica (lane_at cluster lane) (events.Deliver number) fault
-told_by_tasks cluster fault tasks = Gave None
+told_by_tasks cluster fault left = Gave None
 
 -- a move, where `fault` tells whether the call of a replica fails, if the move makes one
 abbrev pub moved_with : Course → Option ℕ → Course

@@ -1,12 +1,28 @@
 //! The commands that settle a cluster, or bring one call or one migration on: which occurrences each of them makes, one after the other.
 //!
-//! It stands on the definitions of `rk_cluster`. A command is a list of tasks (`Tasks`), and a course (`Course`) does them move by move:
-//! each move makes one occurrence, or unfolds a task into smaller ones. Definitions stand in `specs`; code follows, and today the crate
-//! has the reaches of a migration and the errors alone.
+//! It stands on `rk_cluster`. A command is a list of tasks, and a course does them move by move: each move makes one occurrence, or none,
+//! or unfolds a task into smaller ones. What it promises: where [`settle`], [`serve`], [`priority`] and [`advance`] end, what they made of
+//! the cluster and what clients said is just what the course of the definitions comes to, after some moves; where they stop, it is where
+//! that course stops. That a command ends is not proved: after 2^64 - 1 moves it stops.
 #![tactic(auto)]
 
+pub use commands::{advance, priority, serve, settle};
 pub use error::SettleError;
 pub use reach::Reach;
 
+mod acts;
+mod advancing;
+mod commands;
+mod course;
 mod error;
+mod exchange;
+mod hastening;
+mod looks;
 mod reach;
+mod reaching;
+mod serving;
+mod settling;
+mod task;
+mod tasks;
+mod topic;
+mod unfolding;

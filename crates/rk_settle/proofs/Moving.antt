@@ -1,0 +1,143 @@
+-- The moves of a command in code, one after the other.
+use Rattle.std.proofs.Common.{◌≡◌, ℕ, ◌+◌, ◌<◌, ◌≤◌, Bool, true, false, nat_le, List, [], ◌∷◌, ◌++◌, Option, None, Some, if◌then◌else◌, refl, sym, ap, subst, ◌∙◌}
+use Rattle.std.proofs.lemmas.Bool.{le-leb, lt-leb}
+use Rattle.std.proofs.lemmas.List.Sums.{fold-append}
+use Rattle.rk_outside.specs.Segments.{Segments}
+use Rattle.rk_world.specs.Backup.{Gave}
+use Rattle.rk_cluster.specs.Masters.{masters_of}
+use Rattle.rk_cluster.specs.State.{ClusterState}
+use Rattle.rk_settle.specs.Course.{Course, MOST_FAULTS, error_by, moved, moved_all, moved_by, round_over, with_tasks}
+use Rattle.rk_settle.specs.Lawful.{AreTasks}
+use Rattle.rk_settle.specs.States.{ClusterTells, IsCourse, Moves, MovesAll, Stops, StopsIn}
+use Rattle.rk_settle.specs.Unfolding.{unfolded}
+use Rattle.rk_settle.specs.declared.course.Progress.{Progress}
+use Rattle.rk_settle.specs.declared.error.SettleError.{SettleError}
+use Rattle.rk_settle.specs.declared.error.SettleError.TheVariants as errors
+use Rattle.rk_settle.specs.declared.task.Act.{Act}
+use Rattle.rk_settle.specs.declared.task.Task.{Task}
+use Rattle.rk_settle.specs.declared.task.Task.TheVariants as made
+
+-- a smaller number is below a limit
+below_limit : (limit count : ℕ) → count < limit → nat_le limit count ≡ false
+below_limit limit count below = lt-leb limit count below
+
+-- one that is not is at it
+at_limit : (limit count : ℕ) → limit ≤ count → nat_le limit count ≡ true
+at_limit limit count above = le-leb limit count above
+
+-- a task makes no occurrence, and neither begins nor ends a round
+pub record Unfolds (task : Task) : Type 0 where
+  pub occurs : (lane : ℕ) (act : Act) → task ≡ made.Occurs lane act → ⊥
+  pub delivers : (lane number : ℕ) → task ≡ made.Delivers lane number → ⊥
+  pub begins : task ≡ made.Begins → ⊥
+  pub ends : task ≡ made.Ends → ⊥
+
+-- such a task unfolds
+moved_unfolding : (course : Course) (task : Task) (rest : List Task) → Unfolds task
+    → moved_by course (Gave None) (task ∷ rest) ≡ with_tasks course (unfolded course.cluster task ++ rest)
+moved_unfolding course (made.Occurs lane act) rest is = absurd (is.occurs lane act refl)
+moved_unfolding course (made.Delivers lane number) rest is = absurd (is.delivers lane number refl)
+moved_unfolding course made.Begins rest is = absurd (is.begins refl)
+moved_unfolding course made.Ends rest is = absurd (is.ends refl)
+moved_unfolding course (made.Exchanges lane topic act) rest is = refl
+moved_unfolding course (made.Sorts lane topic from last) rest is = refl
+moved_unfolding course (made.Hands lane topic from) rest is = refl
+moved_unfolding course (made.Notices lane) rest is = refl
+moved_unfolding course made.Settles rest is = refl
+moved_unfolding course (made.Turns lane) rest is = refl
+moved_unfolding course (made.Empties lane) rest is = refl
+moved_unfolding course (made.Tries lane client times) rest is = refl
+moved_unfolding course (made.Requests lane client times) rest is = refl
+moved_unfolding course (made.Hears lane client times asked) rest is = refl
+moved_unfolding course (made.Commits lane client asked) rest is = refl
+moved_unfolding course (made.Hastens lane tablet) rest is = refl
+moved_unfolding course (made.Advances lane tablet reach) rest is = refl
+moved_unfolding course (made.Reaches lane tablet reach) rest is = refl
+moved_unfolding course (made.Freezes lane tablet master) rest is = refl
+
+module _ {R : Type 0} (segments : R → Option Segments) (state : ClusterState R) where
+  -- a round begins
+  pub begins_moves : (task : Task) (rest : List Task) (was is : Progress) → task ≡ made.Begins → was.faults < MOST_FAULTS → is ≡ was
+      → Moves segments state state (task ∷ rest) rest was is
+  begins_moves task rest was is begins below same = record {
+    called = Gave None;
+    moves = λ course stands.
+        subst (λ (left : List Task). IsCourse segments state rest is (moved_by course (Gave None) left)) (sym (stands.tasks ∙ ap (λ (first : Task). first ∷ rest) begins))
+        (subst (λ (b : Bool). IsCourse segments state rest is (if b then course else with_tasks course rest))
+        (sym (ap (nat_le MOST_FAULTS) stands.faults ∙ below_limit MOST_FAULTS was.faults below))
+        (subst (λ (progress : Progress). IsCourse segments state rest progress (with_tasks course rest)) (sym same)
+        (record { cluster = stands.cluster; tasks = refl; said = stands.said; faults = stands.faults; failing = stands.failing })));
+  }
+
+  -- a round is over
+  pub ends_moves : (task : Task) (rest : List Task) (was is : Progress) → task ≡ made.Ends
+      → is ≡ (record was { faults = was.faults + (if was.failing then 1 else 0); failing = false }) → Moves segments state state (task ∷ rest) rest was is
+  ends_moves task rest was is ends so = record {
+    called = Gave None;
+    moves = λ course stands.
+        subst (λ (left : List Task). IsCourse segments state rest is (moved_by course (Gave None) left)) (sym (stands.tasks ∙ ap (λ (first : Task). first ∷ rest) ends))
+        (subst (λ (progress : Progress). IsCourse segments state rest progress (round_over course rest)) (sym so)
+        (record {
+          cluster = stands.cluster;
+          tasks = refl;
+          said = stands.said;
+          faults = ap (λ (count : ℕ). count + (if course.failing then 1 else 0)) stands.faults ∙ ap (λ (b : Bool). was.faults + (if b then 1 else 0)) stands.failing;
+          failing = refl;
+        }));
+  }
+
+  -- a task unfolds
+  pub unfolds_moves : (task : Task) (rest after : List Task) (progress : Progress) → Unfolds task
+      → ClusterTells segments state (λ cluster. unfolded cluster task ++ rest) after → Moves segments state state (task ∷ rest) after progress progress
+  unfolds_moves task rest after progress unfolds tells = record {
+    called = Gave None;
+    moves = λ course stands.
+        subst (λ (left : List Task). IsCourse segments state after progress (moved_by course (Gave None) left)) (sym stands.tasks)
+        (subst (λ (next : Course). IsCourse segments state after progress next) (sym (moved_unfolding course task rest unfolds))
+        (record { cluster = stands.cluster; tasks = tells course.cluster stands.cluster; said = stands.said; faults = stands.faults; failing = stands.failing }));
+  }
+
+  -- a command stops where a round is to begin and replicas have failed too often
+  pub begins_stops : (task : Task) (rest : List Task) (progress : Progress) (e : SettleError) → task ≡ made.Begins → e ≡ errors.Replica progress.faults → MOST_FAULTS ≤ progress.faults
+      → Stops segments state state (task ∷ rest) progress e
+  begins_stops task rest progress e begins is above =
+      subst (Stops segments state state (task ∷ rest) progress) (sym is)
+      (λ course stands. record {
+        cluster = stands.cluster;
+        stops =
+            ap (error_by course) (stands.tasks ∙ ap (λ (first : Task). first ∷ rest) begins)
+            ∙ ap (λ (b : Bool). if b then Some (errors.Replica course.faults) else None) (ap (nat_le MOST_FAULTS) stands.faults ∙ at_limit MOST_FAULTS progress.faults above)
+            ∙ ap (λ (count : ℕ). Some (errors.Replica count)) stands.faults;
+      })
+
+module _ {R : Type 0} (segments : R → Option Segments) where
+  -- no move yet
+  pub none_moved : (state : ClusterState R) (left : List Task) (progress : Progress) → MovesAll segments state state left left progress progress
+  none_moved state left progress = record { calls = []; moves = λ course stands. stands }
+
+  -- one more move
+  pub one_more : (start now next : ClusterState R) (first left after : List Task) (was is later : Progress) → MovesAll segments start now first left was is
+      → Moves segments now next left after is later → MovesAll segments start next first after was later
+  one_more start now next first left after was is later all move = record {
+    calls = all.calls ++ move.called ∷ [];
+    moves = λ course stands.
+        subst (λ (it : Course). IsCourse segments next after later it) (sym (fold-append moved course all.calls (move.called ∷ [])))
+        (move.moves (moved_all course all.calls) (all.moves course stands));
+  }
+
+  -- what stops now stops after the moves so far
+  pub stops_in : (start now next : ClusterState R) (first left : List Task) (was is : Progress) (e : SettleError) → MovesAll segments start now first left was is
+      → Stops segments now next left is e → StopsIn segments start next first was e
+  stops_in start now next first left was is errors.NoMemory all stops = tt
+  stops_in start now next first left was is errors.TooLong all stops = tt
+  stops_in start now next first left was is (errors.Worn number) all stops =
+      record { calls = all.calls; stopped = λ course stands. stops (moved_all course all.calls) (all.moves course stands) }
+  stops_in start now next first left was is (errors.Replica rounds) all stops =
+      record { calls = all.calls; stopped = λ course stands. stops (moved_all course all.calls) (all.moves course stands) }
+
+-- how far a run has come: what has moved, the tasks that are left are lawful, and a fault counts for a move at most
+pub record IsRunning {R : Type 0} (segments : R → Option Segments) (start now : ClusterState R) (first left : List Task) (was is : Progress) (count : ℕ) : Type 0 where
+  pub moves : MovesAll segments start now first left was is
+  pub lawful : AreTasks (masters_of start) left
+  pub faults : is.faults ≤ count
+  pub masters : masters_of now ≡ masters_of start

@@ -1,0 +1,51 @@
+-- That tasks name lanes and masters that are there.
+use Rattle.std.proofs.Common.{◌<◌, ◌≤◌, ◌+◌, ◌++◌, ◌∷◌, ℕ, zero, suc, List, [], map, All, arith}
+use Rattle.std.proofs.lemmas.List.Elements.{All-append, All-cons, All-map, All-nil, All-weaker}
+use Rattle.std.specs.List.{flat_map, range_with_len}
+use Rattle.rk_types.specs.declared.hashing.TheConstants.{LANES}
+use Rattle.rk_types.specs.declared.node.Node.TheVariants as nodes
+use Rattle.rk_world.specs.Premises.{IsMaster}
+use Rattle.rk_settle.specs.Lawful.{AreTasks, IsTask}
+use Rattle.rk_settle.specs.Settle.{lane_tasks, turns_of}
+use Rattle.rk_settle.specs.Tasks.{asks, forgets, round_of, takes_turn}
+use Rattle.rk_settle.specs.declared.task.Task.{Task}
+use Rattle.rk_settle.specs.declared.task.Task.TheVariants as tasks
+
+module _ (masters : ℕ) where
+  -- messages are forgotten
+  pub forgets_are : (lane : ℕ) (numbers : List ℕ) → lane < LANES → AreTasks masters (map (forgets lane) numbers)
+  forgets_are lane numbers there = All-map (IsTask masters) (forgets lane) numbers (λ (k : ℕ) (d : ℕ) within. (there, (tt, tt)))
+
+  -- clients take their turns
+  pub asks_are : (lane : ℕ) (clients : List ℕ) → lane < LANES → AreTasks masters (map (asks lane) clients)
+  asks_are lane clients there = All-map (IsTask masters) (asks lane) clients (λ (k : ℕ) (d : ℕ) within. (there, tt))
+
+  masters_are : (lane : ℕ) (live : List ℕ) → lane < LANES → All (IsMaster masters) live → AreTasks masters (map (λ master. takes_turn lane (nodes.Master master)) live)
+  masters_are lane live there are =
+      All-map (IsTask masters) (λ master. takes_turn lane (nodes.Master master)) live
+      (All-weaker (IsMaster masters) (λ master. IsTask masters (takes_turn lane (nodes.Master master))) (λ (master : ℕ) is. (there, (tt, is))) live are)
+
+  -- clients, the coordinator and masters do
+  pub turns_are : (lane : ℕ) (clients live : List ℕ) → lane < LANES → All (IsMaster masters) live → AreTasks masters (turns_of lane clients live)
+  turns_are lane clients live there are =
+      All-append (IsTask masters) (map (asks lane) clients) (takes_turn lane nodes.Coordinator ∷ map (λ master. takes_turn lane (nodes.Master master)) live)
+      (asks_are lane clients there)
+      (All-cons (IsTask masters) (takes_turn lane nodes.Coordinator) (map (λ master. takes_turn lane (nodes.Master master)) live)
+      (there, (tt, tt)) (masters_are lane live there are))
+
+  lanes_are : (first count : ℕ) → first + count ≤ LANES → AreTasks masters (flat_map lane_tasks (range_with_len first count))
+  lanes_are first zero within = All-nil (IsTask masters)
+  lanes_are first (suc count) within =
+      let there : first < LANES = omega (arith, within) in
+      let later : List Task = flat_map lane_tasks (range_with_len (first + 1) count) in
+      All-cons (IsTask masters) (tasks.Turns first) (tasks.Empties first ∷ later) there
+      (All-cons (IsTask masters) (tasks.Empties first) later there (lanes_are (first + 1) count (omega (arith, within))))
+
+  -- a round, and then the next
+  pub round_are : (old : List Task) → AreTasks masters old → AreTasks masters (round_of (flat_map lane_tasks (range_with_len 0 LANES)) ++ tasks.Settles ∷ old)
+  round_are old are =
+      let lanes : List Task = flat_map lane_tasks (range_with_len 0 LANES) in
+      All-cons (IsTask masters) tasks.Begins ((lanes ++ tasks.Ends ∷ []) ++ tasks.Settles ∷ old) tt
+      (All-append (IsTask masters) (lanes ++ tasks.Ends ∷ []) (tasks.Settles ∷ old)
+      (All-append (IsTask masters) lanes (tasks.Ends ∷ []) (lanes_are 0 LANES (omega arith)) (All-cons (IsTask masters) tasks.Ends [] tt (All-nil (IsTask masters))))
+      (All-cons (IsTask masters) tasks.Settles old tt are))

@@ -1,0 +1,22 @@
+use Rattle.std.proofs.Common.{List, [], ◌++◌, append-nil, ap, sym, ◌∙◌}
+use Rattle.rk_settle.specs.Advance.{advance}
+use Rattle.rk_settle.specs.declared.task.Task.{Task}
+use Rattle.rk_settle.specs.declared.task.Task.TheVariants.{Advances}
+use Rattle.rk_settle.proofs.Ending.{each_tells}
+use Rattle.rk_settle.proofs.commands.advance.Goals as goal
+
+pub returns-clause-ok : goal.returns-clause-ok
+returns-clause-ok g c =
+    c.follow.ensures.ok (λ cluster. advance cluster c.args.tablet c.args.reach)
+    (λ cluster stands eight.
+    sym (append-nil (advance cluster c.args.tablet c.args.reach))
+    ∙ each_tells g.R.Replica.segments c.args.cluster.now (λ lane. Advances lane c.args.tablet c.args.reach) [] c.advances.result c.push_all.new.self c.advances.ensures
+    (c.in_ok-push_all.ensures ∙ ap (λ (more : List Task). c.advances.result ++ more) c.new-tasks.ensures) cluster stands eight)
+
+pub returns-clause-err : goal.returns-clause-err
+returns-clause-err g c =
+    c.follow.ensures.err (λ cluster. advance cluster c.args.tablet c.args.reach)
+    (λ cluster stands eight.
+    sym (append-nil (advance cluster c.args.tablet c.args.reach))
+    ∙ each_tells g.R.Replica.segments c.args.cluster.now (λ lane. Advances lane c.args.tablet c.args.reach) [] c.advances.result c.push_all.new.self c.advances.ensures
+    (c.in_ok-push_all.ensures ∙ ap (λ (more : List Task). c.advances.result ++ more) c.new-tasks.ensures) cluster stands eight)

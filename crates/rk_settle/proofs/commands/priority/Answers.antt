@@ -1,0 +1,22 @@
+use Rattle.std.proofs.Common.{List, [], ◌++◌, append-nil, ap, sym, ◌∙◌}
+use Rattle.rk_settle.specs.Priority.{priority}
+use Rattle.rk_settle.specs.declared.task.Task.{Task}
+use Rattle.rk_settle.specs.declared.task.Task.TheVariants.{Hastens}
+use Rattle.rk_settle.proofs.Ending.{each_tells}
+use Rattle.rk_settle.proofs.commands.priority.Goals as goal
+
+pub returns-clause-ok : goal.returns-clause-ok
+returns-clause-ok g c =
+    c.follow.ensures.ok (λ cluster. priority cluster c.args.tablet)
+    (λ cluster stands eight.
+    sym (append-nil (priority cluster c.args.tablet))
+    ∙ each_tells g.R.Replica.segments c.args.cluster.now (λ lane. Hastens lane c.args.tablet) [] c.hastenings.result c.push_all.new.self c.hastenings.ensures
+    (c.in_ok-push_all.ensures ∙ ap (λ (more : List Task). c.hastenings.result ++ more) c.new-tasks.ensures) cluster stands eight)
+
+pub returns-clause-err : goal.returns-clause-err
+returns-clause-err g c =
+    c.follow.ensures.err (λ cluster. priority cluster c.args.tablet)
+    (λ cluster stands eight.
+    sym (append-nil (priority cluster c.args.tablet))
+    ∙ each_tells g.R.Replica.segments c.args.cluster.now (λ lane. Hastens lane c.args.tablet) [] c.hastenings.result c.push_all.new.self c.hastenings.ensures
+    (c.in_ok-push_all.ensures ∙ ap (λ (more : List Task). c.hastenings.result ++ more) c.new-tasks.ensures) cluster stands eight)

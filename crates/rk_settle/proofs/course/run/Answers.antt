@@ -1,0 +1,65 @@
+use Rattle.std.proofs.Common.{ℕ, List, sym, subst, ◌∙◌, refl, arith}
+use Rattle.std.proofs.lemmas.List.Elements.{All-head, All-tail}
+use Rattle.std.proofs.lemmas.Result.{err_from_is_err_and}
+use Rattle.rk_cluster.specs.Masters.{masters_of}
+use Rattle.rk_settle.specs.Lawful.{AreTasks, IsTask}
+use Rattle.rk_settle.specs.States.{Moves, MovesAll, Stops}
+use Rattle.rk_settle.specs.declared.task.Task.{Task}
+use Rattle.rk_settle.proofs.Moving.{none_moved, one_more, stops_in}
+use Rattle.rk_settle.proofs.course.run.Goals as goal
+
+pub loop-init : goal.loop-init
+loop-init g c = record {
+  moves = none_moved g.R.Replica.segments c.args.cluster.now c.args.tasks.now c.args.progress.now;
+  lawful = c.requires.tasks;
+  faults = omega (arith, c.requires.faults);
+  masters = refl;
+}
+
+pub returns-in_default-clause-ok : goal.returns-in_default-clause-ok
+returns-in_default-clause-ok g c =
+    subst (λ (left : List Task). MovesAll g.R.Replica.segments c.args.cluster.now c.loop.cluster c.args.tasks.now left c.args.progress.now c.loop.progress)
+    (c.pop.ensures.none c.in_default.is ∙ sym (c.pop.ensures.left c.in_default.is)) c.loop.invariant.moves
+
+pub returns-in_default-clause-masters : goal.returns-in_default-clause-masters
+returns-in_default-clause-masters g c = c.loop.invariant.masters
+
+pub make_move-requires-clause-task : goal.make_move-requires-clause-task
+make_move-requires-clause-task g c =
+    subst (λ (masters : ℕ). IsTask masters c.in-Some.task) (sym c.loop.invariant.masters)
+    (All-head (IsTask (masters_of c.args.cluster.now)) c.in-Some.task c.pop.new.self
+    (subst (AreTasks (masters_of c.args.cluster.now)) c.in-Some.ensures.some c.loop.invariant.lawful))
+
+pub make_move-requires-clause-left : goal.make_move-requires-clause-left
+make_move-requires-clause-left g c =
+    subst (λ (masters : ℕ). AreTasks masters c.pop.new.self) (sym c.loop.invariant.masters)
+    (All-tail (IsTask (masters_of c.args.cluster.now)) c.in-Some.task c.pop.new.self
+    (subst (AreTasks (masters_of c.args.cluster.now)) c.in-Some.ensures.some c.loop.invariant.lawful))
+
+pub make_move-requires-clause-faults : goal.make_move-requires-clause-faults
+make_move-requires-clause-faults g c = omega (arith, c.loop.invariant.faults, c.loop-test.true)
+
+pub returns-in_err-make_move-clause-err : goal.returns-in_err-make_move-clause-err
+returns-in_err-make_move-clause-err g c =
+    let lost = err_from_is_err_and c.from_residual.result c.from_residual.ensures.1 in
+    rw (lost.1, lost.2)
+    (stops_in g.R.Replica.segments c.args.cluster.now c.loop.cluster c.make_move.new.cluster c.args.tasks.now c.loop.tasks c.args.progress.now c.loop.progress c.in_err-make_move.field-0.0
+    c.loop.invariant.moves
+    (subst (λ (left : List Task). Stops g.R.Replica.segments c.loop.cluster c.make_move.new.cluster left c.loop.progress c.in_err-make_move.field-0.0) (sym c.in-Some.ensures.some) c.in_err-make_move.ensures.err))
+
+pub returns-in_err-make_move-clause-masters : goal.returns-in_err-make_move-clause-masters
+returns-in_err-make_move-clause-masters g c = c.make_move.ensures.masters ∙ c.loop.invariant.masters
+
+pub loop-preserved : goal.loop-preserved
+loop-preserved g c = record {
+  moves = one_more g.R.Replica.segments c.args.cluster.now c.loop.cluster c.make_move.new.cluster c.args.tasks.now c.loop.tasks c.make_move.new.tasks c.args.progress.now c.loop.progress
+      c.make_move.new.progress c.loop.invariant.moves
+      (subst (λ (left : List Task). Moves g.R.Replica.segments c.loop.cluster c.make_move.new.cluster left c.make_move.new.tasks c.loop.progress c.make_move.new.progress)
+      (sym c.in-Some.ensures.some) c.in_ok-make_move.ensures.ok);
+  lawful = subst (λ (masters : ℕ). AreTasks masters c.make_move.new.tasks) (c.make_move.ensures.masters ∙ c.loop.invariant.masters) c.in_ok-make_move.ensures.lawful;
+  faults = omega (arith, c.make_move.ensures.faults, c.loop.invariant.faults);
+  masters = c.make_move.ensures.masters ∙ c.loop.invariant.masters;
+}
+
+pub returns-clause-masters : goal.returns-clause-masters
+returns-clause-masters g c = c.loop.invariant.masters

@@ -1,0 +1,5 @@
+use Rattle.rk_settle.proofs.Moving.{IsRunning}
+use Rattle.rk_settle.proofs.course.run.Given as goal
+
+abbrev pub invariant-loop : goal.invariant-loop
+invariant-loop g l = IsRunning g.R.Replica.segments l.fn.cluster l.cluster l.fn.tasks l.tasks l.fn.progress l.progress l.counter

@@ -1,0 +1,14 @@
+use Rattle.std.proofs.Common.{◌++◌, List, sym, ap, subst, ◌∙◌}
+use Rattle.std.proofs.lemmas.List.Elements.{All-append}
+use Rattle.std.proofs.lemmas.Result.{on_ok_weaker}
+use Rattle.rk_settle.specs.Lawful.{AreTasks, IsTask}
+use Rattle.rk_settle.specs.declared.task.Task.{Task}
+use Rattle.rk_settle.proofs.settling.turns.Goals as goal
+
+pub returns-clause-lawful : goal.returns-clause-lawful
+returns-clause-lawful c =
+    on_ok_weaker c.push_all.result
+    (λ pushed count there are before.
+    subst (AreTasks count) (sym (pushed ∙ ap (λ (turns : List Task). turns ++ c.args.tasks.now) c.deref.ensures.value))
+    (All-append (IsTask count) c.in_ok-turns.turns.items c.args.tasks.now (c.in_ok-turns.ensures.lawful count there are) before))
+    c.push_all.ensures

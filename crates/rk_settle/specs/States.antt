@@ -1,0 +1,63 @@
+-- What the course of a command in code stands for, and how it goes on.
+use Rattle.std.specs.Prelude.{◌≡◌, ℕ, List, length, Option, ⊤}
+use Rattle.rk_types.specs.declared.hashing.TheConstants.{LANES}
+use Rattle.rk_outside.specs.Segments.{Segments}
+use Rattle.rk_world.specs.Backup.{Called}
+use Rattle.rk_world.specs.Cluster.{Cluster, lane_at}
+use Rattle.rk_lane.specs.LaneState.{LaneState}
+use Rattle.rk_cluster.specs.State.{ClusterState, IsOf, IsWorld}
+use Rattle.rk_settle.specs.Course.{Course, moved, moved_all}
+use Rattle.rk_settle.specs.Outcomes.{IsStopped}
+use Rattle.rk_settle.specs.declared.course.Progress.{Progress}
+use Rattle.rk_settle.specs.declared.error.SettleError.{SettleError}
+use Rattle.rk_settle.specs.declared.error.SettleError.TheVariants as errors
+use Rattle.rk_settle.specs.declared.task.Task.{Task}
+
+-- a command in code, with these tasks left, stands for a course of the definitions: all but what occurred, which nothing looks at, is the
+-- same
+pub record IsCourse {R : Type 0} (segments : R → Option Segments) (state : ClusterState R) (left : List Task) (progress : Progress) (course : Course) : Type 0 where
+  pub cluster : IsOf segments state course.cluster
+  pub tasks : course.tasks ≡ left
+  pub said : course.said ≡ progress.said.items
+  pub faults : course.faults ≡ progress.faults
+  pub failing : course.failing ≡ progress.failing
+
+-- a move was made, by what the call of a replica came to, if one was called
+pub record Moves {R : Type 0} (segments : R → Option Segments) (old new : ClusterState R) (before after : List Task) (was is : Progress) : Type 0 where
+  pub called : Called
+  pub moves : (course : Course) → IsCourse segments old before was course → IsCourse segments new after is (moved course called)
+
+-- some moves were made
+pub record MovesAll {R : Type 0} (segments : R → Option Segments) (old new : ClusterState R) (before after : List Task) (was is : Progress) : Type 0 where
+  pub calls : List Called
+  pub moves : (course : Course) → IsCourse segments old before was course → IsCourse segments new after is (moved_all course calls)
+
+-- a command stops where it is, for this reason; nothing is said where memory was wanting
+abbrev pub Stops : {R : Type 0} → (R → Option Segments) → ClusterState R → ClusterState R → List Task → Progress → SettleError → Type 0
+Stops segments old new left progress errors.NoMemory = ⊤
+Stops segments old new left progress error =
+    (course : Course) → IsCourse segments old left progress course → IsStopped segments new error course
+
+-- a command stopped after some moves
+pub record StopsAfter {R : Type 0} (segments : R → Option Segments) (old new : ClusterState R) (left : List Task) (progress : Progress) (error : SettleError) : Type 0 where
+  pub calls : List Called
+  pub stopped : (course : Course) → IsCourse segments old left progress course → IsStopped segments new error (moved_all course calls)
+
+-- so where it is worn or replicas failed; nothing is said where memory was wanting, or where it made more moves than are counted
+abbrev pub StopsIn : {R : Type 0} → (R → Option Segments) → ClusterState R → ClusterState R → List Task → Progress → SettleError → Type 0
+StopsIn segments old new left progress errors.NoMemory = ⊤
+StopsIn segments old new left progress errors.TooLong = ⊤
+StopsIn segments old new left progress error = StopsAfter segments old new left progress error
+
+-- in each cluster that one in code stands for, this is seen
+abbrev pub ClusterTells : {R T : Type 0} → (R → Option Segments) → ClusterState R → (Cluster → T) → T → Type 0
+ClusterTells segments state look seen = (cluster : Cluster) → IsOf segments state cluster → look cluster ≡ seen
+
+-- so it is seen where a cluster has eight lanes
+abbrev pub EightTell : {R T : Type 0} → (R → Option Segments) → ClusterState R → (Cluster → T) → T → Type 0
+EightTell segments state look seen =
+    (cluster : Cluster) → IsOf segments state cluster → length cluster.lanes ≡ LANES → look cluster ≡ seen
+
+-- a lane of a cluster in code stands for that lane of each cluster that this one stands for
+abbrev pub IsLaneOf : {R : Type 0} → (R → Option Segments) → ClusterState R → ℕ → LaneState R → Type 0
+IsLaneOf segments state number lane = (cluster : Cluster) → IsOf segments state cluster → IsWorld segments lane (lane_at cluster number)

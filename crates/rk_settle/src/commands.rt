@@ -1,0 +1,214 @@
+// The settling commands.
+ghost use Rattle.std.specs.Prelude.{◌≡◌, ◌++◌, List, map, IfErr, IfOk, OnOk};
+ghost use Rattle.std.specs.List.{range_with_len};
+ghost use Rattle.rk_types.specs.declared.hashing.TheConstants.{LANES};
+ghost use Rattle.rk_world.specs.Cluster.{Cluster as Lanes};
+ghost use Rattle.rk_cluster.specs.Masters.{masters_of};
+ghost use Rattle.rk_settle.specs.Advance.{advance as advance_lem};
+ghost use Rattle.rk_settle.specs.Lawful.{AreTasks};
+ghost use Rattle.rk_settle.specs.Outcomes.{Ends, Fails};
+ghost use Rattle.rk_settle.specs.Priority.{priority as priority_lem};
+ghost use Rattle.rk_settle.specs.Serve.{serve as serve_lem};
+ghost use Rattle.rk_settle.specs.Settle.{settle as settle_lem};
+ghost use Rattle.rk_settle.specs.States.{ClusterTells, EightTell};
+ghost use Rattle.rk_settle.specs.declared.task.Task.{Task as Step};
+ghost use Rattle.rk_settle.specs.declared.task.Task.TheVariants as tasks;
+
+use crate::course::{Progress, run};
+use crate::error::SettleError;
+use crate::reach::Reach;
+use crate::task::Task;
+use crate::tasks::Tasks;
+use rk_cluster::Cluster;
+use rk_outside::Replica;
+use rk_types::{NoMemory, Said, hash, lane_of};
+use std::alloc::Global;
+
+/// Crashed masters are noticed, and then rounds run until the cluster is at rest: in each lane the nodes take their turns,
+/// and the wire is emptied. Gives what clients said. `Worn` comes where a number of a lane has grown too great, and
+/// `Replica` where replicas failed in a hundred rounds: what came before has happened.
+pub fn settle<R: Replica + Drop>(
+    alloc: Global,
+    cluster: &mut Cluster<R>,
+) -> Result<Vec<Said>, SettleError>
+    ensures ok { IfOk result (λ said. Ends R.segments cluster.old cluster.new settle_lem said.items) }
+    ensures err { IfErr result (Fails R.segments cluster.old cluster.new settle_lem) }
+    ensures masters { masters_of cluster.new ≡ masters_of cluster.old }
+{
+    let mut tasks = Tasks::new(alloc);
+    tasks.push(Task::Settles)?;
+    tasks.push_all(&notices())?;
+    follow(alloc, cluster, tasks)
+}
+
+/// The outstanding call of a client is brought on, up to its answer where it can be had: where the client does not know who
+/// owns the key, it asks; its request is delivered, once more after a Moved, and committed. Gives what the client said. A
+/// client without an outstanding call does nothing.
+pub fn serve<R: Replica + Drop>(
+    alloc: Global,
+    cluster: &mut Cluster<R>,
+    client: u32,
+) -> Result<Vec<Said>, SettleError>
+    ensures ok { IfOk result (λ said. Ends R.segments cluster.old cluster.new (λ c. serve_lem c client) said.items) }
+    ensures err { IfErr result (Fails R.segments cluster.old cluster.new (λ c. serve_lem c client)) }
+    ensures masters { masters_of cluster.new ≡ masters_of cluster.old }
+{
+    let mut tasks = Tasks::new(alloc);
+    push_serve(&mut tasks, cluster, client)?;
+    follow(alloc, cluster, tasks)
+}
+
+/// In each lane where a tablet moves, its target asks for the records that it wants first, if it wants some, and gets them.
+pub fn priority<R: Replica + Drop>(
+    alloc: Global,
+    cluster: &mut Cluster<R>,
+    tablet: u32,
+) -> Result<Vec<Said>, SettleError>
+    ensures ok { IfOk result (λ said. Ends R.segments cluster.old cluster.new (λ c. priority_lem c tablet) said.items) }
+    ensures err { IfErr result (Fails R.segments cluster.old cluster.new (λ c. priority_lem c tablet)) }
+    ensures masters { masters_of cluster.new ≡ masters_of cluster.old }
+{
+    let mut tasks = Tasks::new(alloc);
+    tasks.push_all(&hastenings(tablet))?;
+    follow(alloc, cluster, tasks)
+}
+
+/// In each lane where a tablet migrates and is short of a reach, the migration is brought there.
+pub fn advance<R: Replica + Drop>(
+    alloc: Global,
+    cluster: &mut Cluster<R>,
+    tablet: u32,
+    reach: Reach,
+) -> Result<Vec<Said>, SettleError>
+    ensures ok { IfOk result (λ said. Ends R.segments cluster.old cluster.new (λ c. advance_lem c tablet reach) said.items) }
+    ensures err { IfErr result (Fails R.segments cluster.old cluster.new (λ c. advance_lem c tablet reach)) }
+    ensures masters { masters_of cluster.new ≡ masters_of cluster.old }
+{
+    let mut tasks = Tasks::new(alloc);
+    tasks.push_all(&advances(tablet, reach))?;
+    follow(alloc, cluster, tasks)
+}
+
+// The tasks of a command are done.
+fn follow<R: Replica + Drop>(
+    alloc: Global,
+    cluster: &mut Cluster<R>,
+    tasks: Tasks,
+) -> Result<Vec<Said>, SettleError>
+    requires { AreTasks (masters_of cluster.old) tasks }
+    ensures ok { (command : Lanes → List Step) → EightTell R.segments cluster.old command tasks
+        → IfOk result (λ said. Ends R.segments cluster.old cluster.new command said.items) }
+    ensures err { (command : Lanes → List Step) → EightTell R.segments cluster.old command tasks
+        → IfErr result (Fails R.segments cluster.old cluster.new command) }
+    ensures masters { masters_of cluster.new ≡ masters_of cluster.old }
+{
+    // Asked how many masters there are, a cluster tells that it has eight lanes.
+    let _masters = cluster.masters();
+    let mut tasks = tasks;
+    let mut progress = Progress::new(alloc);
+    run(cluster, &mut tasks, &mut progress)?;
+    Ok(progress.said)
+}
+
+// The outstanding call of a client, if there is one, is tried in its lane.
+fn push_serve<R: Replica + Drop>(
+    tasks: &mut Tasks,
+    cluster: &Cluster<R>,
+    client: u32,
+) -> Result<(), NoMemory>
+    ensures pushed { OnOk result (ClusterTells R.segments cluster.now (λ c. serve_lem c client ++ tasks.old) tasks.new) }
+    ensures lawful { OnOk result (AreTasks (masters_of cluster.now) tasks.old → AreTasks (masters_of cluster.now) tasks.new) }
+{
+    let Some(session) = cluster.session(client) else {
+        return Ok(());
+    };
+    let Some(call) = session.outstanding() else {
+        return Ok(());
+    };
+    let lane = lane_of(hash(call.key.bytes()));
+    tasks.push(Task::Tries {
+        lane,
+        client,
+        times: 1,
+    })
+}
+
+// Crashed masters are noticed in each lane.
+fn notices() -> [Task; 8]
+    ensures { result ≡ map (tasks.Notices) (range_with_len 0 LANES) }
+{
+    [
+        Task::Notices { lane: 0 },
+        Task::Notices { lane: 1 },
+        Task::Notices { lane: 2 },
+        Task::Notices { lane: 3 },
+        Task::Notices { lane: 4 },
+        Task::Notices { lane: 5 },
+        Task::Notices { lane: 6 },
+        Task::Notices { lane: 7 },
+    ]
+}
+
+// What the target of a tablet wants first is sent for in each lane.
+fn hastenings(tablet: u32) -> [Task; 8]
+    ensures { result ≡ map (λ lane. tasks.Hastens lane tablet) (range_with_len 0 LANES) }
+{
+    [
+        Task::Hastens { lane: 0, tablet },
+        Task::Hastens { lane: 1, tablet },
+        Task::Hastens { lane: 2, tablet },
+        Task::Hastens { lane: 3, tablet },
+        Task::Hastens { lane: 4, tablet },
+        Task::Hastens { lane: 5, tablet },
+        Task::Hastens { lane: 6, tablet },
+        Task::Hastens { lane: 7, tablet },
+    ]
+}
+
+// The migration of a tablet is brought to a reach in each lane.
+fn advances(tablet: u32, reach: Reach) -> [Task; 8]
+    ensures { result ≡ map (λ lane. tasks.Advances lane tablet reach) (range_with_len 0 LANES) }
+{
+    [
+        Task::Advances {
+            lane: 0,
+            tablet,
+            reach,
+        },
+        Task::Advances {
+            lane: 1,
+            tablet,
+            reach,
+        },
+        Task::Advances {
+            lane: 2,
+            tablet,
+            reach,
+        },
+        Task::Advances {
+            lane: 3,
+            tablet,
+            reach,
+        },
+        Task::Advances {
+            lane: 4,
+            tablet,
+            reach,
+        },
+        Task::Advances {
+            lane: 5,
+            tablet,
+            reach,
+        },
+        Task::Advances {
+            lane: 6,
+            tablet,
+            reach,
+        },
+        Task::Advances {
+            lane: 7,
+            tablet,
+            reach,
+        },
+    ]
+}

@@ -1,0 +1,176 @@
+// The course of a command: its tasks are done move by move.
+ghost use Rattle.std.specs.Prelude.{◌≡◌, ◌+◌, ◌-◌, ◌^◌, ◌<◌, ◌≤◌, ◌∷◌, ◌++◌, [], false, if◌then◌else◌, List, IfErr, OnOk};
+ghost use Rattle.std.specs.Option.{option_to_list};
+ghost use Rattle.rk_types.specs.declared.hashing.TheConstants.{LANES};
+ghost use Rattle.rk_cluster.specs.Masters.{masters_of};
+ghost use Rattle.rk_settle.specs.Lawful.{AreTasks, IsAct, IsTask};
+ghost use Rattle.rk_settle.specs.Course.{MOST_FAULTS as most_faults};
+ghost use Rattle.rk_settle.specs.States.{Moves, MovesAll, Stops, StopsIn};
+ghost use Rattle.rk_settle.specs.declared.course.Progress.{Progress as Came};
+ghost use Rattle.rk_settle.specs.declared.error.SettleError.TheVariants as errors;
+ghost use Rattle.rk_settle.specs.declared.task.Task.{Task as Step};
+ghost use Rattle.rk_settle.specs.declared.task.Task.TheVariants as made;
+
+use crate::error::SettleError;
+use crate::task::{Act, Task};
+use crate::tasks::Tasks;
+use crate::unfolding::unfold;
+use rk_cluster::{Cluster, Delivered};
+use rk_outside::Replica;
+use rk_types::{NoMemory, Said};
+use std::alloc::Global;
+
+/// In so many rounds replicas may fail before a command stops.
+const MOST_FAULTS: u64 = 100;
+
+/// What has come of a command so far: what clients said, in how many rounds a replica failed, and whether one failed in the
+/// round that runs.
+#[derive(Drop)]
+pub(crate) struct Progress {
+    pub(crate) said: Vec<Said>,
+    pub(crate) faults: u64,
+    pub(crate) failing: bool,
+}
+
+impl Progress {
+    /// Nothing was said, and no replica failed.
+    pub(crate) fn new(alloc: Global) -> Progress
+        ensures said { result.said.items ≡ [] }
+        ensures faults { result.faults ≡ 0 }
+        ensures failing { result.failing ≡ false }
+    {
+        Progress {
+            said: Vec::new(alloc),
+            faults: 0,
+            failing: false,
+        }
+    }
+}
+
+/// The tasks are done, one after the other, until none is left.
+pub(crate) fn run<R: Replica + Drop>(
+    cluster: &mut Cluster<R>,
+    tasks: &mut Tasks,
+    progress: &mut Progress,
+) -> Result<(), SettleError>
+    requires tasks { AreTasks (masters_of cluster.old) tasks.old }
+    requires faults { progress.old.faults ≡ 0 }
+    ensures done { OnOk result (tasks.new ≡ []) }
+    ensures ok { OnOk result (MovesAll R.segments cluster.old cluster.new tasks.old tasks.new progress.old progress.new) }
+    ensures err { IfErr result (StopsIn R.segments cluster.old cluster.new tasks.old progress.old) }
+    ensures masters { masters_of cluster.new ≡ masters_of cluster.old }
+{
+    for _ in 0..u64::MAX {
+        let Some(task) = tasks.pop() else {
+            return Ok(());
+        };
+        make_move(cluster, tasks, progress, task)?;
+    }
+    Err(SettleError::TooLong)
+}
+
+// The first task makes its move.
+fn make_move<R: Replica + Drop>(
+    cluster: &mut Cluster<R>,
+    tasks: &mut Tasks,
+    progress: &mut Progress,
+    task: Task,
+) -> Result<(), SettleError>
+    requires task { IsTask (masters_of cluster.old) task }
+    requires left { AreTasks (masters_of cluster.old) tasks.old }
+    requires faults { progress.old.faults < 2 ^ 64 - 1 }
+    ensures ok { OnOk result (Moves R.segments cluster.old cluster.new (task ∷ tasks.old) tasks.new progress.old progress.new) }
+    ensures err { IfErr result (Stops R.segments cluster.old cluster.new (task ∷ tasks.old) progress.old) }
+    ensures lawful { OnOk result (AreTasks (masters_of cluster.new) tasks.new) }
+    ensures faults { progress.new.faults ≤ progress.old.faults + 1 }
+    ensures masters { masters_of cluster.new ≡ masters_of cluster.old }
+{
+    match task {
+        Task::Occurs { lane, act } => occur(cluster, lane, act),
+        Task::Delivers { lane, number } => deliver(cluster, progress, lane, number),
+        Task::Begins => begin(progress),
+        Task::Ends => {
+            end(progress);
+            Ok(())
+        }
+        _ => Ok(unfold(tasks, cluster, task)?),
+    }
+}
+
+// Something occurs, if somebody acts.
+fn occur<R: Replica + Drop>(cluster: &mut Cluster<R>, lane: u8, act: Act) -> Result<(), SettleError>
+    requires there { lane < LANES }
+    requires act { IsAct (masters_of cluster.old) act }
+    ensures ok { OnOk result ((rest : List Step) (progress : Came) → Moves R.segments cluster.old cluster.new
+        (made.Occurs lane act ∷ rest) rest progress progress) }
+    ensures err { IfErr result (λ e. (rest : List Step) (progress : Came) → Stops R.segments cluster.old cluster.new
+        (made.Occurs lane act ∷ rest) progress e) }
+    ensures masters { masters_of cluster.new ≡ masters_of cluster.old }
+{
+    match act {
+        Act::Happens(event) => cluster.happen(lane, event)?,
+        Act::Asks(client) => {
+            if cluster.session(client).is_some() {
+                cluster.ask_in(lane, client)?;
+            }
+        }
+    }
+    Ok(())
+}
+
+// The message of a number, if it is there and somebody takes it, is delivered; what its receiver says is told.
+fn deliver<R: Replica + Drop>(
+    cluster: &mut Cluster<R>,
+    progress: &mut Progress,
+    lane: u8,
+    number: u64,
+) -> Result<(), SettleError>
+    requires { lane < LANES }
+    ensures ok { OnOk result ((rest : List Step) → Moves R.segments cluster.old cluster.new
+        (made.Delivers lane number ∷ rest) rest progress.old progress.new) }
+    ensures err { IfErr result (λ e. (rest : List Step) → Stops R.segments cluster.old cluster.new
+        (made.Delivers lane number ∷ rest) progress.old e) }
+    ensures faults { progress.new.faults ≡ progress.old.faults }
+    ensures masters { masters_of cluster.new ≡ masters_of cluster.old }
+{
+    let Delivered { said, failed } = cluster.deliver_in(lane, number)?;
+    tell(&mut progress.said, said)?;
+    progress.failing |= failed;
+    Ok(())
+}
+
+// Puts what a client said, if it said something, behind the rest.
+fn tell(into: &mut Vec<Said>, said: Option<Said>) -> Result<(), NoMemory>
+    ensures { OnOk result (into.new.items ≡ into.old.items ++ option_to_list said) }
+{
+    match said {
+        Some(said) => {
+            into.push(said)?;
+            Ok(())
+        }
+        None => Ok(()),
+    }
+}
+
+// A round of the limit of faults begins, unless replicas have failed in as many rounds as they may.
+fn begin(progress: &mut Progress) -> Result<(), SettleError>
+    ensures ok { OnOk result (progress.old.faults < most_faults) }
+    ensures err { IfErr result (λ e. (e ≡ errors.Replica progress.old.faults) × (most_faults ≤ progress.old.faults)) }
+    ensures same { progress.new ≡ progress.old }
+{
+    if progress.faults >= MOST_FAULTS {
+        return Err(SettleError::Replica(progress.faults));
+    }
+    Ok(())
+}
+
+// A round is over: it counts where a replica failed in it.
+fn end(progress: &mut Progress)
+    requires { progress.old.faults < 2 ^ 64 - 1 }
+    ensures { progress.new ≡ (record progress.old { faults = progress.old.faults + (if progress.old.failing then 1 else 0); failing = false }) }
+{
+    if progress.failing {
+        progress.faults += 1;
+        progress.failing = false;
+    }
+}
