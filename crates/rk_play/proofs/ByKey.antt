@@ -1,16 +1,16 @@
 -- Items by key rise and keep those of one key in their order, and no other list of these items does.
-use Rattle.std.proofs.Common.{◌≡◌, ℕ, ◌<◌, ◌≤◌, Bool, true, false, cond, List, [], ◌∷◌, length, get_or, refl, sym, ap, ◌∙◌, subst, suc, arith, rules}
+use Rattle.std.proofs.Common.{◌≡◌, ℕ, zero, ◌+◌, ◌<◌, ◌≤◌, Bool, true, false, cond, List, [], ◌∷◌, length, get_or, refl, sym, ap, ◌∙◌, subst, suc, arith, rules}
 use Rattle.std.specs.Prelude.{◌&&◌, not, filter}
 use Rattle.std.specs.Cmp.{IsStrictWeakOrder, IsTotalOrder}
 use Rattle.std.specs.Cmp.Lexicographic.{slice_cmp}
 use Rattle.std.specs.Cmp.Rules.{comparing}
 use Rattle.std.specs.List.{AllByRecursion}
-use Rattle.std.specs.List.Sorted.{IsSortedBy, IsStableBy, ties}
+use Rattle.std.specs.List.Sorted.{IsPermutation, IsSortedBy, IsStableBy, ties}
 use Rattle.std.specs.Ordering.{nat_cmp}
 use Rattle.std.proofs.lemmas.Bool.{false≢true}
-use Rattle.std.proofs.lemmas.List.Sorted.{ranks_by, sorted_far}
+use Rattle.std.proofs.lemmas.List.Sorted.{IsPermutation-append_comm, IsPermutation-append_left, IsPermutation-cons, IsPermutation-refl, IsPermutation-trans, ranks_by, sorted_far}
 use Rattle.rk_types.specs.declared.held.Held.{Held}
-use Rattle.rk_play.specs.Records.{by_key, is_before, put_by_key}
+use Rattle.rk_play.specs.Records.{AreByKey, by_key, is_before, put_by_key}
 
 key_total : IsTotalOrder (slice_cmp nat_cmp)
 key_total = search (comparing, rules)
@@ -197,3 +197,48 @@ pub by_key_alone : (items sorted : List Held) → IsSortedBy is_before sorted �
 by_key_alone items sorted rises stable =
     one_list sorted (by_key items) (rises_from_sorted sorted rises) (rises_by_key items)
     (λ z. stable z ∙ sym (kept_by_key z items))
+
+-- items that rise do so from each to the next
+next_rises : (items : List Held) → Rises items → (k : ℕ) (d : Held) → suc k < length items → is_before (get_or items (suc k) d) (get_or items k d) ≡ false
+next_rises [] rises k d within = absurd (omega arith)
+next_rises (item ∷ []) rises k d within = absurd (omega arith)
+next_rises (item ∷ next ∷ items) rises zero d within = rises.0.0
+next_rises (item ∷ next ∷ items) rises (suc k) d within = next_rises (next ∷ items) rises.1 k d (omega arith)
+
+sorted_from_rises : (items : List Held) → Rises items → IsSortedBy is_before items
+sorted_from_rises items rises k d low within =
+    let next : k + 1 ≡ suc k = omega arith in
+    ap (λ n. is_before (get_or items n d) (get_or items k d)) next ∙ next_rises items rises k d (omega arith)
+
+-- the first two of some items, the other way round
+swapped_first : (a b : Held) (items : List Held) → IsPermutation (a ∷ b ∷ items) (b ∷ a ∷ items)
+swapped_first a b items =
+    IsPermutation-append_left items (a ∷ b ∷ []) (b ∷ a ∷ []) (IsPermutation-append_comm (a ∷ []) (b ∷ []))
+
+-- items with one more at its place are the same as with it in front
+same_put : (item : Held) (items : List Held) → IsPermutation (item ∷ items) (put_by_key item items)
+same_put item [] = IsPermutation-refl (item ∷ [])
+same_put item (first ∷ items) = go (is_before first item) (same_put item items)
+  where
+    go : (b : Bool) → IsPermutation (item ∷ items) (put_by_key item items)
+        → IsPermutation (item ∷ first ∷ items) (cond b (first ∷ put_by_key item items) (item ∷ first ∷ items))
+    go true rest =
+        IsPermutation-trans (item ∷ first ∷ items) (first ∷ item ∷ items) (first ∷ put_by_key item items)
+        (swapped_first item first items)
+        (IsPermutation-cons first (item ∷ items) (put_by_key item items) rest)
+    go false rest = IsPermutation-refl (item ∷ first ∷ items)
+
+same_by_key : (items : List Held) → IsPermutation items (by_key items)
+same_by_key [] = IsPermutation-refl []
+same_by_key (item ∷ items) =
+    IsPermutation-trans (item ∷ items) (item ∷ by_key items) (put_by_key item (by_key items))
+    (IsPermutation-cons item items (by_key items) (same_by_key items))
+    (same_put item (by_key items))
+
+-- items by key are just what pins them
+pub by_key_are : (items : List Held) → AreByKey items (by_key items)
+by_key_are items = record {
+  rises = sorted_from_rises (by_key items) (rises_by_key items);
+  same = same_by_key items;
+  stable = λ z. kept_by_key z items;
+}

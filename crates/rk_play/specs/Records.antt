@@ -1,6 +1,7 @@
 -- The records of a table, in lines by the bytes of their keys.
 use Rattle.std.specs.Prelude.{ℕ, Bool, List, [], ◌∷◌, ◌++◌, codes, decimal, if◌then◌else◌, Option, Some, None}
 use Rattle.std.specs.List.{flat_map}
+use Rattle.std.specs.List.Sorted.{IsPermutation, IsSortedBy, IsStableBy}
 use Rattle.std.specs.Ordering.{is_lt, nat_cmp}
 use Rattle.std.specs.Cmp.Lexicographic.{slice_cmp}
 use Rattle.rk_types.specs.declared.held.Held.{Held}
@@ -28,6 +29,13 @@ put_by_key item (first ∷ items) = if is_before first item then first ∷ put_b
 abbrev pub by_key : List Held → List Held
 by_key [] = []
 by_key (item ∷ items) = put_by_key item (by_key items)
+
+-- what pins the items by key: no key comes before an earlier one, and they are the same items, with those of one key in
+-- their order
+pub record AreByKey (items sorted : List Held) : Type 0 where
+  pub rises : IsSortedBy is_before sorted
+  pub same : IsPermutation items sorted
+  pub stable : IsStableBy is_before items sorted
 
 -- the lines of items that are given in any order
 abbrev pub record_lines : List Held → List ℕ
