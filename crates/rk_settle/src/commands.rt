@@ -169,46 +169,10 @@ fn hastenings(tablet: u32) -> [Task; 8]
 fn advances(tablet: u32, reach: Reach) -> [Task; 8]
     ensures { result ≡ map (λ lane. tasks.Advances lane tablet reach) (range_with_len 0 LANES) }
 {
-    [
-        Task::Advances {
-            lane: 0,
-            tablet,
-            reach,
-        },
-        Task::Advances {
-            lane: 1,
-            tablet,
-            reach,
-        },
-        Task::Advances {
-            lane: 2,
-            tablet,
-            reach,
-        },
-        Task::Advances {
-            lane: 3,
-            tablet,
-            reach,
-        },
-        Task::Advances {
-            lane: 4,
-            tablet,
-            reach,
-        },
-        Task::Advances {
-            lane: 5,
-            tablet,
-            reach,
-        },
-        Task::Advances {
-            lane: 6,
-            tablet,
-            reach,
-        },
-        Task::Advances {
-            lane: 7,
-            tablet,
-            reach,
-        },
-    ]
+    let to = |lane| Task::Advances {
+        lane,
+        tablet,
+        reach,
+    };
+    [to(0), to(1), to(2), to(3), to(4), to(5), to(6), to(7)]
 }
