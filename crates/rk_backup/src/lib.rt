@@ -9,5 +9,3 @@ pub use lane::BackupLane;
 
 mod agree;
 mod lane;
-#[cfg(test)]
-mod tests;

@@ -11,5 +11,3 @@ pub use read::take_read;
 
 mod append;
 mod read;
-#[cfg(test)]
-mod tests;

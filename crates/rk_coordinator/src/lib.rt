@@ -11,6 +11,4 @@ pub use handled::Handled;
 
 mod coordinator_lane;
 mod handled;
-#[cfg(test)]
-mod tests;
 mod told;

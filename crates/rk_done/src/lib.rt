@@ -12,5 +12,3 @@ pub use completions::Completions;
 
 mod completion;
 mod completions;
-#[cfg(test)]
-mod tests;

@@ -30,8 +30,4 @@ mod lists;
 mod mark;
 mod reading;
 mod sequence;
-#[cfg(test)]
-mod tests;
-#[cfg(test)]
-mod vectors;
 mod writing;

@@ -12,5 +12,3 @@ pub use merging::merge;
 mod auditing;
 mod laws;
 mod merging;
-#[cfg(test)]
-mod tests;

@@ -22,5 +22,3 @@ mod laws;
 mod log;
 mod overreach;
 mod piece;
-#[cfg(test)]
-mod tests;

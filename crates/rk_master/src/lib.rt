@@ -41,8 +41,6 @@ mod stored;
 mod sums;
 mod tablet_lane;
 mod tablets;
-#[cfg(test)]
-mod tests;
 mod turn;
 mod waiting;
 mod work;

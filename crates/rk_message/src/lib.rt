@@ -23,8 +23,6 @@ pub use rebuilding::{CopySegment, ReadSegment, Rebuild, Rebuilt};
 pub use replication::{Append, Stored};
 pub use wire::Wire;
 
-#[cfg(test)]
-mod built;
 mod calls;
 mod fields;
 mod frame;
@@ -36,9 +34,5 @@ mod missing;
 mod pulling;
 mod rebuilding;
 mod replication;
-#[cfg(test)]
-mod tests;
 mod texts;
-#[cfg(test)]
-mod vectors;
 mod wire;

@@ -6,8 +6,6 @@ pub use writing::{got_len, pulled_len, put_got, put_pull, put_pulled, put_want, 
 mod elements;
 mod entries;
 mod reading;
-#[cfg(test)]
-mod tests;
 mod writing;
 
 use crate::fields::{COUNT_BYTES, TENURE_BYTES, TOKEN_BYTES};

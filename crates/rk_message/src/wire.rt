@@ -10,9 +10,6 @@ use rk_types::{NoMemory, Node, Numbered};
 use std::alloc::Global;
 use std::marker::Model;
 
-#[cfg(test)]
-mod tests;
-
 /// The messages of a lane that are under way. Each has a number, counted from 1 in the order in which they were sent.
 /// A message stays when it is delivered, so it may be delivered again and in any order, until it is forgotten.
 #[derive(Drop)]

@@ -18,5 +18,3 @@ pub use replay::replays;
 mod laws;
 mod line;
 mod replay;
-#[cfg(test)]
-mod tests;

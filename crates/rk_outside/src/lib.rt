@@ -15,8 +15,6 @@ mod segment_store;
 mod sink;
 mod source;
 mod standard;
-#[cfg(test)]
-mod tests;
 mod writing;
 
 pub use fault::Failed;

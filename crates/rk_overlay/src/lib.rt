@@ -19,5 +19,3 @@ pub use search::newest;
 mod laws;
 mod layers;
 mod search;
-#[cfg(test)]
-mod tests;

@@ -7,6 +7,4 @@
 
 pub use wanted::{BATCH_HASHES, Wanted};
 
-#[cfg(test)]
-mod tests;
 mod wanted;

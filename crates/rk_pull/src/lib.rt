@@ -10,5 +10,3 @@ pub use progress::Progress;
 
 mod batches;
 mod progress;
-#[cfg(test)]
-mod tests;

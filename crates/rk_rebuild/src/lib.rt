@@ -18,5 +18,3 @@ mod material;
 mod member;
 mod merging;
 mod reading;
-#[cfg(test)]
-mod tests;

@@ -7,5 +7,3 @@
 pub use segment::{Full, Segment};
 
 mod segment;
-#[cfg(test)]
-mod tests;

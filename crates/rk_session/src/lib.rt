@@ -13,5 +13,3 @@ mod cached_ranges;
 mod error;
 mod lane_ranges;
 mod session;
-#[cfg(test)]
-mod tests;

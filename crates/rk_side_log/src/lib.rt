@@ -14,5 +14,3 @@ mod laws;
 mod replay;
 mod side_log;
 mod side_logs;
-#[cfg(test)]
-mod tests;

@@ -18,6 +18,4 @@ mod search;
 mod slot;
 mod sorted;
 mod table;
-#[cfg(test)]
-mod tests;
 mod walk;

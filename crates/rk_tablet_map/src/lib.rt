@@ -14,5 +14,3 @@ mod error;
 mod phase;
 mod row;
 mod tablet_map;
-#[cfg(test)]
-mod tests;

@@ -10,5 +10,3 @@ pub use role::Role;
 
 mod handover;
 mod role;
-#[cfg(test)]
-mod tests;

@@ -30,6 +30,4 @@ mod node;
 mod numbered;
 mod range;
 mod status;
-#[cfg(test)]
-mod tests;
 mod text;

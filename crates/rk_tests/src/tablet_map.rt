@@ -1,0 +1,110 @@
+use crate::comparing::same;
+use rk_tablet_map::{MapError, Phase, Row, TabletMap};
+use rk_types::{Listed, Member, NoMemory, Range};
+use std::alloc::Global;
+use std::test::Fail;
+
+fn row(tablet: u32, table: u64, first: u64, last: u64) -> Row {
+    Row {
+        tablet,
+        range: Range { table, first, last },
+        term: 1,
+        phase: Phase::Owned { master: 1, from: 0 },
+    }
+}
+
+// Tablet 1 has the hashes 0 to 9 of table 1.
+fn map_of_one(alloc: Global) -> Result<TabletMap, MapError> {
+    let mut map = TabletMap::new(alloc);
+    map.add(row(1, 1, 0, 9))?;
+    Ok(map)
+}
+
+#[test]
+fn locates_hashes(rt: HostRuntime) -> Result<(), Fail> {
+    let map = map_of_one(rt.alloc())?;
+    for (table, hash, wanted) in [
+        (1, 9, Ok(1)),
+        (1, 10, Err(MapError::NoTablet)),
+        (2, 5, Err(MapError::NoTablet)),
+    ] {
+        same(&rt, &map.locate(table, hash), &wanted);
+    }
+    Ok(())
+}
+
+// The rows are a tablet, where it is split, and the number of the new one.
+#[test]
+fn splits_tablets(rt: HostRuntime) -> Result<(), Fail> {
+    let mut map = map_of_one(rt.alloc())?;
+    for (tablet, at, new, wanted) in [
+        (3, 4, 2, Err(MapError::NoTablet)),
+        (1, 0, 1, Err(MapError::Taken(1))),
+        (1, 0, 2, Err(MapError::BadSplit(0))),
+        (1, 10, 2, Err(MapError::BadSplit(10))),
+        (1, 4, 2, Ok(())),
+    ] {
+        same(&rt, &map.split(tablet, at, new), &wanted);
+    }
+    same(&rt, &(map.locate(1, 3), map.locate(1, 4)), &(Ok(1), Ok(2)));
+    Ok(())
+}
+
+#[test]
+fn adds_tablets(rt: HostRuntime) -> Result<(), Fail> {
+    let mut map = map_of_one(rt.alloc())?;
+    for (tablet, first, wanted) in [
+        (1, 20, Err(MapError::Taken(1))),
+        (3, 9, Err(MapError::Overlap)),
+        (3, 10, Ok(())),
+    ] {
+        same(&rt, &map.add(row(tablet, 1, first, 29)), &wanted);
+    }
+    same(&rt, &map.rows().len(), &2);
+    Ok(())
+}
+
+// Two tablets of one table, by falling number.
+fn map_of_two(alloc: Global) -> Result<TabletMap, MapError> {
+    let mut map = TabletMap::new(alloc);
+    map.add(row(7, 1, 5, 9))?;
+    map.add(row(2, 1, 0, 4))?;
+    Ok(map)
+}
+
+// It is rebuilt from one log.
+fn rebuilding(alloc: Global) -> Result<Phase, NoMemory> {
+    let mut lineage = Listed::new(alloc);
+    lineage.push(Member { master: 2, from: 3 })?;
+    Ok(Phase::Rebuilding { lineage, to: 3 })
+}
+
+#[test]
+fn changes_one_row(rt: HostRuntime) -> Result<(), Fail> {
+    let mut map = map_of_two(rt.alloc())?;
+    for (tablet, wanted) in [(9, false), (7, true)] {
+        same(
+            &rt,
+            &map.change(tablet, 2, rebuilding(rt.alloc())?),
+            &wanted,
+        );
+    }
+    same(&rt, &map.row(2), &Some(&row(2, 1, 0, 4)));
+    let changed = Row {
+        term: 2,
+        phase: rebuilding(rt.alloc())?,
+        ..row(7, 1, 5, 9)
+    };
+    same(&rt, &(map.row(7), map.row(9)), &(Some(&changed), None));
+    Ok(())
+}
+
+#[test]
+fn duplicates_rows(rt: HostRuntime) -> Result<(), Fail> {
+    let row = Row {
+        phase: rebuilding(rt.alloc())?,
+        ..row(7, 1, 5, 9)
+    };
+    same(&rt, &row.duplicate()?, &row);
+    Ok(())
+}

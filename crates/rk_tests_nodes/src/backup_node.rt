@@ -1,0 +1,114 @@
+ghost use Rattle.std.specs.Prelude.{◌≡◌, IfOk, length};
+
+use crate::comparing::same;
+use rk_backup::BackupLane;
+use rk_backup_node::{take_append, take_read};
+use rk_message::{Append, Body, ReadSegment, Tenure};
+use rk_outside::{Lost, MemoryReplica, Replica};
+use rk_types::{Listed, NoMemory};
+use std::alloc::Global;
+use std::test::Fail;
+
+// Bytes of segment 1 of a master, from the byte `at` on.
+fn append_of(alloc: Global, at: u8, bytes: &[u8; 3]) -> Result<Append, NoMemory>
+    ensures { IfOk result (λ append. (append.at ≡ at) × (length append.bytes ≡ 3)) }
+{
+    Ok(Append {
+        segment: 1,
+        at: at.into(),
+        bytes: Listed::from_vec(Vec::from_slice(alloc, bytes)?),
+    })
+}
+
+// How many bytes a backup tells once it took such bytes of master 1.
+fn told(
+    backup: &mut BackupLane<MemoryReplica<'_>>,
+    alloc: Global,
+    at: u8,
+    bytes: &[u8; 3],
+) -> Result<Option<u32>, Lost> {
+    let Ok(append) = append_of(alloc, at, bytes) else {
+        return Err(Lost::NoMemory);
+    };
+    let message = take_append(backup, alloc, 1, &append)?;
+    match &message.body {
+        Body::Stored(stored) => Ok(Some(stored.length)),
+        _ => Ok(None),
+    }
+}
+
+// How many bytes the copy of a segment of master 1 has, where it has some, by what its log has.
+fn copied(
+    backup: &mut BackupLane<MemoryReplica<'_>>,
+    alloc: Global,
+    segment: u32,
+    log: &[u8],
+) -> Result<Option<usize>, Lost> {
+    let read = ReadSegment {
+        tenure: Tenure { tablet: 1, term: 2 },
+        master: 1,
+        segment,
+    };
+    let message = take_read(backup, alloc, 3, read, log)?;
+    match &message.body {
+        Body::Copy(copy) => Ok(copy.bytes.as_ref().map(|bytes| bytes.as_slice().len())),
+        _ => Ok(None),
+    }
+}
+
+// Bytes that come again, or that others are stored for, or behind a gap are not stored.
+#[test]
+fn what_is_stored_is_told(rt: HostRuntime) {
+    let mut backup = BackupLane::new(2, MemoryReplica::new(rt.alloc()));
+    for (at, bytes, length) in [
+        (0, b"abc", 3),
+        (1, b"bcd", 4),
+        (0, b"abc", 4),
+        (2, b"xyz", 4),
+        (9, b"xyz", 4),
+    ] {
+        same(
+            &rt,
+            &told(&mut backup, rt.alloc(), at, bytes),
+            &Ok(Some(length)),
+        );
+    }
+    same(&rt, &backup.into_replica().length(1, 1), &4);
+}
+
+#[test]
+fn a_copy_ends_where_the_log_differs(rt: HostRuntime) -> Result<(), Fail> {
+    let mut backup = BackupLane::new(2, MemoryReplica::new(rt.alloc()));
+    told(&mut backup, rt.alloc(), 0, b"abc")?;
+    let rows: [(u32, &[u8], Option<usize>); 4] = [
+        (1, b"abcd", Some(3)),
+        (1, b"ax", Some(1)),
+        (1, b"", None),
+        (2, b"abcd", None),
+    ];
+    for (segment, log, length) in rows {
+        same(
+            &rt,
+            &copied(&mut backup, rt.alloc(), segment, log),
+            &Ok(length),
+        );
+    }
+    Ok(())
+}
+
+#[test]
+fn a_device_that_fails_loses_the_message(rt: HostRuntime) {
+    let replica = MemoryReplica::new(rt.alloc()).failing(&[1]).keeping(2);
+    let mut backup = BackupLane::new(2, replica);
+    same(
+        &rt,
+        &told(&mut backup, rt.alloc(), 0, b"abc"),
+        &Err(Lost::Failed),
+    );
+    same(
+        &rt,
+        &copied(&mut backup, rt.alloc(), 1, b"abc"),
+        &Ok(Some(2)),
+    );
+    same(&rt, &told(&mut backup, rt.alloc(), 0, b"abc"), &Ok(Some(3)));
+}

@@ -1,0 +1,239 @@
+ghost use Rattle.std.specs.Prelude.{◌≡◌, IfOk};
+ghost use Rattle.rk_world.specs.Premises.{IsMaster, MayAct};
+
+use crate::comparing::same;
+use rk_lane::Lane;
+use rk_outside::MemoryReplica;
+use rk_session::Session;
+use rk_tablet_map::Phase;
+use rk_tests::items::WHOLE;
+use rk_types::{Key, Node, Op, Value, hash, lane_of};
+use rk_world::{Event, Seen, StepError, Taken};
+use std::alloc::Global;
+use std::test::Fail;
+
+// A lane that has the key "a", with two masters and one backup.
+#[derive(Drop)]
+struct Pair<'a> {
+    lane: Lane<MemoryReplica<'a>>,
+    ghost masters: { lane.masters ≡ 2 },
+}
+
+// The session of client 7, which asks to put the key.
+fn client(alloc: Global) -> Result<Session, Fail>
+    ensures { IfOk result (MayAct 2) }
+{
+    let value = Value::new(alloc, b"x")?;
+    let key = Key::new(alloc, b"a")?;
+    let mut session = Session::new(alloc, 7);
+    session.ask(1, key, Op::Put(value))?;
+    Ok(session)
+}
+
+impl<'a> Pair<'a> {
+    // Master 1 owns all of a table, and client 7 was added.
+    fn new(alloc: Global) -> Result<Pair<'a>, Fail> {
+        let mut replicas = Vec::with_capacity(alloc, 1)?;
+        replicas.push_reserved(MemoryReplica::new(alloc));
+        let mut pair = Pair {
+            lane: Lane::new(alloc, lane_of(hash(b"a")), 2, replicas)?,
+        };
+        pair.add()?;
+        Ok(pair)
+    }
+
+    // The tablet and the client are added.
+    fn add(&mut self) -> Result<(), StepError> {
+        self.lane.step(Event::AddTablet {
+            tablet: 1,
+            range: WHOLE,
+            master: 1,
+        })?;
+        self.lane.step(Event::AddClient(7))?;
+        Ok(())
+    }
+
+    // The client takes its turn.
+    fn ask(&mut self, session: &mut Session) -> Result<Seen, StepError>
+        requires { MayAct 2 session.old }
+        ensures { MayAct 2 session.new }
+    {
+        self.lane.ask(session)
+    }
+
+    // The client takes the message of a number.
+    fn accept(&mut self, number: u64, session: &mut Session) -> Result<Seen, StepError>
+        requires { MayAct 2 session.old }
+        ensures { MayAct 2 session.new }
+    {
+        self.lane.accept(number, session)
+    }
+
+    fn deliver(&mut self, number: u64) -> Result<Seen, StepError> {
+        self.lane.step(Event::Deliver(number))
+    }
+
+    fn turn(&mut self, master: u8) -> Result<Seen, StepError>
+        requires { IsMaster 2 master }
+    {
+        self.lane.step(Event::Turn(Node::Master(master)))
+    }
+
+    fn coordinate(&mut self) -> Result<Seen, StepError> {
+        self.lane.step(Event::Turn(Node::Coordinator))
+    }
+
+    // The tablet begins to move to master 2.
+    fn migrate(&mut self) -> Result<Seen, StepError> {
+        self.lane.step(Event::Migrate { tablet: 1, to: 2 })
+    }
+
+    // The client asks where the key is, and takes the answer.
+    fn locate(&mut self, session: &mut Session) -> Result<Option<Taken>, StepError>
+        requires { MayAct 2 session.old }
+        ensures { MayAct 2 session.new }
+    {
+        self.ask(session)?;
+        self.deliver(1)?;
+        Ok(self.accept(2, session)?.taken)
+    }
+
+    // The put goes through the lane, up to the answer.
+    fn put(&mut self, alloc: Global) -> Result<(), Fail> {
+        let mut session = client(alloc)?;
+        self.locate(&mut session)?;
+        self.ask(&mut session)?;
+        self.settle(1);
+        Ok(())
+    }
+
+    // Master 1 crashes, where master 2 lives.
+    fn crash(&mut self) -> Result<Seen, StepError> {
+        if !self.lane.lives_another(1) {
+            return Err(StepError::Dead(2));
+        }
+        self.lane.step(Event::Crash(1))
+    }
+
+    fn notice(&mut self) -> Result<Seen, StepError> {
+        self.lane.step(Event::Notice(1))
+    }
+
+    // Delivers each message, but for those of clients, and loses it once it came so often.
+    fn deliver_all(&mut self, often: u8) {
+        for _ in 0..100 {
+            let Some(number) = self.lane.wire().oldest() else {
+                return;
+            };
+            for _ in 0..often {
+                let _ = self.deliver(number);
+            }
+            let _ = self.lane.step(Event::Forget(number));
+        }
+    }
+
+    // All nodes take turns until nothing is left to do; each message comes so often.
+    fn settle(&mut self, often: u8) {
+        for _ in 0..20 {
+            let _ = self.coordinate();
+            let _ = self.turn(1);
+            let _ = self.turn(2);
+            self.deliver_all(often);
+        }
+    }
+
+    // Whether master 2 owns the tablet.
+    fn has_moved(&self) -> bool {
+        match self.lane.rows().row(1) {
+            Some(row) => matches!(&row.phase, Phase::Owned { master: 2, .. }),
+            None => false,
+        }
+    }
+}
+
+// The client asks where the key is, and then the owner, whose entry the backup stores before the client is told.
+#[test]
+fn a_put_is_told_once_the_backup_holds_it(rt: HostRuntime) -> Result<(), Fail> {
+    let mut pair = Pair::new(rt.alloc())?;
+    let mut session = client(rt.alloc())?;
+    same(&rt, &pair.locate(&mut session)?, &Some(Taken::Located));
+    same(&rt, &pair.ask(&mut session)?.first, &3);
+    same(&rt, &pair.deliver(3)?.sent, &0);
+    same(&rt, &pair.turn(1)?.first, &4);
+    for (number, first, records) in [(4, 5, 0), (5, 6, 1)] {
+        same(&rt, &pair.deliver(number)?.first, &first);
+        same(&rt, &pair.lane.journal().len(), &records);
+    }
+    same(
+        &rt,
+        &pair.accept(6, &mut session)?.taken,
+        &Some(Taken::Done),
+    );
+    same(
+        &rt,
+        &(pair.lane.accepted(), session.receipts().len()),
+        &(1, 1),
+    );
+    Ok(())
+}
+
+// A pair in which the key was put.
+fn pair_with_record<'a>(alloc: Global) -> Result<Pair<'a>, Fail> {
+    let mut pair = Pair::new(alloc)?;
+    pair.put(alloc)?;
+    Ok(pair)
+}
+
+// What was put moves to master 2 with its tablet, and what comes twice moves it no further.
+#[test]
+fn a_tablet_moves_to_another_master(rt: HostRuntime) -> Result<(), Fail> {
+    for often in [1, 2] {
+        let mut pair = pair_with_record(rt.alloc())?;
+        pair.migrate()?;
+        same(
+            &rt,
+            &(pair.lane.journal().len(), pair.has_moved()),
+            &(1, false),
+        );
+        pair.settle(often);
+        same(
+            &rt,
+            &(pair.lane.journal().len(), pair.has_moved()),
+            &(1, true),
+        );
+    }
+    Ok(())
+}
+
+// Master 2 rebuilds the tablet of master 1 from what the backup stores. A dead master takes no turn.
+#[test]
+fn a_tablet_is_rebuilt_after_a_crash(rt: HostRuntime) -> Result<(), Fail> {
+    for often in [1, 2] {
+        let mut pair = pair_with_record(rt.alloc())?;
+        pair.crash()?;
+        same(&rt, &pair.turn(1), &Err(StepError::Dead(1)));
+        pair.notice()?;
+        pair.settle(often);
+        same(
+            &rt,
+            &(pair.lane.journal().len(), pair.has_moved()),
+            &(1, true),
+        );
+    }
+    Ok(())
+}
+
+// Each refusal has its cause, and leaves the wire and the greatest number as they were.
+#[test]
+fn a_refusal_changes_nothing(rt: HostRuntime) -> Result<(), Fail> {
+    let mut pair = Pair::new(rt.alloc())?;
+    let top = pair.lane.top();
+    same(&rt, &pair.deliver(9), &Err(StepError::NoMessage(9)));
+    same(&rt, &pair.notice(), &Err(StepError::Alive(1)));
+    same(
+        &rt,
+        &(pair.lane.wire().count(), pair.lane.top(), pair.lane.spent()),
+        &(0, top, false),
+    );
+    Ok(())
+}

@@ -1,0 +1,197 @@
+ghost use Rattle.std.specs.Prelude.{◌≤◌, IfOk};
+ghost use Rattle.rk_world.specs.Premises.{IsLawfulCall};
+ghost use Rattle.rk_world.specs.Requests.{call_of};
+
+use crate::comparing::same;
+use rk_master::{MasterLane, StagedCalls, Worked};
+use rk_message::{Body, Message, Reply, Request, Stored};
+use rk_tests::items::{Asked, Told, WHOLE, call, op_of, outcome_of};
+use rk_types::{Answer, Call, Key, Node};
+use std::alloc::Global;
+use std::process::Abort;
+use std::test::Fail;
+
+// Whether these calls are staged.
+fn staged(calls: &StagedCalls) -> [bool; 3] {
+    [(1, 7), (1, 8), (2, 7)].map(|(client, seq)| calls.is_staged(client, seq))
+}
+
+// Two clients stage a call with the same seq, and one of them two more.
+#[test]
+fn a_call_is_staged_until_the_last_of_its_name_is_taken(rt: HostRuntime) -> Result<(), Fail> {
+    let mut calls = StagedCalls::new(rt.alloc());
+    for (place, client) in [(0, 1), (1, 2), (2, 1)] {
+        let call = call(rt.alloc(), 7, Asked::Get)?;
+        calls.insert(place, Call { client, ..call })?;
+    }
+    same(&rt, &staged(&calls), &[true, false, true]);
+    for (place, wanted) in [(0, [true, false, true]), (2, [false, false, true])] {
+        let _ = calls.take(place);
+        same(&rt, &staged(&calls), &wanted);
+    }
+    Ok(())
+}
+
+// A request for the key `a`, at tablet 7.
+fn request(alloc: Global, seq: u64, asked: Asked) -> Result<Request, Fail>
+    requires { 1 ≤ seq }
+    ensures { IfOk result (λ request. IsLawfulCall (call_of 1 request) × IsLawfulCall (call_of 2 request)) }
+{
+    Ok(Request {
+        tablet: 7,
+        seq,
+        seen: 0,
+        table: 1,
+        key: Key::new(alloc, b"a")?,
+        op: op_of(alloc, asked)?,
+    })
+}
+
+// Client 1 asks master 1, or else client 2.
+fn ask(
+    master: &mut MasterLane,
+    alloc: Global,
+    is_first: bool,
+    seq: u64,
+    asked: Asked,
+) -> Result<Worked, Fail>
+    requires { 1 ≤ seq }
+{
+    let request = request(alloc, seq, asked)?;
+    let client = if is_first { 1 } else { 2 };
+    Ok(master.step(&Message {
+        from: Node::Client(client),
+        to: Node::Master(1),
+        body: Body::Request(request),
+    })?)
+}
+
+// What the only backup tells of segment 1.
+fn told<R: Abort>(rt: &R, master: &mut MasterLane, length: u32) -> Result<Worked, Fail> {
+    assert!(rt; master.backups() > 0);
+    Ok(master.step(&Message {
+        from: Node::Backup(1),
+        to: Node::Master(1),
+        body: Body::Stored(Stored { segment: 1, length }),
+    })?)
+}
+
+// Whether the first message is what master 1 answers to a call.
+fn check_told<R: Abort + AllocGlobal>(
+    rt: &R,
+    sends: &[Message],
+    client: u32,
+    seq: u64,
+    told: Told,
+) -> Result<(), Fail> {
+    let reply = Message {
+        from: Node::Master(1),
+        to: Node::Client(client),
+        body: Body::Reply(Reply {
+            seq,
+            stamp: 0,
+            place: 0,
+            answer: Answer::Done(outcome_of(rt.alloc(), told)?),
+        }),
+    };
+    same(rt, &sends.first(), &Some(&reply));
+    Ok(())
+}
+
+// Master 1 with one backup, which has tablet 7.
+fn master_of_one(alloc: Global) -> Result<MasterLane, Fail> {
+    let mut master = MasterLane::new(alloc, 1, 1)?;
+    master.add(7, WHOLE)?;
+    Ok(master)
+}
+
+// A put takes 40 bytes of the log, and a refusal 36. The put comes again while it is staged.
+#[test]
+fn clients_are_told_once_the_backup_holds_their_entries(rt: HostRuntime) -> Result<(), Fail> {
+    let mut master = master_of_one(rt.alloc())?;
+    for (is_first, asked) in [
+        (true, Asked::Put(b"x")),
+        (true, Asked::Put(b"x")),
+        (false, Asked::CondPut(9, b"y")),
+    ] {
+        let work = ask(&mut master, rt.alloc(), is_first, 1, asked)?;
+        same(&rt, &work.sends.len(), &0);
+    }
+    same(
+        &rt,
+        &(master.staged_call(2, 1), master.staged()),
+        &(true, 2),
+    );
+    same(&rt, &told(&rt, &mut master, 77)?.sends.len(), &0);
+    let work = told(&rt, &mut master, 76)?;
+    same(&rt, &(work.served.len(), master.staged()), &(2, 0));
+    let sends = work.sends.as_slice();
+    check_told(&rt, sends, 1, 1, Told::Written(1))?;
+    check_told(&rt, sends.get(1..).unwrap_or(&[]), 2, 1, Told::Mismatch(1))
+}
+
+// The put comes again once it is applied, and is told again. A get is told at once.
+#[test]
+fn what_is_applied_is_told_at_once(rt: HostRuntime) -> Result<(), Fail> {
+    let mut master = master_of_one(rt.alloc())?;
+    ask(&mut master, rt.alloc(), true, 1, Asked::Put(b"x"))?;
+    told(&rt, &mut master, 40)?;
+    let again = ask(&mut master, rt.alloc(), true, 1, Asked::Put(b"x"))?;
+    check_told(&rt, again.sends.as_slice(), 1, 1, Told::Written(1))?;
+    let read = ask(&mut master, rt.alloc(), false, 2, Asked::Get)?;
+    check_told(&rt, read.sends.as_slice(), 2, 2, Told::Found(1, b"x"))
+}
+
+// Client 1 asks, and is told so once the backup holds all of the log.
+fn check_ended<R: Abort + AllocGlobal>(
+    rt: &R,
+    master: &mut MasterLane,
+    seq: u64,
+    asked: Asked,
+    wanted: Told,
+) -> Result<(), Fail>
+    requires { 1 ≤ seq }
+{
+    ask(master, rt.alloc(), true, seq, asked)?;
+    let length = u32::try_from(master.log_bytes()).unwrap_or(0);
+    let work = told(rt, master, length)?;
+    check_told(rt, work.sends.as_slice(), 1, seq, wanted)
+}
+
+// One call after the other: a conditional put finds no record, another version, the one that was asked for, and a
+// tombstone.
+#[test]
+fn a_conditional_put_is_refused_at_another_version(rt: HostRuntime) -> Result<(), Fail> {
+    let mut master = master_of_one(rt.alloc())?;
+    check_ended(
+        &rt,
+        &mut master,
+        1,
+        Asked::CondPut(9, b"x"),
+        Told::Mismatch(0),
+    )?;
+    check_ended(&rt, &mut master, 2, Asked::Put(b"x"), Told::Written(1))?;
+    check_ended(
+        &rt,
+        &mut master,
+        3,
+        Asked::CondPut(9, b"y"),
+        Told::Mismatch(1),
+    )?;
+    check_ended(
+        &rt,
+        &mut master,
+        4,
+        Asked::CondPut(1, b"y"),
+        Told::Written(2),
+    )?;
+    check_ended(&rt, &mut master, 5, Asked::Delete, Told::Deleted(3))?;
+    check_ended(
+        &rt,
+        &mut master,
+        6,
+        Asked::CondPut(3, b"y"),
+        Told::Mismatch(0),
+    )?;
+    check_ended(&rt, &mut master, 7, Asked::Delete, Told::Absent)
+}

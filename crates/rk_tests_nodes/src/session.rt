@@ -1,0 +1,202 @@
+use crate::comparing::same;
+use rk_message::{Body, Located, Message, Reply};
+use rk_session::{AskError, MOST_REQUESTS, Session};
+use rk_tests::items::WHOLE;
+use rk_types::{Answer, Key, NoMemory, Node, Op, Outcome, TextError, hash};
+use rk_world::Taken;
+use std::alloc::Global;
+use std::process::Abort;
+use std::test::Fail;
+
+// What client 1 does, or what it is told.
+#[derive(Clone, Copy)]
+enum Step {
+    // It asks to read the key "a" of table 1.
+    Ask,
+    Turn,
+    // The tablet has all hashes of table 1, and this owner.
+    Locate(u32, Option<u8>),
+    // The call with this seq is answered: done, with this stamp; moved, with this tablet; or not yet.
+    Finish(u64, u64),
+    Move(u64, u32),
+    Delay(u64),
+}
+
+// What a step shows.
+#[derive(Clone, Copy, Debug, PartialEq, Eq)]
+enum Shown {
+    NoMemory,
+    Asked(u64),
+    Busy(u64),
+    // A turn sends nothing; a question where a hash of a table is; or a request to a master, with the tablet, the seq and
+    // the stamp that was seen.
+    Silent,
+    Lookup(u64, u64),
+    Request(u8, u32, u64, u64),
+    Other,
+    // What is made of a message.
+    Ignored,
+    Located,
+    Moved(u32),
+    NotYet,
+    Done,
+}
+
+// What a message shows.
+fn message_shown(message: &Message) -> Shown {
+    match (message.to, &message.body) {
+        (Node::Coordinator, Body::Lookup(lookup)) => Shown::Lookup(lookup.table, lookup.hash),
+        (Node::Master(master), Body::Request(request)) => {
+            Shown::Request(master, request.tablet, request.seq, request.seen)
+        }
+        _ => Shown::Other,
+    }
+}
+
+// The session's turn.
+fn turn(session: &mut Session) -> Shown {
+    match session.turn() {
+        Ok(Some(message)) => message_shown(&message),
+        Ok(None) => Shown::Silent,
+        Err(NoMemory) => Shown::NoMemory,
+    }
+}
+
+// The session's next call.
+fn ask(session: &mut Session, alloc: Global) -> Result<Shown, TextError> {
+    match session.ask(1, Key::new(alloc, b"a")?, Op::Get) {
+        Ok(seq) => Ok(Shown::Asked(seq)),
+        Err(AskError::Busy(seq)) => Ok(Shown::Busy(seq)),
+        Err(AskError::NoMemory) => Ok(Shown::NoMemory),
+    }
+}
+
+// A message to the session.
+fn tell(session: &mut Session, from: Node, body: Body) -> Shown {
+    let to = Node::Client(session.client());
+    match session.accept(Message { from, to, body }) {
+        Taken::Ignored => Shown::Ignored,
+        Taken::Located => Shown::Located,
+        Taken::Moved(tablet) => Shown::Moved(tablet),
+        Taken::NotYet(_) => Shown::NotYet,
+        Taken::Done => Shown::Done,
+    }
+}
+
+// Where the keys of table 1 are.
+fn locate(session: &mut Session, tablet: u32, owner: Option<u8>) -> Shown {
+    let located = Located {
+        tablet,
+        range: WHOLE,
+        owner,
+    };
+    tell(session, Node::Coordinator, Body::Located(located))
+}
+
+// An answer to a call, at place 6.
+fn answer(session: &mut Session, seq: u64, stamp: u64, answer: Answer) -> Shown {
+    let reply = Reply {
+        seq,
+        stamp,
+        place: 6,
+        answer,
+    };
+    tell(session, Node::Master(2), Body::Reply(reply))
+}
+
+fn take_step(session: &mut Session, alloc: Global, step: Step) -> Result<Shown, TextError> {
+    match step {
+        Step::Ask => ask(session, alloc),
+        Step::Turn => Ok(turn(session)),
+        Step::Locate(tablet, owner) => Ok(locate(session, tablet, owner)),
+        Step::Finish(seq, stamp) => {
+            Ok(answer(session, seq, stamp, Answer::Done(Outcome::Absent)))
+        }
+        Step::Move(seq, tablet) => Ok(answer(session, seq, 0, Answer::Moved(tablet))),
+        Step::Delay(seq) => {
+            let key = Key::new(alloc, b"a")?;
+            Ok(answer(session, seq, 0, Answer::NotYet(key)))
+        }
+    }
+}
+
+// A new session of client 1 takes these steps, and each shows what it should.
+fn played<X: Abort>(rt: &X, alloc: Global, steps: &[(Step, Shown)]) -> Result<Session, Fail> {
+    let mut session = Session::new(alloc, 1);
+    for (step, expected) in steps {
+        same(rt, &take_step(&mut session, alloc, *step)?, expected);
+    }
+    Ok(session)
+}
+
+#[test]
+fn a_call_is_looked_up_asked_moved_asked_again_and_done(rt: HostRuntime) -> Result<(), Fail> {
+    let steps = [
+        (Step::Ask, Shown::Asked(1)),
+        (Step::Turn, Shown::Lookup(1, hash(b"a"))),
+        (Step::Locate(4, Some(2)), Shown::Located),
+        (Step::Turn, Shown::Request(2, 4, 1, 0)),
+        (Step::Delay(1), Shown::NotYet),
+        (Step::Turn, Shown::Request(2, 4, 1, 0)),
+        (Step::Move(1, 4), Shown::Moved(4)),
+        (Step::Turn, Shown::Lookup(1, hash(b"a"))),
+        (Step::Locate(5, Some(3)), Shown::Located),
+        (Step::Turn, Shown::Request(3, 5, 1, 0)),
+        (Step::Finish(1, 9), Shown::Done),
+        (Step::Turn, Shown::Silent),
+    ];
+    let session = played(&rt, rt.alloc(), &steps)?;
+    assert!(rt; session.outstanding().is_none());
+    same(&rt, &session.seen(), &9);
+    let receipts = session.receipts();
+    let shown = receipts.first().map(|receipt| (
+        receipt.call.seq,
+        receipt.lane,
+        receipt.place,
+        receipt.stamp,
+    ));
+    same(&rt, &(receipts.len(), shown), &(1, Some((1, 4, 6, 9))));
+    Ok(())
+}
+
+// The next call of the key goes to the owner that is cached, with the stamp that was seen. After so many requests, and
+// where the range has no owner, the key is looked up.
+#[test]
+fn after_three_requests_the_key_is_looked_up(rt: HostRuntime) -> Result<(), Fail> {
+    same(&rt, &MOST_REQUESTS, &3);
+    let steps = [
+        (Step::Ask, Shown::Asked(1)),
+        (Step::Locate(4, Some(2)), Shown::Located),
+        (Step::Finish(1, 9), Shown::Done),
+        (Step::Ask, Shown::Asked(2)),
+        (Step::Turn, Shown::Request(2, 4, 2, 9)),
+        (Step::Turn, Shown::Request(2, 4, 2, 9)),
+        (Step::Turn, Shown::Request(2, 4, 2, 9)),
+        (Step::Turn, Shown::Lookup(1, hash(b"a"))),
+        (Step::Locate(4, None), Shown::Located),
+        (Step::Turn, Shown::Lookup(1, hash(b"a"))),
+    ];
+    let session = played(&rt, rt.alloc(), &steps)?;
+    let last = session.last_request().map(message_shown);
+    same(&rt, &last, &Some(Shown::Request(2, 4, 2, 9)));
+    Ok(())
+}
+
+#[test]
+fn a_second_call_waits_and_an_older_answer_is_ignored(rt: HostRuntime) -> Result<(), Fail> {
+    let steps = [
+        (Step::Finish(1, 9), Shown::Ignored),
+        (Step::Ask, Shown::Asked(1)),
+        (Step::Ask, Shown::Busy(1)),
+        (Step::Finish(1, 9), Shown::Done),
+        (Step::Finish(1, 9), Shown::Ignored),
+        (Step::Ask, Shown::Asked(2)),
+        (Step::Finish(1, 9), Shown::Ignored),
+        (Step::Move(1, 4), Shown::Ignored),
+        (Step::Finish(2, 7), Shown::Done),
+    ];
+    let session = played(&rt, rt.alloc(), &steps)?;
+    same(&rt, &session.seen(), &9);
+    same(&rt, &session.receipts().len(), &2);
+    Ok(())
+}
