@@ -9,7 +9,6 @@ pub mod Backing
 pub mod Visits
 pub mod Visiting
 pub mod Coordinating
-pub mod Copies
 pub mod Finished
 pub mod Masters
 pub mod Noticing

@@ -1,18 +1,19 @@
-ghost use Rattle.std.specs.Prelude.{◌≡◌, ◌≢◌, ◌≤◌, ◌^◌, ◌-◌, [], true, All, min, length, is_some, not, Some, IfOk, IfErr, IfSome, OnErr};
+ghost use Rattle.std.specs.Prelude.{◌≡◌, ◌≢◌, ◌≤◌, [], true, All, length, is_some, not, Some, IfOk, IfErr, IfSome, OnErr};
 ghost use Rattle.std.specs.List.{count_by};
 ghost use Rattle.rk_log.specs.declared.copied.TheConstants.{MOST_BACKUPS};
+ghost use Rattle.rk_model.specs.Merged.{IsRisingAbove};
 ghost use Rattle.rk_world.specs.Backup.{no_segments};
 ghost use Rattle.rk_world.specs.Coordinator.{is_noticed};
 ghost use Rattle.rk_world.specs.Ledger.{new_ledger};
 ghost use Rattle.rk_world.specs.Premises.{IsMaster, MOST_MASTERS};
 ghost use Rattle.rk_world.specs.Runs.{IsFormedWithRoom, lives_another as lives_another_lem};
 ghost use Rattle.rk_world.specs.World.{bytes_of_logs, has_crashed, master_at, new_backups, new_world};
-ghost use Rattle.rk_lane.specs.Copies.{value_bytes};
+ghost use Rattle.rk_ledger.specs.Values.{value_bytes};
 ghost use Rattle.rk_lane.specs.LaneState.{AreTold, replicas_of, world_with};
 ghost use Rattle.rk_lane.specs.Lane.{AreNumbered};
 ghost use Rattle.rk_lane.specs.Requests.{AreForMasters};
 
-use crate::copies::{copy_records, value_bytes};
+use crate::copies::copy_records;
 use crate::parts::{Parts, lives_another};
 use rk_backup::BackupLane;
 use rk_master::MasterLane;
@@ -101,9 +102,10 @@ impl<R: Replica + Drop> Lane<R> {
         self.spent
     }
 
-    /// The journal: the records of the calls that were carried out, oldest first; lent.
+    /// The journal: the records of the calls that were carried out, oldest first, by rising stamps; lent.
     pub fn journal(&self) -> &[Placed]
-        ensures { result.now ≡ self.now.ledger.journal }
+        ensures value { result.now ≡ self.now.ledger.journal }
+        ensures rising { IsRisingAbove 0 self.now.ledger.journal }
     {
         self.parts.ledger.journal()
     }
@@ -115,12 +117,11 @@ impl<R: Replica + Drop> Lane<R> {
         copy_records(self.alloc(), self.parts.ledger.journal())
     }
 
-    /// The bytes of the values in the calls and outcomes of the journal; 2^64 - 1 where they are more. A step for each
-    /// record.
+    /// The bytes of the values in the calls and outcomes of the journal; they are kept, not counted. One step.
     pub fn value_bytes(&self) -> u64
-        ensures { result ≡ min (value_bytes self.now.ledger.journal) (2 ^ 64 - 1) }
+        ensures { result ≡ value_bytes self.now.ledger.journal }
     {
-        value_bytes(self.parts.ledger.journal())
+        self.parts.ledger.value_bytes()
     }
 
     /// The rows of all tablets, of a lane that is not spent.

@@ -24,8 +24,6 @@ mod seen;
 mod sends;
 mod short;
 mod splits;
-#[cfg(test)]
-mod tests;
 mod turns;
 mod visiting;
 mod working;

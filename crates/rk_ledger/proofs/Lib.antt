@@ -1,7 +1,10 @@
 pub mod Entries
+pub mod Kept
 pub mod Named
 pub mod Noted
 pub mod Places
 pub mod Positions
 pub mod Rebuilds
+pub mod Rising
 pub mod Stamps
+pub mod Values

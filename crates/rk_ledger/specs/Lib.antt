@@ -3,3 +3,4 @@ pub mod Growing
 pub mod Lane
 pub mod Noted
 pub mod Places
+pub mod Values

@@ -5,10 +5,11 @@ use Rattle.std.specs.declared.cmp.Ordering.{Ordering}
 use Rattle.std.specs.Ordering.{nat_cmp, ordering_then}
 use Rattle.std.specs.BTreeMap.{BTreeMap, get}
 use Rattle.rk_types.specs.declared.history.Placed.{Placed}
-use Rattle.rk_model.specs.Merged.{is_mutation}
+use Rattle.rk_model.specs.Merged.{IsRisingAbove, is_mutation}
 use Rattle.rk_world.specs.Journal.{is_of_call, is_of_mutation}
 use Rattle.rk_ledger.specs.declared.call_index.CallIndex.{CallIndex}
 use Rattle.rk_ledger.specs.declared.call_index.Noted.{Noted}
+use Rattle.rk_ledger.specs.Values.{value_bytes}
 
 -- the order of clients with a seq: by client, and then by seq
 abbrev pub name_cmp : ℕ × ℕ → ℕ × ℕ → Ordering
@@ -90,7 +91,13 @@ pub record IsIndex (index : CallIndex) (records : List Placed) : Type 0 where
   pub noted_is : (client seq : ℕ) → noted_in index client seq ≡ noted records client seq
   pub there : All (λ placed. has_note index placed.call.client placed.call.seq ≡ true) records
 
--- what is kept beside the records of a journal: their index, and how many are accepted
-pub record IsKept (index : CallIndex) (accepted : ℕ) (records : List Placed) : Type 0 where
+-- the index is that of these records, and so many of them are accepted
+pub record IsCounted (index : CallIndex) (accepted : ℕ) (records : List Placed) : Type 0 where
   pub index_is : IsIndex index records
   pub accepted_is : accepted ≡ accepted_count records
+
+-- what is kept beside the records of a journal, whose stamps rise: their index, how many are accepted, and the bytes of their values
+pub record IsKept (index : CallIndex) (accepted bytes : ℕ) (records : List Placed) : Type 0 where
+  pub counted : IsCounted index accepted records
+  pub bytes_are : bytes ≡ value_bytes records
+  pub rising : IsRisingAbove 0 records

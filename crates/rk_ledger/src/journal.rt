@@ -1,20 +1,23 @@
 ghost use Rattle.std.specs.Prelude.{◌≡◌, ◌+◌, ◌-◌, max, true, false, [], ◌∷◌, ◌++◌, length, position, slice_get, take, IfOk, OnOk, OnErr};
-ghost use Rattle.rk_model.specs.Merged.{is_mutation as is_mutation_lem};
+ghost use Rattle.rk_model.specs.Merged.{IsRisingAbove, is_mutation as is_mutation_lem};
 ghost use Rattle.rk_world.specs.Journal.{accepted_at, has_record as has_record_lem, is_accepted as is_accepted_lem, is_of_mutation, last_stamp as last_stamp_lem, next_record};
-ghost use Rattle.rk_ledger.specs.Noted.{IsIndex, IsKept, accepted_count};
+ghost use Rattle.rk_ledger.specs.Noted.{IsCounted, IsIndex, IsKept, accepted_count};
+ghost use Rattle.rk_ledger.specs.Values as values;
 
 use crate::call_index::CallIndex;
 use rk_types::{Call, NoMemory, Op, Outcome, Placed};
 use std::alloc::Global;
 use std::marker::Model;
 
-/// The records of the calls that were carried out, oldest first. What there is of a call is found by client and seq.
-/// Contracts see the records.
+/// The records of the calls that were carried out, oldest first, by rising stamps. What there is of a call is found by client
+/// and seq. Contracts see the records.
 #[derive(Drop)]
 pub(crate) struct Journal {
     records: Vec<Placed>,
     index: CallIndex,
     accepted: u64,
+    // The bytes of the values of all records.
+    bytes: u64,
 }
 
 impl Model for Journal {
@@ -26,7 +29,7 @@ impl Model for Journal {
 
     ghost view = { λ journal. journal.records.items };
 
-    ghost invariant = { λ journal. IsKept journal.index journal.accepted journal.records.items };
+    ghost invariant = { λ journal. IsKept journal.index journal.accepted journal.bytes journal.records.items };
 }
 
 impl Journal {
@@ -38,12 +41,14 @@ impl Journal {
             records: Vec::new(alloc),
             index: CallIndex::new(alloc),
             accepted: 0,
+            bytes: 0,
         }
     }
 
     /// The records, lent.
     pub(crate) fn records(&self) -> &[Placed]
-        ensures { result.now ≡ self.now }
+        ensures value { result.now ≡ self.now }
+        ensures rising { IsRisingAbove 0 self.now }
     {
         self.records.as_slice()
     }
@@ -60,6 +65,13 @@ impl Journal {
         ensures { result ≡ accepted_count self.now }
     {
         self.accepted
+    }
+
+    /// The bytes of the values in the calls and outcomes of the records. One step.
+    pub(crate) fn value_bytes(&self) -> u64
+        ensures { result ≡ values.value_bytes self.now }
+    {
+        self.bytes
     }
 
     /// The place of the record of the mutation of a client with a seq. One search.
@@ -84,7 +96,7 @@ impl Journal {
     }
 
     /// Puts the record of a call at the end, with a stamp above that of the last record and above what its client had seen.
-    /// `NoMemory` comes also where that stamp does not fit; nothing has changed then. A few searches.
+    /// `NoMemory` comes also where that stamp or the bytes of all values do not fit; nothing has changed then. A few searches.
     pub(crate) fn add(&mut self, call: Call, outcome: Outcome, seen: u64) -> Result<(), NoMemory>
         ensures ok { OnOk result (self.new ≡ self.old ++ next_record self.old call outcome seen ∷ []) }
         ensures err { OnErr result (self.new ≡ self.old) }
@@ -96,7 +108,10 @@ impl Journal {
             stamp,
             accepted: false,
         };
-        put(&mut self.records, &mut self.index, placed)
+        let bytes = more_bytes(self.bytes, &placed)?;
+        put(&mut self.records, &mut self.index, placed)?;
+        self.bytes = bytes;
+        Ok(())
     }
 
     /// Accepts the record at a place, if there is one. Two searches; takes no memory.
@@ -115,7 +130,12 @@ impl Journal {
     pub(crate) fn drop_last(&mut self)
         ensures { self.new ≡ take (length self.old - 1) self.old }
     {
-        pop(&mut self.records, &mut self.index, &mut self.accepted);
+        pop(
+            &mut self.records,
+            &mut self.index,
+            &mut self.accepted,
+            &mut self.bytes,
+        );
     }
 }
 
@@ -142,6 +162,28 @@ fn next_stamp(records: &[Placed], seen: u64) -> Result<u64, NoMemory>
 {
     let highest = last_stamp(records).max(seen);
     highest.checked_add(1).ok_or(NoMemory)
+}
+
+// The bytes of the values of a record.
+fn record_bytes(placed: &Placed) -> u64
+    ensures { result ≡ values.record_bytes placed.now }
+{
+    let written = match &placed.call.op {
+        Op::Put(value) | Op::CondPut(_, value) => value.bytes().len(),
+        Op::Get | Op::Delete => 0,
+    };
+    let found = match &placed.outcome {
+        Outcome::Found(_, value) => value.bytes().len(),
+        _ => 0,
+    };
+    written as u64 + found as u64
+}
+
+// So many bytes with those of one more record, where they fit.
+fn more_bytes(bytes: u64, placed: &Placed) -> Result<u64, NoMemory>
+    ensures { IfOk result (λ more. more ≡ bytes + values.record_bytes placed.now) }
+{
+    bytes.checked_add(record_bytes(placed)).ok_or(NoMemory)
 }
 
 // Puts a record at the end that is not accepted.
@@ -173,8 +215,8 @@ fn note(index: &mut CallIndex, placed: &Placed, records: &[Placed]) -> Result<()
 
 // Accepts the record at a place, if there is one.
 fn accept_at(records: &mut Vec<Placed>, index: &mut CallIndex, accepted: &mut u64, place: u64)
-    requires { IsKept index.old accepted.old records.old.items }
-    ensures kept { IsKept index.new accepted.new records.new.items }
+    requires { IsCounted index.old accepted.old records.old.items }
+    ensures counted { IsCounted index.new accepted.new records.new.items }
     ensures records { records.new.items ≡ accepted_at records.old.items place (slice_get records.old.items place) }
 {
     let Some(record) = records.get_mut(place as usize) else {
@@ -191,15 +233,16 @@ fn accept_at(records: &mut Vec<Placed>, index: &mut CallIndex, accepted: &mut u6
 }
 
 // Takes the last record away, if there is one.
-fn pop(records: &mut Vec<Placed>, index: &mut CallIndex, accepted: &mut u64)
-    requires { IsKept index.old accepted.old records.old.items }
-    ensures kept { IsKept index.new accepted.new records.new.items }
+fn pop(records: &mut Vec<Placed>, index: &mut CallIndex, accepted: &mut u64, bytes: &mut u64)
+    requires { IsKept index.old accepted.old bytes.old records.old.items }
+    ensures kept { IsKept index.new accepted.new bytes.new records.new.items }
     ensures records { records.new.items ≡ take (length records.old.items - 1) records.old.items }
 {
     let Some(placed) = records.pop() else {
         return;
     };
     forget(index, &placed, records.as_slice());
+    *bytes -= record_bytes(&placed);
     if placed.accepted {
         *accepted -= 1;
     }

@@ -1,12 +1,14 @@
 ghost use Rattle.std.specs.Prelude.{◌≡◌, ◌<◌, ◌-◌, ◌^◌, true, length, take, if◌then◌else◌, Some, OnOk, OnErr};
 ghost use Rattle.std.specs.Option.{option_copied};
 ghost use Rattle.rk_types.specs.NumberMap.{get};
+ghost use Rattle.rk_model.specs.Merged.{IsRisingAbove};
 ghost use Rattle.rk_world.specs.Journal.{has_record as has_record_lem, is_accepted as is_accepted_lem, last_stamp as last_stamp_lem};
 ghost use Rattle.rk_world.specs.Ledger.{asked_by, is_added as is_added_lem, new_ledger};
 ghost use Rattle.rk_world.specs.Ledger as ledgers;
 ghost use Rattle.rk_world.specs.Replies.{filled};
 ghost use Rattle.rk_ledger.specs.Growing.{with_journal};
 ghost use Rattle.rk_ledger.specs.Noted.{accepted_count};
+ghost use Rattle.rk_ledger.specs.Values as values;
 
 use crate::clients::Clients;
 use crate::fill::fill_body;
@@ -113,9 +115,10 @@ impl LedgerLane {
         self.clients.request(client)
     }
 
-    /// The journal: the records of the calls that were carried out, oldest first; lent.
+    /// The journal: the records of the calls that were carried out, oldest first, by rising stamps; lent.
     pub fn journal(&self) -> &[Placed]
-        ensures { result.now ≡ self.now.journal }
+        ensures value { result.now ≡ self.now.journal }
+        ensures rising { IsRisingAbove 0 self.now.journal }
     {
         self.journal.records()
     }
@@ -132,6 +135,13 @@ impl LedgerLane {
         ensures { result ≡ accepted_count self.now.journal }
     {
         self.journal.accepted()
+    }
+
+    /// The bytes of the values in the calls and outcomes of the journal; they are kept, not counted. One step.
+    pub fn value_bytes(&self) -> u64
+        ensures { result ≡ values.value_bytes self.now.journal }
+    {
+        self.journal.value_bytes()
     }
 
     /// Whether the mutation of a client with a seq has its record. One search.
@@ -156,8 +166,8 @@ impl LedgerLane {
     }
 
     /// Served calls get their records, in their order: a read with what its request had seen, a mutation with what its client
-    /// had seen when it asked, unless it has one. `NoMemory` comes also where a stamp does not fit; nothing has changed
-    /// then. For each call a few searches, and the time to copy it and its outcome.
+    /// had seen when it asked, unless it has one. `NoMemory` comes also where a stamp or the bytes of the journal's values do
+    /// not fit; nothing has changed then. For each call a few searches, and the time to copy it and its outcome.
     pub fn serve(&mut self, seen: u64, served: &[Served]) -> Result<(), NoMemory>
         ensures ok { OnOk result (self.new ≡ ledgers.with_all_served seen self.old served.now) }
         ensures err { OnErr result (self.new ≡ self.old) }
@@ -183,8 +193,9 @@ impl LedgerLane {
     }
 
     /// A rebuild of a tablet is taken: each end of a client's last call here makes a record, unless that call has one, and no
-    /// log has a mark of the tablet any more that was made at its term or before. `NoMemory` comes also where a stamp does
-    /// not fit; nothing has changed then. For each end a few searches and the time to copy a call, and a step for each mark.
+    /// log has a mark of the tablet any more that was made at its term or before. `NoMemory` comes also where a stamp or the
+    /// bytes of the journal's values do not fit; nothing has changed then. For each end a few searches and the time to copy a
+    /// call, and a step for each mark.
     pub fn take_rebuilt(&mut self, rebuilt: &Rebuilt) -> Result<(), NoMemory>
         ensures ok { OnOk result (self.new ≡ ledgers.with_rebuilt self.old (Some rebuilt.now)) }
         ensures err { OnErr result (self.new ≡ self.old) }

@@ -16,5 +16,3 @@ mod fill;
 mod journal;
 mod ledger_lane;
 mod recording;
-#[cfg(test)]
-mod tests;

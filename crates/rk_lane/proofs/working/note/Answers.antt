@@ -14,7 +14,7 @@ returns-in_default-mark-clause-err c =
     record {
       journal =
           ap (λ (l : Ledger). l.journal) left
-          ∙ ap (λ (journal : List Placed). take (length journal) (with_all_served c.args.seen old c.args.served.now).journal) c.journal-records.ensures
+          ∙ ap (λ (journal : List Placed). take (length journal) (with_all_served c.args.seen old c.args.served.now).journal) c.journal-records.ensures.value
           ∙ cut_to old (with_all_served c.args.seen old c.args.served.now) grown;
       asked = ap (λ (l : Ledger). l.asked) left ∙ grown.asked;
       clients = ap (λ (l : Ledger). l.clients) left ∙ grown.clients;

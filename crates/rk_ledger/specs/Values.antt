@@ -1,4 +1,4 @@
--- How many bytes of values a journal has.
+-- How many bytes the values of a journal have.
 use Rattle.std.specs.Prelude.{ℕ, ◌+◌, List, length}
 use Rattle.std.specs.List.{sum_by}
 use Rattle.rk_types.specs.declared.call.Op.{Op}
