@@ -23,6 +23,7 @@ use Rattle.rk_cluster.specs.Codes.{code_where, crash_code, first_code}
 use Rattle.rk_cluster.specs.Crashing.{IsSameBeside, crashes}
 use Rattle.rk_cluster.specs.Effects.{ActsOne, HasCode, IsActedAs}
 use Rattle.rk_cluster.specs.Looks.{is_dead, is_master, is_other_alive}
+use Rattle.rk_cluster.specs.Masters.{backup_counts}
 use Rattle.rk_cluster.specs.State.{AreWorlds}
 use Rattle.rk_cluster.specs.Steps.{AreLanes, CarriesSteps, IsHappening, MayComeAt, occurrences, state_of}
 use Rattle.rk_cluster.specs.Tests.{HoldsIn}
@@ -76,6 +77,7 @@ module _ {R : Type 0} (segments : R → Option Segments) where
     pub carries : CarriesSteps segments old now (crashes master) (crashes_from master lane)
     pub lanes : AreLanes masters 0 now
     pub count : length now ≡ length old
+    pub backups : backup_counts now ≡ backup_counts old
     pub rest : (place : ℕ) → lane ≤ place → slice_get now place ≡ slice_get old place
 
   pub crashing_none : (lanes : List (LaneState R)) (masters master : ℕ) → AreLanes masters 0 lanes → IsCrashing lanes lanes masters master 0
@@ -83,6 +85,7 @@ module _ {R : Type 0} (segments : R → Option Segments) where
     carries = λ sessions. carries_all segments (state_of lanes sessions) (occurrences (crashes master));
     lanes = are;
     count = refl;
+    backups = refl;
     rest = λ place past. refl;
   }
 
@@ -92,14 +95,15 @@ module _ {R : Type 0} (segments : R → Option Segments) where
       ap (λ (count : ℕ). map (λ (n : ℕ). record { lane = n; event = events.Crash master }) (range_with_len lane count)) left
 
   pub crashing_one : (old now next : List (LaneState R)) (masters master lane : ℕ) → lane < LANES → IsHappening segments now next lane (events.Crash master) None
-      → IsSameBeside lane now next → ((count : ℕ) → AreLanes count 0 now → AreLanes count 0 next) → length next ≡ length now
+      → IsSameBeside lane now next → ((count : ℕ) → AreLanes count 0 now → AreLanes count 0 next) → length next ≡ length now → backup_counts next ≡ backup_counts now
       → IsCrashing old now masters master lane → IsCrashing old next masters master (lane + 1)
-  crashing_one old now next masters master lane within happening beside keeps same before = record {
+  crashing_one old now next masters master lane within happening beside keeps same backed before = record {
     carries = λ sessions. carries_one segments (state_of old sessions) (state_of now sessions) (state_of next sessions) (occurrences (crashes master))
         (occurrences (crashes_from master (lane + 1))) (Happens lane (events.Crash master) (Gave None)) (happens_crash now next lane master happening sessions)
         (subst (CarriesSteps segments old now (crashes master)) (next_crash master lane within) before.carries sessions);
     lanes = keeps masters before.lanes;
     count = same ∙ before.count;
+    backups = backed ∙ before.backups;
     rest = λ place past. beside place (λ is. absurd (omega (arith, past, is))) ∙ before.rest place (omega (arith, past));
   }
 

@@ -18,6 +18,7 @@ use Rattle.rk_lane.specs.Events.{MayComeTo}
 use Rattle.rk_lane.specs.LaneState.{LaneState}
 use Rattle.rk_cluster.specs.Acted.{worn_in}
 use Rattle.rk_cluster.specs.Effects.{Acts, ActsOne, IsActedAs}
+use Rattle.rk_cluster.specs.Masters.{backup_counts}
 use Rattle.rk_cluster.specs.Steps.{AreLanes, CarriesSteps, IsDeed, IsHappening, IsPlain, MayComeAt, occurrences, state_of}
 use Rattle.rk_cluster.specs.declared.steps.Deed.{Deed}
 use Rattle.rk_cluster.proofs.Carrying.{carries_all, carries_one, carries_worn}
@@ -74,12 +75,14 @@ module _ {R : Type 0} (segments : R → Option Segments) where
     pub carries : CarriesSteps segments old now deeds (drop index deeds)
     pub lanes : AreLanes masters 0 now
     pub count : length now ≡ length old
+    pub backups : backup_counts now ≡ backup_counts old
 
   pub acting_none : (lanes : List (LaneState R)) (masters : ℕ) (deeds : List Deed) → AreLanes masters 0 lanes → IsActing lanes lanes masters deeds 0
   acting_none lanes masters deeds are = record {
     carries = λ sessions. carries_all segments (state_of lanes sessions) (occurrences deeds);
     lanes = are;
     count = refl;
+    backups = refl;
   }
 
   -- the next one comes of what is left
@@ -90,14 +93,15 @@ module _ {R : Type 0} (segments : R → Option Segments) where
 
   pub acting_one : (old now next : List (LaneState R)) (masters : ℕ) (deeds : List Deed) (index : ℕ) (deed d : Deed) → index < length deeds → deed ≡ slice_index_or deeds index d
       → IsDeed (length old) masters deed → IsHappening segments now next deed.lane deed.event None
-      → ((count : ℕ) → AreLanes count 0 now → AreLanes count 0 next) → length next ≡ length now
+      → ((count : ℕ) → AreLanes count 0 now → AreLanes count 0 next) → length next ≡ length now → backup_counts next ≡ backup_counts now
       → IsActing old now masters deeds index → IsActing old next masters deeds (index + 1)
-  acting_one old now next masters deeds index deed d within there may happening keeps same before = record {
+  acting_one old now next masters deeds index deed d within there may happening keeps same backed before = record {
     carries = λ sessions. carries_one segments (state_of old sessions) (state_of now sessions) (state_of next sessions) (occurrences deeds) (occurrences (drop (index + 1) deeds))
         (Happens deed.lane deed.event (Gave None)) (happens_plain now next deed.lane deed.event None may.plain happening sessions)
         (carries_next old now deeds index deed d within there before.carries sessions);
     lanes = keeps masters before.lanes;
     count = same ∙ before.count;
+    backups = backed ∙ before.backups;
   }
 
   pub acting_worn : (old now next : List (LaneState R)) (masters : ℕ) (deeds : List Deed) (index : ℕ) (deed d : Deed) (number : ℕ) → index < length deeds → deed ≡ slice_index_or deeds index d

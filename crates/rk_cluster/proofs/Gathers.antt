@@ -9,6 +9,7 @@ use Rattle.std.specs.Global.{Vec}
 use Rattle.rk_types.specs.declared.hashing.TheConstants.{LANES}
 use Rattle.rk_lane.specs.LaneState.{LaneState, replicas_of}
 use Rattle.rk_cluster.specs.Dealt.{AreDealt, IsEighth}
+use Rattle.rk_cluster.specs.Masters.{HasBackups}
 use Rattle.rk_cluster.proofs.Eighths.{each_eighth, eighth_apart, eighth_count, eighth_here, eighth_is, eighth_many, set_here}
 use Rattle.rk_cluster.proofs.Worlds.{all_at, set_beside, something_within}
 
@@ -130,6 +131,11 @@ gathering_all all hands things place most eight past gathering count few equal =
       λ at. ap (λ items. slice_get items at) (sym whole) ∙ eighth_is things lane within at;
 }
 
+-- as many as all have together
+pub gathering_count : {X : Type 0} (all hands : List (Vec X)) (things : List X) (place most : ℕ) → LANES * most ≤ place → IsGathering all hands things place
+    → (count : ℕ) → count ≤ most → All (HasSoMany count) all → length things ≡ LANES * count
+gathering_count all hands things place most past gathering count few equal = omega (arith, (gathering.gathered count equal).taken, past, few)
+
 -- ---- replicas of lanes
 
 module _ {R : Type 0} where
@@ -137,7 +143,7 @@ module _ {R : Type 0} where
   abbrev pub AreOfLanes : List (Vec R) → List (LaneState R) → Type 0
   AreOfLanes hands lanes = map (λ (hand : Vec R). hand.items) hands ≡ map (λ (lane : LaneState R). replicas_of lane.backups) lanes
 
-  hands_many : (count : ℕ) (hands : List (Vec R)) (lanes : List (LaneState R)) → AreOfLanes hands lanes → All (λ (lane : LaneState R). length lane.backups ≡ count) lanes
+  pub hands_many : (count : ℕ) (hands : List (Vec R)) (lanes : List (LaneState R)) → AreOfLanes hands lanes → All (HasBackups count) lanes
       → All (HasSoMany count) hands
   hands_many count [] lanes same many = All-nil (HasSoMany count)
   hands_many count (hand ∷ hands) [] same many = absurd (cc same)
@@ -146,8 +152,8 @@ module _ {R : Type 0} where
       let rest : AreOfLanes hands lanes = cc same in
       let backups : length (replicas_of lane.backups) ≡ length lane.backups = length-map lane.backups _ in
       All-cons (HasSoMany count) hand hands
-      (ap (λ (list : List R). length list) its ∙ backups ∙ All-head (λ (l : LaneState R). length l.backups ≡ count) lane lanes many)
-      (hands_many count hands lanes rest (All-tail (λ (l : LaneState R). length l.backups ≡ count) lane lanes many))
+      (ap (λ (list : List R). length list) its ∙ backups ∙ All-head (HasBackups count) lane lanes many)
+      (hands_many count hands lanes rest (All-tail (HasBackups count) lane lanes many))
 
   -- what was gathered of them
   by_lane : (at : ℕ → List R → Type 0) (hands : List (Vec R)) (lanes : List (LaneState R)) (place : ℕ) (lane : LaneState R) → AreOfLanes hands lanes
@@ -162,10 +168,6 @@ module _ {R : Type 0} where
       let rest : AreOfLanes hands lanes = cc same in
       by_lane (λ (n : ℕ). at (suc n)) hands lanes place lane rest there each
 
-  pub gathered_of : (most : ℕ) (hands : List (Vec R)) (lanes : List (LaneState R)) (things : List R) → AreOfLanes hands lanes
-      → ((count : ℕ) → count ≤ most → All (HasSoMany count) hands → AreDealt things hands) → (backups : ℕ) → backups ≤ most
-      → All (λ (lane : LaneState R). length lane.backups ≡ backups) lanes → (number : ℕ) (lane : LaneState R) → slice_get lanes number ≡ Some lane
-      → IsEighth things number (replicas_of lane.backups)
-  gathered_of most hands lanes things same gathered backups few many number lane there =
-      let dealt = gathered backups few (hands_many backups hands lanes same many) in
-      by_lane (IsEighth things) hands lanes number lane same there (dealt.each number)
+  pub gathered_of : (hands : List (Vec R)) (lanes : List (LaneState R)) (things : List R) → AreOfLanes hands lanes → AreDealt things hands
+      → (number : ℕ) (lane : LaneState R) → slice_get lanes number ≡ Some lane → IsEighth things number (replicas_of lane.backups)
+  gathered_of hands lanes things same dealt number lane there = by_lane (IsEighth things) hands lanes number lane same there (dealt.each number)

@@ -15,6 +15,7 @@ use Rattle.rk_world.specs.World.{World, new_backups, new_world}
 use Rattle.rk_lane.specs.LaneState.{AreTold, LaneState, Running, replicas_of, world_with}
 use Rattle.rk_cluster.specs.Dealt.{AreDealt, IsEighth}
 use Rattle.rk_cluster.specs.Fresh.{AreEmpty, AreMadeOf, IsHand, IsMadeOf, IsNewLane}
+use Rattle.rk_cluster.specs.Masters.{HasBackups}
 use Rattle.rk_cluster.specs.State.{AreWorlds, ClusterState, IsOf, IsWorld}
 use Rattle.rk_cluster.specs.Steps.{AreLanes, state_of}
 use Rattle.rk_cluster.proofs.Worlds.{all_at, something_within}
@@ -188,6 +189,12 @@ module _ {R : Type 0} (segments : R → Option Segments) (masters : ℕ) where
         subst (λ (n : ℕ). IsNewLane masters backups n lane) (omega arith) (subst (λ (n : ℕ). IsNewLane masters n (0 + number) lane) count it.new),
         λ place. ap (λ (list : List R). slice_get list place) it.replicas_are ∙ share place,
       )
+
+  -- and as many backups as the others
+  pub made_backed : (backups : ℕ) (replicas : List R) (hands : List (Vec R)) (lanes : List (LaneState R)) → length replicas ≡ LANES * backups → AreDealt replicas hands
+      → AreMadeOf segments masters 0 hands lanes → All (HasBackups backups) lanes
+  made_backed backups replicas hands lanes many dealt are =
+      all_places (HasBackups backups) lanes (λ number lane there. (made_here backups replicas hands lanes number lane many dealt are there).0.backups_are)
 
 -- ---- one lane
 

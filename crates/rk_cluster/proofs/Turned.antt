@@ -13,6 +13,7 @@ use Rattle.rk_lane.specs.LaneState.{LaneState, Running, world_with}
 use Rattle.rk_cluster.specs.Acted.{all_acted}
 use Rattle.rk_cluster.specs.Effects.{Acts, ActsBy, ActsOne, Carries, IsActedAs}
 use Rattle.rk_cluster.specs.Makes.{asks_in, in_lane, turn_makes}
+use Rattle.rk_cluster.specs.Masters.{backup_counts}
 use Rattle.rk_cluster.specs.State.{ClusterState, IsOf, IsWorld}
 use Rattle.rk_cluster.specs.Steps.{AreLanes, CarriesSteps, EndsWorn, MayAllAct, StepsEndWorn, occurrences, state_of}
 use Rattle.rk_cluster.specs.Turns.{clients_in, live_in, turns_of}
@@ -33,6 +34,7 @@ module _ {R : Type 0} (segments : R → Option Segments) where
     pub carries : Carries segments start now (all_ask lane clients) (all_ask lane (drop index clients))
     pub lanes : AreLanes masters 0 now.lanes
     pub count : length now.lanes ≡ length start.lanes
+    pub backups : backup_counts now.lanes ≡ backup_counts start.lanes
     pub acts : MayAllAct masters now.sessions
     pub have : All (HasSession now.sessions) clients
 
@@ -42,6 +44,7 @@ module _ {R : Type 0} (segments : R → Option Segments) where
     carries = carries_all segments start (all_ask lane clients);
     lanes = are;
     count = refl;
+    backups = refl;
     acts = act;
     have = has;
   }
@@ -55,14 +58,16 @@ module _ {R : Type 0} (segments : R → Option Segments) where
       (drop_next clients index d within ∙ ap (λ (it : ℕ). it ∷ drop (index + 1) clients) (sym there)) carries
 
   pub asking_one : (start now next : ClusterState R) (masters lane : ℕ) (clients : List ℕ) (index client d : ℕ) → index < length clients → client ≡ slice_index_or clients index d
-      → ActsOne segments now next (Asks lane client) [] None → AreLanes masters 0 next.lanes → length next.lanes ≡ length now.lanes → MayAllAct masters next.sessions
+      → ActsOne segments now next (Asks lane client) [] None → AreLanes masters 0 next.lanes → length next.lanes ≡ length now.lanes
+      → backup_counts next.lanes ≡ backup_counts now.lanes → MayAllAct masters next.sessions
       → ((other : ℕ) → HasSession now.sessions other → HasSession next.sessions other)
       → IsAsking start now masters lane clients index → IsAsking start next masters lane clients (index + 1)
-  asking_one start now next masters lane clients index client d within there one are same act keeps before = record {
+  asking_one start now next masters lane clients index client d within there one are same backed act keeps before = record {
     carries = carries_one segments start now next (all_ask lane clients) (all_ask lane (drop (index + 1) clients)) (Asks lane client) one
         (asks_next start now lane clients index client d within there before.carries);
     lanes = are;
     count = same ∙ before.count;
+    backups = backed ∙ before.backups;
     acts = act;
     have = All-weaker (HasSession now.sessions) (HasSession next.sessions) keeps clients before.have;
   }

@@ -4,6 +4,7 @@ use Rattle.std.proofs.lemmas.List.Elements.{All-head, All-tail}
 use Rattle.rk_outside.specs.Segments.{Segments}
 use Rattle.rk_world.specs.World.{World}
 use Rattle.rk_lane.specs.LaneState.{IsSameLane, LaneState}
+use Rattle.rk_cluster.specs.Masters.{backup_counts}
 use Rattle.rk_cluster.specs.State.{AreWorlds, IsWorld}
 use Rattle.rk_cluster.specs.Steps.{AreLanes}
 
@@ -98,3 +99,12 @@ module _ {R : Type 0} (masters : ℕ) where
   masters_at from [] place lane there are = absurd (cc there)
   masters_at from (first ∷ lanes) zero lane there are = let is : first ≡ lane = cc there in ap (λ (it : LaneState R). it.masters) (sym is) ∙ are.1
   masters_at from (first ∷ lanes) (suc place) lane there are = masters_at (from + 1) lanes place lane there are.2
+
+-- a lane with as many backups in the place of one leaves how many each has
+pub counts_set : {R : Type 0} (lanes : List (LaneState R)) (place : ℕ) (old new : LaneState R) → slice_get lanes place ≡ Some old → IsSameLane old new
+    → backup_counts (slice_set lanes place new) ≡ backup_counts lanes
+counts_set [] place old new there same = refl
+counts_set {R = R} (first ∷ lanes) zero old new there same =
+    let is : first ≡ old = cc there in
+    ap (λ (count : ℕ). count ∷ backup_counts lanes) (same.backups ∙ ap (λ (it : LaneState R). length it.backups) (sym is))
+counts_set (first ∷ lanes) (suc place) old new there same = ap (λ (counts : List ℕ). length first.backups ∷ counts) (counts_set lanes place old new there same)

@@ -1,4 +1,4 @@
-ghost use Rattle.std.specs.Prelude.{◌≡◌, ◌≤◌, ◌<◌, [], length, None, Some, IfOk, IfErr, IfSome, OnOk};
+ghost use Rattle.std.specs.Prelude.{◌≡◌, ◌≤◌, ◌<◌, [], All, length, None, Some, IfOk, IfErr, IfSome, OnOk};
 ghost use Rattle.std.specs.Option.{option_copied};
 ghost use Rattle.rk_types.specs.NumberMap.{get};
 ghost use Rattle.rk_types.specs.declared.hashing.TheConstants.{LANES};
@@ -8,7 +8,7 @@ ghost use Rattle.rk_cluster.specs.Codes.{client_code, notice_code, place_code};
 ghost use Rattle.rk_cluster.specs.Delivering.{Delivers, IsDelivery};
 ghost use Rattle.rk_cluster.specs.Effects.{ActsOne, BySomeCall, EndsIn, IsCarriedOut};
 ghost use Rattle.rk_cluster.specs.Makes.{client_makes, deliver_makes, forget_makes, notice_makes};
-ghost use Rattle.rk_cluster.specs.Masters.{masters_of};
+ghost use Rattle.rk_cluster.specs.Masters.{HasBackups, backups_of, masters_of};
 ghost use Rattle.rk_cluster.specs.State.{has_spent};
 ghost use Rattle.rk_cluster.specs.Steps.{AreLanes, WhereWorn};
 ghost use Rattle.rk_cluster.specs.Visits.{HasSession};
@@ -44,6 +44,8 @@ const MOST_CLIENTS: usize = 64;
 pub struct Cluster<R> {
     // How many masters each lane has.
     masters: u8,
+    // How many backups each lane has.
+    backups: u8,
     lanes: Vec<Lane<R>>,
     sessions: BTreeMap<u32, Session>,
 }
@@ -61,16 +63,19 @@ impl<R> Model for Cluster<R> {
 }
 
 impl<R: Replica + Drop> Cluster<R> {
-    /// A cluster of eight lanes, lane 0 first, with so many masters each; no client has a session. Takes no memory.
-    pub fn new(alloc: Global, masters: u8, lanes: Vec<Lane<R>>) -> Cluster<R>
+    /// A cluster of eight lanes, lane 0 first, with so many masters and backups each; no client has a session. Takes no memory.
+    pub fn new(alloc: Global, masters: u8, backups: u8, lanes: Vec<Lane<R>>) -> Cluster<R>
         requires eight { length lanes.items ≡ LANES }
         requires lanes { AreLanes masters 0 lanes.items }
         requires masters { IsMaster MOST_MASTERS masters }
+        requires backups { All (HasBackups backups) lanes.items }
         ensures lanes { result.lanes ≡ lanes.items }
         ensures sessions { result.sessions ≡ [] }
+        ensures backups { backups_of result ≡ backups }
     {
         Cluster {
             masters,
+            backups,
             lanes,
             sessions: BTreeMap::new(alloc),
         }
@@ -104,6 +109,7 @@ impl<R: Replica + Drop> Cluster<R> {
             (λ cluster. client_code cluster client) (λ cluster. client_makes cluster client) said.items) }
         ensures err { IfErr result (EndsIn R.segments self.old self.new (λ cluster. client_code cluster client)
             (λ cluster. client_makes cluster client)) }
+        ensures backups { backups_of self.new ≡ backups_of self.old }
     {
         if has_session(&self.sessions, client) {
             return Err(ClusterError::Code(Code::Taken));
@@ -134,6 +140,7 @@ impl<R: Replica + Drop> Cluster<R> {
         ensures ok { OnOk result (ActsOne R.segments self.old self.new (Asks lane client) [] None) }
         ensures err { IfErr result (WhereWorn (λ number. ActsOne R.segments self.old self.new (Asks lane client) [] (Some number))) }
         ensures masters { masters_of self.new ≡ masters_of self.old }
+        ensures backups { backups_of self.new ≡ backups_of self.old }
     {
         ask_in(
             &mut self.lanes,
@@ -150,6 +157,7 @@ impl<R: Replica + Drop> Cluster<R> {
             (λ cluster. notice_code cluster master) (λ cluster. notice_makes cluster master) said.items) }
         ensures err { IfErr result (EndsIn R.segments self.old self.new (λ cluster. notice_code cluster master)
             (λ cluster. notice_makes cluster master)) }
+        ensures backups { backups_of self.new ≡ backups_of self.old }
     {
         let alloc = self.alloc();
         let first = &self.lanes[0];
@@ -175,6 +183,7 @@ impl<R: Replica + Drop> Cluster<R> {
         ensures ok { IfOk result (λ delivered. BySomeCall (IsDelivery R.segments self.old self.new lane number delivered)) }
         ensures err { IfErr result (WhereWorn (λ worn. Delivers R.segments self.old self.new lane number [] (Some worn))) }
         ensures masters { masters_of self.new ≡ masters_of self.old }
+        ensures backups { backups_of self.new ≡ backups_of self.old }
     {
         deliver_in(
             &mut self.lanes,
@@ -193,6 +202,7 @@ impl<R: Replica + Drop> Cluster<R> {
             (λ cluster. place_code cluster lane place) (λ cluster. deliver_makes cluster lane place called) said.items)) }
         ensures err { IfErr result (λ e. BySomeCall (λ called. EndsIn R.segments self.old self.new
             (λ cluster. place_code cluster lane place) (λ cluster. deliver_makes cluster lane place called) e)) }
+        ensures backups { backups_of self.new ≡ backups_of self.old }
     {
         let alloc = self.alloc();
         let Some(number) = self.lanes[lane as usize].wire().at(place) else {
@@ -210,6 +220,7 @@ impl<R: Replica + Drop> Cluster<R> {
             (λ cluster. place_code cluster lane place) (λ cluster. forget_makes cluster lane place) said.items) }
         ensures err { IfErr result (EndsIn R.segments self.old self.new (λ cluster. place_code cluster lane place)
             (λ cluster. forget_makes cluster lane place)) }
+        ensures backups { backups_of self.new ≡ backups_of self.old }
     {
         let alloc = self.alloc();
         let Some(number) = self.lanes[lane as usize].wire().at(place) else {

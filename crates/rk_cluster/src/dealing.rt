@@ -1,5 +1,5 @@
 // How things are dealt to lanes, and gathered again.
-ghost use Rattle.std.specs.Prelude.{◌≡◌, ◌≤◌, ◌++◌, ℕ, [], All, drop, length, take, IfOk, OnOk};
+ghost use Rattle.std.specs.Prelude.{◌≡◌, ◌≤◌, ◌*◌, ◌++◌, ℕ, [], All, drop, length, take, IfOk, OnOk};
 ghost use Rattle.rk_types.specs.declared.hashing.TheConstants.{LANES as lane_count};
 ghost use Rattle.rk_cluster.specs.Dealt.{AreDealt};
 
@@ -27,8 +27,10 @@ pub(crate) fn gather<T: Drop>(
     most: u8,
 ) -> Result<Vec<T>, NoMemory>
     requires { length hands.old.items ≡ lane_count }
-    ensures { IfOk result (λ things. (count : ℕ) → count ≤ most → All (λ hand. length hand.items ≡ count) hands.old.items
+    ensures dealt { IfOk result (λ things. (count : ℕ) → count ≤ most → All (λ hand. length hand.items ≡ count) hands.old.items
         → AreDealt things.items hands.old.items) }
+    ensures count { IfOk result (λ things. (count : ℕ) → count ≤ most → All (λ hand. length hand.items ≡ count) hands.old.items
+        → length things.items ≡ lane_count * count) }
 {
     let places = LANES as usize * most as usize;
     let mut things = Vec::with_capacity(alloc, places)?;

@@ -3,6 +3,7 @@ ghost use Rattle.std.specs.Prelude.{◌≡◌, ◌<◌, ◌&&◌, [], false, len
 ghost use Rattle.std.specs.Option.{option_to_list};
 ghost use Rattle.rk_cluster.specs.Delivering.{Delivers, IsDelivery, is_backup};
 ghost use Rattle.rk_cluster.specs.Effects.{BySomeCall};
+ghost use Rattle.rk_cluster.specs.Masters.{backup_counts};
 ghost use Rattle.rk_cluster.specs.Steps.{AreLanes, MayAllAct, WhereWorn, state_of};
 
 use crate::error::ClusterError;
@@ -44,6 +45,7 @@ pub(crate) fn deliver_in<R: Replica + Drop>(
         (state_of lanes.new.items sessions.new.entries) lane number [] (Some worn))) }
     ensures lanes { AreLanes masters 0 lanes.new.items }
     ensures count { length lanes.new.items ≡ length lanes.old.items }
+    ensures backups { backup_counts lanes.new.items ≡ backup_counts lanes.old.items }
     ensures acts { MayAllAct masters sessions.new.entries }
 {
     let Ok(to) = lanes[lane as usize].wire().address(number) else {

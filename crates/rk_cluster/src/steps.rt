@@ -2,6 +2,7 @@
 ghost use Rattle.std.specs.Prelude.{◌≡◌, ◌<◌, [], ℕ, All, length, map, Some, None, IfErr, IfOk, OnOk};
 ghost use Rattle.std.specs.List.{range_with_len};
 ghost use Rattle.rk_types.specs.declared.hashing.TheConstants.{LANES};
+ghost use Rattle.rk_cluster.specs.Masters.{backup_counts};
 ghost use Rattle.rk_cluster.specs.Steps.{AreLanes, CarriesSteps, IsDeed, IsHappening, IsLosing, MayComeAt, StepsEndWorn, WhereWorn, failure_of, lost_by};
 
 use crate::error::ClusterError;
@@ -30,6 +31,7 @@ pub(crate) fn act<R: Replica + Drop>(
     ensures err { IfErr result (WhereWorn (λ number. IsHappening R.segments lanes.old.items lanes.new.items lane event (Some number))) }
     ensures lanes { (masters : ℕ) → AreLanes masters 0 lanes.old.items → AreLanes masters 0 lanes.new.items }
     ensures count { length lanes.new.items ≡ length lanes.old.items }
+    ensures backups { backup_counts lanes.new.items ≡ backup_counts lanes.old.items }
 {
     act_told(lanes, lane, event)?;
     Ok(())
@@ -47,6 +49,7 @@ pub(crate) fn act_told<R: Replica + Drop>(
     ensures err { IfErr result (WhereWorn (λ number. IsHappening R.segments lanes.old.items lanes.new.items lane event (Some number))) }
     ensures lanes { (masters : ℕ) → AreLanes masters 0 lanes.old.items → AreLanes masters 0 lanes.new.items }
     ensures count { length lanes.new.items ≡ length lanes.old.items }
+    ensures backups { backup_counts lanes.new.items ≡ backup_counts lanes.old.items }
 {
     let answer = lanes[lane as usize].step(event);
     heard(&answer)?;
@@ -87,6 +90,7 @@ pub(crate) fn act_all<R: Replica + Drop>(
     ensures err { IfErr result (WhereWorn (StepsEndWorn R.segments lanes.old.items lanes.new.items deeds.now)) }
     ensures lanes { AreLanes masters 0 lanes.new.items }
     ensures count { length lanes.new.items ≡ length lanes.old.items }
+    ensures backups { backup_counts lanes.new.items ≡ backup_counts lanes.old.items }
 {
     for deed in deeds {
         act(lanes, deed.lane, deed.event)?;

@@ -5,6 +5,7 @@ ghost use Rattle.rk_cluster.specs.Again.{IsNextAt, IsSentAgain};
 ghost use Rattle.rk_cluster.specs.Codes.{again_code};
 ghost use Rattle.rk_cluster.specs.Effects.{EndsIn, IsCarriedOut};
 ghost use Rattle.rk_cluster.specs.Makes.{again_makes, request_lane as request_lane_lem};
+ghost use Rattle.rk_cluster.specs.Masters.{backup_counts, backups_of};
 ghost use Rattle.rk_cluster.specs.Steps.{AreLanes, WhereWorn};
 
 use super::{Cluster, nothing_said};
@@ -25,6 +26,7 @@ impl<R: Replica + Drop> Cluster<R> {
             (λ cluster. again_code cluster client) (λ cluster. again_makes cluster client) said.items) }
         ensures err { IfErr result (EndsIn R.segments self.old self.new (λ cluster. again_code cluster client)
             (λ cluster. again_makes cluster client)) }
+        ensures backups { backups_of self.new ≡ backups_of self.old }
     {
         let alloc = self.alloc();
         let Some(session) = self.sessions.get(&client) else {
@@ -68,6 +70,7 @@ fn again_in<R: Replica + Drop>(
     ensures err { IfErr result (WhereWorn (λ broken. IsSentAgain R.segments lanes.old.items lanes.new.items lane client number (Some broken))) }
     ensures lanes { (masters : ℕ) → AreLanes masters 0 lanes.old.items → AreLanes masters 0 lanes.new.items }
     ensures count { length lanes.new.items ≡ length lanes.old.items }
+    ensures backups { backup_counts lanes.new.items ≡ backup_counts lanes.old.items }
 {
     act(lanes, lane, Event::Again(client))?;
     act(lanes, lane, Event::Deliver(number))?;

@@ -8,6 +8,7 @@ ghost use Rattle.rk_cluster.specs.Calling.{IsAsked};
 ghost use Rattle.rk_cluster.specs.Codes.{call_code};
 ghost use Rattle.rk_cluster.specs.Effects.{EndsIn, IsCarriedOut};
 ghost use Rattle.rk_cluster.specs.Makes.{call_makes};
+ghost use Rattle.rk_cluster.specs.Masters.{backups_of};
 ghost use Rattle.rk_cluster.specs.Steps.{MayAllAct};
 
 use super::{Cluster, nothing_said};
@@ -37,6 +38,7 @@ impl<R: Replica + Drop> Cluster<R> {
             (λ cluster. call_code cluster client table) (λ cluster. call_makes client table key op) said.items) }
         ensures err { IfErr result (EndsIn R.segments self.old self.new (λ cluster. call_code cluster client table)
             (λ cluster. call_makes client table key op)) }
+        ensures backups { backups_of self.new ≡ backups_of self.old }
     {
         let alloc = self.alloc();
         let first = &self.lanes[0];

@@ -10,6 +10,7 @@ ghost use Rattle.rk_cluster.specs.Codes.{crash_code};
 ghost use Rattle.rk_cluster.specs.Crashing.{IsOfCode, IsSameBeside, crashes};
 ghost use Rattle.rk_cluster.specs.Effects.{EndsIn, IsCarriedOut};
 ghost use Rattle.rk_cluster.specs.Makes.{crash_makes};
+ghost use Rattle.rk_cluster.specs.Masters.{backup_counts, backups_of};
 ghost use Rattle.rk_cluster.specs.State.{AreWorlds};
 ghost use Rattle.rk_cluster.specs.Steps.{AreLanes, CarriesSteps, IsHappening, MayComeAt};
 ghost use Rattle.rk_cluster.specs.Tests.{HoldsIn};
@@ -31,6 +32,7 @@ impl<R: Replica + Drop> Cluster<R> {
         ensures err { IfErr result (EndsIn R.segments self.old self.new (λ cluster. crash_code cluster master)
             (λ cluster. crash_makes cluster master)) }
         ensures code { IfErr result IsOfCode }
+        ensures backups { backups_of self.new ≡ backups_of self.old }
     {
         let alloc = self.alloc();
         let first = &self.lanes[0];
@@ -72,6 +74,7 @@ fn crash_in<R: Replica + Drop>(lanes: &mut Vec<Lane<R>>, lane: u8, master: u8)
     ensures beside { IsSameBeside lane lanes.old.items lanes.new.items }
     ensures lanes { (masters : ℕ) → AreLanes masters 0 lanes.old.items → AreLanes masters 0 lanes.new.items }
     ensures count { length lanes.new.items ≡ length lanes.old.items }
+    ensures backups { backup_counts lanes.new.items ≡ backup_counts lanes.old.items }
 {
     // The one refusal is that the master has crashed already, and then nothing happens.
     let _ = lanes[lane as usize].step(Event::Crash(master));
@@ -86,6 +89,7 @@ fn crash_all<R: Replica + Drop>(lanes: &mut Vec<Lane<R>>, masters: u8, master: u
     ensures acts { CarriesSteps R.segments lanes.old.items lanes.new.items (crashes master) [] }
     ensures lanes { AreLanes masters 0 lanes.new.items }
     ensures count { length lanes.new.items ≡ length lanes.old.items }
+    ensures backups { backup_counts lanes.new.items ≡ backup_counts lanes.old.items }
 {
     for lane in 0..LANES {
         crash_in(lanes, lane, master);

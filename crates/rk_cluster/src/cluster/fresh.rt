@@ -7,12 +7,12 @@ ghost use Rattle.rk_world.specs.Premises.{IsMaster, MOST_MASTERS};
 ghost use Rattle.rk_lane.specs.LaneState.{LaneState, replicas_of};
 ghost use Rattle.rk_cluster.specs.Dealt.{IsEighth};
 ghost use Rattle.rk_cluster.specs.Fresh.{AreEmpty, AreMadeOf, IsHand, IsNewLane};
+ghost use Rattle.rk_cluster.specs.Masters.{backups_of};
 ghost use Rattle.rk_cluster.specs.State.{IsOf};
 
 use super::Cluster;
 use crate::dealing::{deal, gather};
 use rk_lane::Lane;
-use rk_log::MOST_BACKUPS;
 use rk_outside::Replica;
 use rk_types::NoMemory;
 use std::alloc::Global;
@@ -39,23 +39,25 @@ impl<R: Replica + Drop> Cluster<R> {
         ensures sessions { IfOk result (λ cluster. cluster.sessions ≡ []) }
         ensures new { IfOk result (λ cluster. AreEmpty R.segments replicas.items
             → IsOf R.segments cluster (new_cluster masters backups)) }
+        ensures backups { IfOk result (λ cluster. backups_of cluster ≡ backups) }
     {
         let hands = deal(alloc, replicas)?;
         let lanes = new_lanes(alloc, masters, hands)?;
-        Ok(Cluster::new(alloc, masters, lanes))
+        Ok(Cluster::new(alloc, masters, backups, lanes))
     }
 
-    /// The replicas, out of the cluster, also of one with a lane that is spent. Where each lane has as many backups they come
-    /// in the order in which they were given: those of backup 1 in lanes 0 to 7, then those of backup 2, and so on. After
-    /// `NoMemory` they are dropped. A step for each replica.
+    /// The replicas, out of the cluster, also of one with a lane that is spent: as many as were given, and in that order, those
+    /// of backup 1 in lanes 0 to 7, then those of backup 2, and so on. After `NoMemory` they are dropped. A step for each
+    /// replica.
     pub fn into_replicas(self) -> Result<Vec<R>, NoMemory>
-        ensures { IfOk result (λ replicas. (backups : ℕ) → backups ≤ most_backups → All (λ lane. length lane.backups ≡ backups) self.lanes
-            → (number : ℕ) (lane : LaneState R) → slice_get self.lanes number ≡ Some lane
+        ensures count { IfOk result (λ replicas. length replicas.items ≡ LANES * backups_of self) }
+        ensures order { IfOk result (λ replicas. (number : ℕ) (lane : LaneState R) → slice_get self.lanes number ≡ Some lane
             → IsEighth replicas.items number (replicas_of lane.backups)) }
     {
         let alloc = self.alloc();
+        let backups = self.backups;
         let mut hands = hands_of(alloc, self.lanes)?;
-        gather(alloc, &mut hands, MOST_BACKUPS as u8)
+        gather(alloc, &mut hands, backups)
     }
 }
 

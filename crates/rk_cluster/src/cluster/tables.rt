@@ -1,8 +1,9 @@
 // Calls that make tables, move tablets and split them.
-ghost use Rattle.std.specs.Prelude.{◌≤◌, IfOk, IfErr};
+ghost use Rattle.std.specs.Prelude.{◌≡◌, ◌≤◌, IfOk, IfErr};
 ghost use Rattle.rk_cluster.specs.Codes.{migrate_code, split_code, table_code};
 ghost use Rattle.rk_cluster.specs.Effects.{EndsIn, IsCarriedOut};
 ghost use Rattle.rk_cluster.specs.Makes.{migrate_makes, split_makes, table_makes};
+ghost use Rattle.rk_cluster.specs.Masters.{backups_of};
 
 use crate::admissions::{admit_migration, admit_split, admit_table};
 use crate::cluster::{Cluster, nothing_said};
@@ -23,6 +24,7 @@ impl<R: Replica + Drop> Cluster<R> {
             (λ cluster. table_code cluster table master) (λ cluster. table_makes cluster table master) said.items) }
         ensures err { IfErr result (EndsIn R.segments self.old self.new (λ cluster. table_code cluster table master)
             (λ cluster. table_makes cluster table master)) }
+        ensures backups { backups_of self.new ≡ backups_of self.old }
     {
         let alloc = self.alloc();
         let tablet = admit_table(&self.lanes, &self.sessions, self.masters, table, master)?;
@@ -49,6 +51,7 @@ impl<R: Replica + Drop> Cluster<R> {
             (λ cluster. migrate_code cluster tablet to) (λ cluster. migrate_makes cluster tablet to) said.items) }
         ensures err { IfErr result (EndsIn R.segments self.old self.new (λ cluster. migrate_code cluster tablet to)
             (λ cluster. migrate_makes cluster tablet to)) }
+        ensures backups { backups_of self.new ≡ backups_of self.old }
     {
         let alloc = self.alloc();
         let concerned = admit_migration(alloc, &self.lanes, self.masters, tablet, to)?;
@@ -66,6 +69,7 @@ impl<R: Replica + Drop> Cluster<R> {
             (λ cluster. split_code cluster tablet at) (λ cluster. split_makes cluster tablet at) said.items) }
         ensures err { IfErr result (EndsIn R.segments self.old self.new (λ cluster. split_code cluster tablet at)
             (λ cluster. split_makes cluster tablet at)) }
+        ensures backups { backups_of self.new ≡ backups_of self.old }
     {
         let alloc = self.alloc();
         let new = admit_split(&self.lanes, tablet, at)?;

@@ -10,7 +10,7 @@ ghost use Rattle.rk_cluster.specs.Turns.{clients_in as clients_in_lem};
 ghost use Rattle.rk_world.specs.Premises.{IsMaster, MOST_MASTERS};
 ghost use Rattle.rk_cluster.specs.Effects.{ActsOne, EndsIn, IsCarriedOut};
 ghost use Rattle.rk_cluster.specs.Makes.{turn_makes};
-ghost use Rattle.rk_cluster.specs.Masters.{MayComeIn, masters_of};
+ghost use Rattle.rk_cluster.specs.Masters.{HasBackups, MayComeIn, backups_of, masters_of};
 ghost use Rattle.rk_cluster.specs.Steps.{AreLanes, IsPlain, WhereWorn};
 
 use super::nothing_said;
@@ -33,6 +33,14 @@ impl<R: Replica + Drop> Cluster<R> {
         self.masters
     }
 
+    /// How many backups each lane has, numbered from 1.
+    pub fn backups(&self) -> u8
+        ensures count { result ≡ backups_of self.now }
+        ensures each { All (HasBackups result) self.now.lanes }
+    {
+        self.backups
+    }
+
     /// An event comes to a lane: one that calls no replica, so neither a delivery nor a crash, and that names a master only
     /// where it is there. One that the lane refuses changes nothing; only a lane that is worn, or want of memory, is an error.
     /// What the event takes in the lane.
@@ -44,6 +52,7 @@ impl<R: Replica + Drop> Cluster<R> {
         ensures err { IfErr result (WhereWorn (λ number. ActsOne R.segments self.old self.new
             (Happens lane event (Gave None)) [] (Some number))) }
         ensures masters { masters_of self.new ≡ masters_of self.old }
+        ensures backups { backups_of self.new ≡ backups_of self.old }
     {
         act(&mut self.lanes, lane, event)
     }
@@ -76,6 +85,7 @@ impl<R: Replica + Drop> Cluster<R> {
         ensures err { IfErr result (EndsIn R.segments self.old self.new (λ cluster. None)
             (λ cluster. turn_makes cluster lane)) }
         ensures masters { masters_of self.new ≡ masters_of self.old }
+        ensures backups { backups_of self.new ≡ backups_of self.old }
     {
         let alloc = self.alloc();
         // Who takes a turn is settled before the first one does.

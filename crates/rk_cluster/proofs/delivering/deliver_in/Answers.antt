@@ -30,6 +30,7 @@ returns-in_err-lost g c =
           c.in_err-lost.ensures.err;
       lanes = c.in_err-lost.ensures.lanes c.args.masters c.requires.lanes;
       count = c.in_err-lost.ensures.count;
+      backups = c.in_err-lost.ensures.backups;
       acts = c.requires.acts;
     })
 
@@ -43,6 +44,7 @@ returns-in_default-to g c =
       err = tt;
       lanes = c.in_ok-lost.ensures.lanes c.args.masters c.requires.lanes;
       count = c.in_ok-lost.ensures.count;
+      backups = c.in_ok-lost.ensures.backups;
       acts = c.requires.acts;
     }
 

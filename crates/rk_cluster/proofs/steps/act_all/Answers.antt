@@ -22,7 +22,7 @@ loop-deed-preserved g c =
     acting_one g.R.Replica.segments c.args.lanes.now.items c.loop-deed.lanes.items c.act.new.lanes.items c.args.masters c.args.deeds.now c.loop-deed.deed-index
     (slice_index_or c.args.deeds.now c.loop-deed.deed-index no_deed) no_deed c.loop-deed-test.true refl
     (c.requires.may c.loop-deed.deed-index no_deed c.loop-deed-test.true)
-    c.in_ok-act.ensures.ok c.in_ok-act.ensures.lanes c.in_ok-act.ensures.count c.loop-deed.invariant
+    c.in_ok-act.ensures.ok c.in_ok-act.ensures.lanes c.in_ok-act.ensures.count c.in_ok-act.ensures.backups c.loop-deed.invariant
 
 pub returns-in_err-act-clause-err : goal.returns-in_err-act-clause-err
 returns-in_err-act-clause-err g c =

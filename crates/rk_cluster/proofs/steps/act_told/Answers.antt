@@ -3,7 +3,7 @@ use Rattle.std.proofs.lemmas.Result.{err_from_is_err_and}
 use Rattle.rk_cluster.specs.Steps.{IsHappening, IsLosing, lost_by}
 use Rattle.rk_cluster.proofs.Happenings.{happened}
 use Rattle.rk_cluster.proofs.Heard.{heard_ends, heard_well}
-use Rattle.rk_cluster.proofs.Worlds.{lane_set, there_read}
+use Rattle.rk_cluster.proofs.Worlds.{counts_set, lane_set, there_read}
 use Rattle.rk_cluster.proofs.steps.act_told.Goals as goal
 
 pub returns-clause-ok : goal.returns-clause-ok
@@ -36,3 +36,13 @@ returns-clause-lanes g c =
     λ masters are.
     lane_set masters 0 c.args.lanes.now.items c.args.lane c.index_mut.result.now c.step-answer.new.self
     (there_read c.args.lanes.now.items c.args.lane c.index_mut.result.now c.requires.there c.index_mut.ensures.value) c.step-answer.ensures.lane are
+
+pub returns-in_err-heard-clause-backups : goal.returns-in_err-heard-clause-backups
+returns-in_err-heard-clause-backups g c =
+    counts_set c.args.lanes.now.items c.args.lane c.index_mut.result.now c.step-answer.new.self
+    (there_read c.args.lanes.now.items c.args.lane c.index_mut.result.now c.requires.there c.index_mut.ensures.value) c.step-answer.ensures.lane
+
+pub returns-clause-backups : goal.returns-clause-backups
+returns-clause-backups g c =
+    counts_set c.args.lanes.now.items c.args.lane c.index_mut.result.now c.step-answer.new.self
+    (there_read c.args.lanes.now.items c.args.lane c.index_mut.result.now c.requires.there c.index_mut.ensures.value) c.step-answer.ensures.lane

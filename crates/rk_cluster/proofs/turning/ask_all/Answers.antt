@@ -16,7 +16,7 @@ loop-client-preserved g c =
     asking_one g.R.Replica.segments (state_of c.args.lanes.now.items c.args.sessions.now.entries) (state_of c.loop-client.lanes.items c.loop-client.sessions.entries)
     (state_of c.ask_in.new.lanes.items c.ask_in.new.sessions.entries) c.args.masters c.args.lane c.args.clients.now c.loop-client.client-index
     (slice_index_or c.args.clients.now c.loop-client.client-index 0) 0 c.loop-client-test.true refl
-    c.in_ok-ask_in.ensures.ok c.in_ok-ask_in.ensures.lanes c.in_ok-ask_in.ensures.count c.in_ok-ask_in.ensures.acts c.in_ok-ask_in.ensures.clients c.loop-client.invariant
+    c.in_ok-ask_in.ensures.ok c.in_ok-ask_in.ensures.lanes c.in_ok-ask_in.ensures.count c.in_ok-ask_in.ensures.backups c.in_ok-ask_in.ensures.acts c.in_ok-ask_in.ensures.clients c.loop-client.invariant
 
 pub returns-in_err-ask_in-clause-err : goal.returns-in_err-ask_in-clause-err
 returns-in_err-ask_in-clause-err g c =

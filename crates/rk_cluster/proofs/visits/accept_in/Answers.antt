@@ -14,7 +14,7 @@ use Rattle.rk_cluster.specs.Steps.{MayAllAct, state_of}
 use Rattle.rk_cluster.specs.Visits.{HasSession}
 use Rattle.rk_cluster.proofs.Coming.{accepts, accepts_lane, has_after}
 use Rattle.rk_cluster.proofs.Heard.{heard_well}
-use Rattle.rk_cluster.proofs.Worlds.{lane_set, masters_at, there_read}
+use Rattle.rk_cluster.proofs.Worlds.{counts_set, lane_set, masters_at, there_read}
 use Rattle.rk_cluster.proofs.visits.accept_in.Goals as goal
 
 pub accept-answer-requires : goal.accept-answer-requires
@@ -53,6 +53,11 @@ returns-clause-lanes g c =
     lane_set c.args.masters 0 c.args.lanes.now.items c.args.lane c.index_mut-at.result.now c.accept-answer.new.self there
     c.accept-answer.ensures.lane
     c.requires.lanes
+
+pub returns-clause-backups : goal.returns-clause-backups
+returns-clause-backups g c =
+    counts_set c.args.lanes.now.items c.args.lane c.index_mut-at.result.now c.accept-answer.new.self
+    (there_read c.args.lanes.now.items c.args.lane c.index_mut-at.result.now c.requires.there c.index_mut-at.ensures.value) c.accept-answer.ensures.lane
 
 pub returns-clause-acts : goal.returns-clause-acts
 returns-clause-acts g c =

@@ -53,6 +53,7 @@ invariant_of-self-in_err-put_session g c = record {
   count = c.act_all.ensures.count ∙ c.self.invariant.count;
   lanes = c.act_all.ensures.lanes;
   masters = c.self.invariant.masters;
+  backups = c.act_all.ensures.backups ∙ c.self.invariant.backups;
   sessions = subst (MayAllAct c.self.inside.masters) (sym c.in_err-put_session.ensures.err) c.self.invariant.sessions;
 }
 
@@ -61,6 +62,7 @@ invariant_of-self-2 g c = record {
   count = c.act_all.ensures.count ∙ c.self.invariant.count;
   lanes = c.act_all.ensures.lanes;
   masters = c.self.invariant.masters;
+  backups = c.act_all.ensures.backups ∙ c.self.invariant.backups;
   sessions = subst (MayAllAct c.self.inside.masters) (sym (c.in_ok-put_session.ensures.ok ∙ ap (insert c.self.inside.sessions.entries c.args.client) c.new.ensures))
       (each_insert (λ client session. MayAct c.self.inside.masters session) c.self.inside.sessions.entries c.args.client (new_session c.args.client) c.self.invariant.sessions
       (new_acts c.self.inside.masters c.args.client c.requires c.ranges.client.fits));

@@ -69,6 +69,7 @@ invariant_of-self g c = record {
   count = c.self.invariant.count;
   lanes = c.self.invariant.lanes;
   masters = c.self.invariant.masters;
+  backups = c.self.invariant.backups;
   sessions = c.ask_next.ensures.acts c.self.inside.masters c.self.invariant.sessions;
 }
 
@@ -77,5 +78,6 @@ invariant_of-self-2 g c = record {
   count = c.self.invariant.count;
   lanes = c.self.invariant.lanes;
   masters = c.self.invariant.masters;
+  backups = c.self.invariant.backups;
   sessions = c.ask_next.ensures.acts c.self.inside.masters c.self.invariant.sessions;
 }

@@ -1,7 +1,7 @@
 use Rattle.std.proofs.Common.{List, slice_get, sym, ap, ◌∙◌}
 use Rattle.rk_world.specs.Cluster.{new_cluster}
 use Rattle.rk_lane.specs.LaneState.{LaneState}
-use Rattle.rk_cluster.proofs.NewLanes.{hands_fit, made_cluster, made_count, made_here, made_lanes, of_parts}
+use Rattle.rk_cluster.proofs.NewLanes.{hands_fit, made_backed, made_cluster, made_count, made_here, made_lanes, of_parts}
 use Rattle.rk_cluster.proofs.cluster.Cluster.with_replicas.Goals as goal
 
 pub new_lanes-requires-clause-each : goal.new_lanes-requires-clause-each
@@ -14,6 +14,11 @@ new-requires-clause-eight g c =
 
 pub new-requires-clause-lanes : goal.new-requires-clause-lanes
 new-requires-clause-lanes g c = made_lanes g.R.Replica.segments c.args.masters 0 c.in_ok-hands.hands.items c.in_ok-lanes.lanes.items c.in_ok-lanes.ensures
+
+pub new-requires-clause-backups : goal.new-requires-clause-backups
+new-requires-clause-backups g c =
+    made_backed g.R.Replica.segments c.args.masters c.args.backups c.args.replicas.items c.in_ok-hands.hands.items c.in_ok-lanes.lanes.items c.requires.count
+    c.in_ok-hands.ensures c.in_ok-lanes.ensures
 
 pub returns-clause-each : goal.returns-clause-each
 returns-clause-each g c =

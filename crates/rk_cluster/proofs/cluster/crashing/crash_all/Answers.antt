@@ -9,7 +9,7 @@ crash_in-requires-clause-may g c =
 pub loop-lane-preserved : goal.loop-lane-preserved
 loop-lane-preserved g c =
     crashing_one g.R.Replica.segments c.args.lanes.now.items c.loop-lane.lanes.items c.crash_in.new.lanes.items c.args.masters c.args.master c.loop-lane.lane c.loop-lane-test.true
-    c.crash_in.ensures.happens c.crash_in.ensures.beside c.crash_in.ensures.lanes c.crash_in.ensures.count c.loop-lane.invariant
+    c.crash_in.ensures.happens c.crash_in.ensures.beside c.crash_in.ensures.lanes c.crash_in.ensures.count c.crash_in.ensures.backups c.loop-lane.invariant
 
 pub returns-clause-acts : goal.returns-clause-acts
 returns-clause-acts g c =

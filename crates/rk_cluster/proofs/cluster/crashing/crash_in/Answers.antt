@@ -3,7 +3,7 @@ use Rattle.rk_world.specs.declared.event.Event.TheVariants as events
 use Rattle.rk_cluster.specs.Steps.{IsHappening}
 use Rattle.rk_cluster.proofs.Crashing.{crash_well}
 use Rattle.rk_cluster.proofs.Happenings.{happened}
-use Rattle.rk_cluster.proofs.Worlds.{lane_set, set_beside, there_read}
+use Rattle.rk_cluster.proofs.Worlds.{counts_set, lane_set, set_beside, there_read}
 use Rattle.rk_cluster.proofs.cluster.crashing.crash_in.Goals as goal
 
 pub returns-clause-happens : goal.returns-clause-happens
@@ -24,3 +24,8 @@ returns-clause-lanes g c =
     λ masters are.
     lane_set masters 0 c.args.lanes.now.items c.args.lane c.index_mut.result.now c.step.new.self
     (there_read c.args.lanes.now.items c.args.lane c.index_mut.result.now c.requires.there c.index_mut.ensures.value) c.step.ensures.lane are
+
+pub returns-clause-backups : goal.returns-clause-backups
+returns-clause-backups g c =
+    counts_set c.args.lanes.now.items c.args.lane c.index_mut.result.now c.step.new.self
+    (there_read c.args.lanes.now.items c.args.lane c.index_mut.result.now c.requires.there c.index_mut.ensures.value) c.step.ensures.lane
