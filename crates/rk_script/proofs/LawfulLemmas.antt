@@ -37,24 +37,24 @@ use Rattle.rk_script.proofs.Digits.{both_hold}
 
 -- ---- what is made of readings keeps what holds of them
 
-made_of-keeps : {A B : Type 0} (P : A → Type 0) (Q : B → Type 0) (make : A → B) (read : Result A Code) → ((a : A) → P a → Q (make a)) → IfOk read P → IfOk (made_of make read) Q
+pub made_of-keeps : {A B : Type 0} (P : A → Type 0) (Q : B → Type 0) (make : A → B) (read : Result A Code) → ((a : A) → P a → Q (make a)) → IfOk read P → IfOk (made_of make read) Q
 made_of-keeps P Q make (Ok a) keeps holds = keeps a holds
 made_of-keeps P Q make (Err code) keeps holds = tt
 
-made_of_both-keeps : {A B C : Type 0} (P : A → Type 0) (Q : B → Type 0) (R : C → Type 0) (make : A → B → C) (left : Result A Code) (right : Result B Code) → ((a : A) (b : B) → P a → Q b → R (make a b)) → IfOk left P → IfOk right Q → IfOk (made_of_both make left right) R
+pub made_of_both-keeps : {A B C : Type 0} (P : A → Type 0) (Q : B → Type 0) (R : C → Type 0) (make : A → B → C) (left : Result A Code) (right : Result B Code) → ((a : A) (b : B) → P a → Q b → R (make a b)) → IfOk left P → IfOk right Q → IfOk (made_of_both make left right) R
 made_of_both-keeps P Q R make (Ok a) right keeps left_holds right_holds = made_of-keeps Q R (make a) right (λ b. keeps a b left_holds) right_holds
 made_of_both-keeps P Q R make (Err code) right keeps left_holds right_holds = tt
 
-after-keeps : {A B : Type 0} (P : A → Type 0) (Q : B → Type 0) (read : Result A Code) (next : A → Result B Code) → ((a : A) → P a → IfOk (next a) Q) → IfOk read P → IfOk (after read next) Q
+pub after-keeps : {A B : Type 0} (P : A → Type 0) (Q : B → Type 0) (read : Result A Code) (next : A → Result B Code) → ((a : A) → P a → IfOk (next a) Q) → IfOk read P → IfOk (after read next) Q
 after-keeps P Q (Ok a) next keeps holds = keeps a holds
 after-keeps P Q (Err code) next keeps holds = tt
 
-one-keeps : {A : Type 0} (P : A → Type 0) (read : List ℕ → Result A Code) → ((word : List ℕ) → IfOk (read word) P) → (words : List (List ℕ)) → IfOk (one read words) P
+pub one-keeps : {A : Type 0} (P : A → Type 0) (read : List ℕ → Result A Code) → ((word : List ℕ) → IfOk (read word) P) → (words : List (List ℕ)) → IfOk (one read words) P
 one-keeps P read holds [] = tt
 one-keeps P read holds (word ∷ []) = holds word
 one-keeps P read holds (word ∷ next ∷ words) = tt
 
-two-keeps : {A B : Type 0} (P : A → Type 0) (Q : B → Type 0) (read_left : List ℕ → Result A Code) (read_right : List ℕ → Result B Code) → ((word : List ℕ) → IfOk (read_left word) P) → ((word : List ℕ) → IfOk (read_right word) Q) → (words : List (List ℕ)) → IfOk (two read_left read_right words) (λ both. P both.0 × Q both.1)
+pub two-keeps : {A B : Type 0} (P : A → Type 0) (Q : B → Type 0) (read_left : List ℕ → Result A Code) (read_right : List ℕ → Result B Code) → ((word : List ℕ) → IfOk (read_left word) P) → ((word : List ℕ) → IfOk (read_right word) Q) → (words : List (List ℕ)) → IfOk (two read_left read_right words) (λ both. P both.0 × Q both.1)
 two-keeps P Q read_left read_right left_holds right_holds [] = tt
 two-keeps P Q read_left read_right left_holds right_holds (left ∷ []) = tt
 two-keeps P Q read_left read_right left_holds right_holds (left ∷ right ∷ []) =
@@ -62,7 +62,7 @@ two-keeps P Q read_left read_right left_holds right_holds (left ∷ right ∷ []
 two-keeps P Q read_left read_right left_holds right_holds (left ∷ right ∷ next ∷ words) = tt
 
 -- nothing is asked of what is read
-free : {A E : Type 0} (read : Result A E) → IfOk read (λ a. Unit {0})
+pub free : {A E : Type 0} (read : Result A E) → IfOk read (λ a. Unit {0})
 free (Ok a) = tt
 free (Err e) = tt
 

@@ -3,4 +3,5 @@ pub mod WordLemmas
 pub mod Cuts
 pub mod ScriptLemmas
 pub mod LawfulLemmas
+pub mod Widths
 pub mod Examples

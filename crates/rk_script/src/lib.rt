@@ -20,5 +20,3 @@ mod names;
 mod numbers;
 mod refusal;
 mod script;
-#[cfg(test)]
-mod tests;

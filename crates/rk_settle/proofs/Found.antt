@@ -27,21 +27,21 @@ passing : {X : Type 0} (Holds : X → Type 0) (b : Bool) (x : X) (found : Option
 passing Holds true x found here later = here
 passing Holds false x found here later = later
 
-first_holds : {X : Type 0} (Holds : X → Type 0) (test : X → Bool) (list : List X) → All Holds list → IfSome (find test list) Holds
+pub first_holds : {X : Type 0} (Holds : X → Type 0) (test : X → Bool) (list : List X) → All Holds list → IfSome (find test list) Holds
 first_holds Holds test [] all = tt
 first_holds Holds test (x ∷ rest) all =
     passing Holds (test x) x (find test rest) (All-head Holds x rest all) (first_holds Holds test rest (All-tail Holds x rest all))
 
 -- ---- rows
 
--- the source and the target of a migration are among those that its phase names
+-- the owner, and the source and the target of a migration, are among those that a phase names
 sides_are : (limits : Limits) (phase : Phase) → All (IsFormedMember limits) (named_in phase) → AreNamed limits.masters phase
-sides_are limits (Owned master from) are = tt
+sides_are limits (Owned master from) are = (are 0 (member master from) (omega arith)).master
 sides_are limits (Opening source sfrom target dfrom) are = ((are 0 (member source sfrom) (omega arith)).master, (are 1 (member source sfrom) (omega arith)).master)
 sides_are limits (Moving source sfrom target dfrom) are = ((are 0 (member source sfrom) (omega arith)).master, (are 1 (member source sfrom) (omega arith)).master)
 sides_are limits (Rebuilding lineage to) are = tt
 
-row_names : (limits : Limits) (rows : List Row) (tablet : ℕ) → All (IsFormedRow limits) rows → IfSome (row_of rows tablet) (λ row. AreNamed limits.masters row.phase)
+pub row_names : (limits : Limits) (rows : List Row) (tablet : ℕ) → All (IsFormedRow limits) rows → IfSome (row_of rows tablet) (λ row. AreNamed limits.masters row.phase)
 row_names limits rows tablet formed =
     first_holds (λ row. AreNamed limits.masters row.phase) (λ row. row.tablet == tablet) rows
     (λ k d within. sides_are limits (slice_index_or rows k d).phase (formed k d within).named)

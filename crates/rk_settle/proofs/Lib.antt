@@ -6,4 +6,8 @@ pub mod Named
 pub mod Found
 pub mod Reached
 pub mod Scene
+pub mod Concerned
+pub mod Unfolded
+pub mod Occurred
 mod Examples
+pub mod Making

@@ -4,7 +4,7 @@ use Rattle.std.proofs.lemmas.Bool.{le-leb, lt-leb}
 use Rattle.std.proofs.lemmas.List.Sums.{fold-append}
 use Rattle.rk_outside.specs.Segments.{Segments}
 use Rattle.rk_world.specs.Backup.{Gave}
-use Rattle.rk_cluster.specs.Masters.{masters_of}
+use Rattle.rk_cluster.specs.Masters.{backups_of, masters_of}
 use Rattle.rk_cluster.specs.State.{ClusterState}
 use Rattle.rk_settle.specs.Course.{Course, MOST_FAULTS, error_by, moved, moved_all, moved_by, round_over, with_tasks}
 use Rattle.rk_settle.specs.Lawful.{AreTasks}
@@ -135,9 +135,11 @@ module _ {R : Type 0} (segments : R → Option Segments) where
   stops_in start now next first left was is (errors.Replica rounds) all stops =
       record { calls = all.calls; stopped = λ course stands. stops (moved_all course all.calls) (all.moves course stands) }
 
--- how far a run has come: what has moved, the tasks that are left are lawful, and a fault counts for a move at most
+-- how far a run has come: what has moved, the tasks that are left are lawful, a fault counts for a move at most, and each lane has as many
+-- masters and backups
 pub record IsRunning {R : Type 0} (segments : R → Option Segments) (start now : ClusterState R) (first left : List Task) (was is : Progress) (count : ℕ) : Type 0 where
   pub moves : MovesAll segments start now first left was is
   pub lawful : AreTasks (masters_of start) left
   pub faults : is.faults ≤ count
   pub masters : masters_of now ≡ masters_of start
+  pub backups : backups_of now ≡ backups_of start

@@ -2,7 +2,7 @@
 use Rattle.std.specs.Prelude.{◌<◌, ℕ, List, All, ⊤}
 use Rattle.rk_types.specs.declared.hashing.TheConstants.{LANES}
 use Rattle.rk_tablet_map.specs.declared.phase.Phase.{Phase}
-use Rattle.rk_tablet_map.specs.declared.phase.Phase.TheVariants.{Moving, Opening}
+use Rattle.rk_tablet_map.specs.declared.phase.Phase.TheVariants.{Moving, Opening, Owned}
 use Rattle.rk_world.specs.Premises.{IsMaster, MayHappen}
 use Rattle.rk_world.specs.World.{new_world}
 use Rattle.rk_cluster.specs.Steps.{IsPlain}
@@ -42,8 +42,9 @@ IsTask masters (tasks.Freezes lane tablet master) = (lane < LANES) × IsMaster m
 abbrev pub AreTasks : ℕ → List Task → Type 0
 AreTasks masters left = All (IsTask masters) left
 
--- the source and the target of a migration are there
+-- the owner of a tablet is there, and so are the source and the target of a migration
 abbrev pub AreNamed : ℕ → Phase → Type 0
+AreNamed masters (Owned master from) = IsMaster masters master
 AreNamed masters (Opening source sfrom target dfrom) = IsMaster masters source × IsMaster masters target
 AreNamed masters (Moving source sfrom target dfrom) = IsMaster masters source × IsMaster masters target
 AreNamed masters phase = ⊤

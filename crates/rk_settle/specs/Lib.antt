@@ -15,3 +15,4 @@ pub mod Told
 pub mod Codes
 pub mod Outcomes
 pub mod States
+pub mod Commanded

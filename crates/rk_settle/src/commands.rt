@@ -3,7 +3,7 @@ ghost use Rattle.std.specs.Prelude.{◌≡◌, ◌++◌, List, map, IfErr, IfOk,
 ghost use Rattle.std.specs.List.{range_with_len};
 ghost use Rattle.rk_types.specs.declared.hashing.TheConstants.{LANES};
 ghost use Rattle.rk_world.specs.Cluster.{Cluster as Lanes};
-ghost use Rattle.rk_cluster.specs.Masters.{masters_of};
+ghost use Rattle.rk_cluster.specs.Masters.{backups_of, masters_of};
 ghost use Rattle.rk_settle.specs.Advance.{advance as advance_lem};
 ghost use Rattle.rk_settle.specs.Lawful.{AreTasks};
 ghost use Rattle.rk_settle.specs.Outcomes.{Ends, Fails};
@@ -34,6 +34,7 @@ pub fn settle<R: Replica + Drop>(
     ensures ok { IfOk result (λ said. Ends R.segments cluster.old cluster.new settle_lem said.items) }
     ensures err { IfErr result (Fails R.segments cluster.old cluster.new settle_lem) }
     ensures masters { masters_of cluster.new ≡ masters_of cluster.old }
+    ensures backups { backups_of cluster.new ≡ backups_of cluster.old }
 {
     let mut tasks = Tasks::new(alloc);
     tasks.push(Task::Settles)?;
@@ -52,6 +53,7 @@ pub fn serve<R: Replica + Drop>(
     ensures ok { IfOk result (λ said. Ends R.segments cluster.old cluster.new (λ c. serve_lem c client) said.items) }
     ensures err { IfErr result (Fails R.segments cluster.old cluster.new (λ c. serve_lem c client)) }
     ensures masters { masters_of cluster.new ≡ masters_of cluster.old }
+    ensures backups { backups_of cluster.new ≡ backups_of cluster.old }
 {
     let mut tasks = Tasks::new(alloc);
     push_serve(&mut tasks, cluster, client)?;
@@ -67,6 +69,7 @@ pub fn priority<R: Replica + Drop>(
     ensures ok { IfOk result (λ said. Ends R.segments cluster.old cluster.new (λ c. priority_lem c tablet) said.items) }
     ensures err { IfErr result (Fails R.segments cluster.old cluster.new (λ c. priority_lem c tablet)) }
     ensures masters { masters_of cluster.new ≡ masters_of cluster.old }
+    ensures backups { backups_of cluster.new ≡ backups_of cluster.old }
 {
     let mut tasks = Tasks::new(alloc);
     tasks.push_all(&hastenings(tablet))?;
@@ -83,6 +86,7 @@ pub fn advance<R: Replica + Drop>(
     ensures ok { IfOk result (λ said. Ends R.segments cluster.old cluster.new (λ c. advance_lem c tablet reach) said.items) }
     ensures err { IfErr result (Fails R.segments cluster.old cluster.new (λ c. advance_lem c tablet reach)) }
     ensures masters { masters_of cluster.new ≡ masters_of cluster.old }
+    ensures backups { backups_of cluster.new ≡ backups_of cluster.old }
 {
     let mut tasks = Tasks::new(alloc);
     tasks.push_all(&advances(tablet, reach))?;
@@ -101,6 +105,7 @@ fn follow<R: Replica + Drop>(
     ensures err { (command : Lanes → List Step) → EightTell R.segments cluster.old command tasks
         → IfErr result (Fails R.segments cluster.old cluster.new command) }
     ensures masters { masters_of cluster.new ≡ masters_of cluster.old }
+    ensures backups { backups_of cluster.new ≡ backups_of cluster.old }
 {
     // Asked how many masters there are, a cluster tells that it has eight lanes.
     let _masters = cluster.masters();

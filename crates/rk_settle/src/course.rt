@@ -2,7 +2,7 @@
 ghost use Rattle.std.specs.Prelude.{◌≡◌, ◌+◌, ◌-◌, ◌^◌, ◌<◌, ◌≤◌, ◌∷◌, ◌++◌, [], false, if◌then◌else◌, List, IfErr, OnOk};
 ghost use Rattle.std.specs.Option.{option_to_list};
 ghost use Rattle.rk_types.specs.declared.hashing.TheConstants.{LANES};
-ghost use Rattle.rk_cluster.specs.Masters.{masters_of};
+ghost use Rattle.rk_cluster.specs.Masters.{backups_of, masters_of};
 ghost use Rattle.rk_settle.specs.Lawful.{AreTasks, IsAct, IsTask};
 ghost use Rattle.rk_settle.specs.Course.{MOST_FAULTS as most_faults};
 ghost use Rattle.rk_settle.specs.States.{Moves, MovesAll, Stops, StopsIn};
@@ -59,6 +59,7 @@ pub(crate) fn run<R: Replica + Drop>(
     ensures ok { OnOk result (MovesAll R.segments cluster.old cluster.new tasks.old tasks.new progress.old progress.new) }
     ensures err { IfErr result (StopsIn R.segments cluster.old cluster.new tasks.old progress.old) }
     ensures masters { masters_of cluster.new ≡ masters_of cluster.old }
+    ensures backups { backups_of cluster.new ≡ backups_of cluster.old }
 {
     for _ in 0..u64::MAX {
         let Some(task) = tasks.pop() else {
@@ -84,6 +85,7 @@ fn make_move<R: Replica + Drop>(
     ensures lawful { OnOk result (AreTasks (masters_of cluster.new) tasks.new) }
     ensures faults { progress.new.faults ≤ progress.old.faults + 1 }
     ensures masters { masters_of cluster.new ≡ masters_of cluster.old }
+    ensures backups { backups_of cluster.new ≡ backups_of cluster.old }
 {
     match task {
         Task::Occurs { lane, act } => occur(cluster, lane, act),
@@ -106,6 +108,7 @@ fn occur<R: Replica + Drop>(cluster: &mut Cluster<R>, lane: u8, act: Act) -> Res
     ensures err { IfErr result (λ e. (rest : List Step) (progress : Came) → Stops R.segments cluster.old cluster.new
         (made.Occurs lane act ∷ rest) progress e) }
     ensures masters { masters_of cluster.new ≡ masters_of cluster.old }
+    ensures backups { backups_of cluster.new ≡ backups_of cluster.old }
 {
     match act {
         Act::Happens(event) => cluster.happen(lane, event)?,
@@ -132,6 +135,7 @@ fn deliver<R: Replica + Drop>(
         (made.Delivers lane number ∷ rest) progress.old e) }
     ensures faults { progress.new.faults ≡ progress.old.faults }
     ensures masters { masters_of cluster.new ≡ masters_of cluster.old }
+    ensures backups { backups_of cluster.new ≡ backups_of cluster.old }
 {
     let Delivered { said, failed } = cluster.deliver_in(lane, number)?;
     tell(&mut progress.said, said)?;

@@ -23,8 +23,9 @@ pub(crate) fn wire_of<R: Replica + Drop>(at: &Lane<R>) -> &Wire
     at.wire()
 }
 
-/// The row of a tablet, if there is one; the masters that it names are there. A step for each row.
-pub(crate) fn row_at<R: Replica + Drop>(at: &Lane<R>, tablet: u32) -> Option<&Row>
+/// The row of a tablet in a lane, if there is one: its owner, or the source and the target of its migration, are there. A lane that is
+/// spent has none. A step for each row.
+pub fn row_at<R: Replica + Drop>(at: &Lane<R>, tablet: u32) -> Option<&Row>
     ensures row { LaneTells R.segments at.now (λ w. row_of w.coordinator.rows tablet) (option_copied result) }
     ensures named { IfSome (option_copied result) (λ row. AreNamed at.now.masters row.phase) }
 {

@@ -187,8 +187,8 @@ fn turn<R: Replica + Drop>(
     settling::turns(tasks, lane, &clients, &masters)
 }
 
-// A lane of a cluster.
-fn lane_of<R: Replica + Drop>(cluster: &Cluster<R>, lane: u8) -> &Lane<R>
+/// A lane of a cluster.
+pub(crate) fn lane_of<R: Replica + Drop>(cluster: &Cluster<R>, lane: u8) -> &Lane<R>
     requires { lane < LANES }
     ensures lane { IsLaneOf R.segments cluster.now lane result.now }
     ensures masters { result.now.masters ≡ masters_of cluster.now }

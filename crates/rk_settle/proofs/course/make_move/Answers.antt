@@ -28,4 +28,5 @@ returns-in_ok-unfold-in_default g c = record {
   lawful = c.in_ok-unfold-in_default.ensures.lawful;
   faults = omega arith;
   masters = refl;
+  backups = refl;
 }

@@ -14,6 +14,7 @@ loop-init g c = record {
   lawful = c.requires.tasks;
   faults = omega (arith, c.requires.faults);
   masters = refl;
+  backups = refl;
 }
 
 pub returns-in_default-clause-ok : goal.returns-in_default-clause-ok
@@ -23,6 +24,9 @@ returns-in_default-clause-ok g c =
 
 pub returns-in_default-clause-masters : goal.returns-in_default-clause-masters
 returns-in_default-clause-masters g c = c.loop.invariant.masters
+
+pub returns-in_default-clause-backups : goal.returns-in_default-clause-backups
+returns-in_default-clause-backups g c = c.loop.invariant.backups
 
 pub make_move-requires-clause-task : goal.make_move-requires-clause-task
 make_move-requires-clause-task g c =
@@ -50,6 +54,9 @@ returns-in_err-make_move-clause-err g c =
 pub returns-in_err-make_move-clause-masters : goal.returns-in_err-make_move-clause-masters
 returns-in_err-make_move-clause-masters g c = c.make_move.ensures.masters ∙ c.loop.invariant.masters
 
+pub returns-in_err-make_move-clause-backups : goal.returns-in_err-make_move-clause-backups
+returns-in_err-make_move-clause-backups g c = c.make_move.ensures.backups ∙ c.loop.invariant.backups
+
 pub loop-preserved : goal.loop-preserved
 loop-preserved g c = record {
   moves = one_more g.R.Replica.segments c.args.cluster.now c.loop.cluster c.make_move.new.cluster c.args.tasks.now c.loop.tasks c.make_move.new.tasks c.args.progress.now c.loop.progress
@@ -59,7 +66,11 @@ loop-preserved g c = record {
   lawful = subst (λ (masters : ℕ). AreTasks masters c.make_move.new.tasks) (c.make_move.ensures.masters ∙ c.loop.invariant.masters) c.in_ok-make_move.ensures.lawful;
   faults = omega (arith, c.make_move.ensures.faults, c.loop.invariant.faults);
   masters = c.make_move.ensures.masters ∙ c.loop.invariant.masters;
+  backups = c.make_move.ensures.backups ∙ c.loop.invariant.backups;
 }
 
 pub returns-clause-masters : goal.returns-clause-masters
 returns-clause-masters g c = c.loop.invariant.masters
+
+pub returns-clause-backups : goal.returns-clause-backups
+returns-clause-backups g c = c.loop.invariant.backups
