@@ -1,4 +1,14 @@
-pub mod Digits
-pub mod ByKey
-pub mod LaneLines
-pub mod Examples
+mod Plays
+pub mod Carried
+pub mod Gathered
+pub mod Held
+pub mod Shown
+pub mod Settled
+pub mod Openings
+pub mod Sending
+pub mod Reaching
+pub mod Backups
+pub mod Stores
+pub mod Concluding
+pub mod Leaving
+pub mod Telling

@@ -1,4 +1,11 @@
-pub mod Lines
-pub mod Tablets
-pub mod Records
-pub mod History
+pub mod Shows
+pub mod Effects
+pub mod Stops
+pub mod Came
+pub mod Played
+pub mod Settings
+pub mod Reached
+pub mod Ended
+pub mod Runs
+pub mod Concluded
+pub mod Lent

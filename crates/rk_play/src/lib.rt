@@ -1,22 +1,18 @@
-//! What a run writes: answers, tablets, records, histories and refusals as lines of text.
+//! Scripts played: every command of the language, over eight lanes of messages, migrations, crashes and rebuilds.
 //!
-//! It stands on `rk_types`, `rk_model` and `rk_tablet_map`. What it promises: each function puts exactly the lines of its
-//! definition at the end of a text; only want of memory is free. A line ends with a line feed, its numbers are decimal,
-//! and an empty value is left out with the blank before it. Records stand by the bytes of their keys, which
-//! [`items_by_key_are_pinned`] makes precise.
+//! It stands on `rk_cluster` and `rk_settle`, on `rk_script` and `rk_lines`. A script played is a value of the definitions:
+//! the text that it writes, piece by piece, its status, and the cluster at its end. What [`play`] promises: what is written
+//! is that text, the status is that one, and the replicas tell what the backups of that cluster store.
 #![tactic(auto)]
 
-pub use history::{push_entry, push_history};
-pub use laws::items_by_key_are_pinned;
-pub use lines::{push_all_said, push_refused, push_said};
-pub use records::{push_record, push_records};
-pub use tablets::push_tablet;
+pub use error::PlayError;
+pub use playing::play;
 
-mod history;
-mod laws;
-mod lines;
-mod records;
-mod tablets;
-#[cfg(test)]
-mod tests;
-mod words;
+mod commands;
+mod end;
+mod error;
+mod playing;
+mod run;
+mod setting;
+mod settling;
+mod shows;

@@ -1,10 +1,2 @@
-pub mod Cuts
-pub mod WordsLemmas
-pub mod ScriptLemmas
-pub mod WorldLemmas
-pub mod TameLemmas
-pub mod PlayedLemmas
-pub mod StepLemmas
-pub mod LawfulLemmas
-pub mod ReceiptLemmas
-pub mod Examples
+pub mod Starting
+pub mod Telling

@@ -1,11 +1,2 @@
-pub mod Lines
-pub mod Script
-pub mod Read
-pub mod World
-pub mod Tame
-pub mod Refusals
-pub mod Played
-pub mod Lawful
-pub mod Receipts
-pub mod Run
 pub mod Words
+pub mod Run

@@ -1,27 +1,19 @@
 //! Rocksteady: live migration of tablets between log-structured key-value masters, with exactly-once calls.
 //!
-//! `rocksteady play` reads a script from standard input and writes its answers to standard output. It stands on the
-//! crates below; [`run::run`] is the top call, whose contract ties the bytes written to those of the script.
+//! `rocksteady play` reads a script from standard input and writes its text to standard output. It stands on `rk_play`;
+//! [`run::run`] is the top call, whose contract ties the bytes written to those of the script.
 #![tactic(auto)]
 
-mod client;
-mod cluster;
-mod command;
-mod lines;
-mod play;
 mod run;
-mod script;
 #[cfg(test)]
 mod tests;
-mod words;
 
 ghost use Rattle.std.specs.Prelude.{◌≡◌, ◌≢◌, drop, map, true, false, IfErr, IfOk, IfSome, IsErr, IsOk, string_bytes, vec_len};
 ghost use Rattle.std.specs.List.{All};
 ghost use Rattle.std.specs.IoError.{error_kind};
 ghost use Rattle.std.specs.Vec.Iter.{into_iter_items};
 ghost use Rattle.rk_outside.specs.Replicas.{new_replica};
-ghost use Rattle.rocksteady.specs.Played.{played, usage};
-ghost use Rattle.rocksteady.specs.Run.{Runs, is_play};
+ghost use Rattle.rocksteady.specs.Run.{IsPlayed, Refuses, is_play};
 ghost use Rattle.rocksteady.specs.Words.{words_after};
 
 use rk_outside::{MemoryReplica, OpenGate, Sink, Source, StdSink, StdSource};
@@ -69,7 +61,6 @@ fn given_words(alloc: Global, given: io::Result<Args>) -> Result<Vec<String>, No
 }
 
 // Runs the program with the words that the system gave it, over new replicas.
-#[tactic(auto, using(crate::proofs::PlayedLemmas::stops_told))]
 fn start<X: Threads + Wait + Sync, S: Source, K: Sink>(
     rt: &X,
     alloc: Global,
@@ -78,9 +69,9 @@ fn start<X: Threads + Wait + Sync, S: Source, K: Sink>(
     sink: &mut K,
 ) -> Status
     ensures play { is_play (map string_bytes (words_after given)) ≡ true → IfSome (S.left source.old) (λ script.
-        Runs (played script) result (K.written sink.old) (K.written sink.new)) }
-    ensures wrong_words { is_play (map string_bytes (words_after given)) ≡ false →
-        Runs usage result (K.written sink.old) (K.written sink.new) }
+        IsPlayed script result (K.written sink.old) (K.written sink.new)) }
+    ensures wrong_words { is_play (map string_bytes (words_after given)) ≡ false → result ≢ Status.NoMemory →
+        Refuses result (K.written sink.old) (K.written sink.new) }
 {
     let Ok(words) = given_words(alloc, given) else {
         return Status::NoMemory;

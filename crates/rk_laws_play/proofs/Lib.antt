@@ -1,0 +1,13 @@
+pub mod Acting
+pub mod Moving
+pub mod Made
+pub mod Reaching
+pub mod Allowed
+pub mod Masters
+pub mod Coursing
+pub mod Tests
+pub mod Crashing
+pub mod Calling
+pub mod Commanding
+pub mod Going
+pub mod Playing

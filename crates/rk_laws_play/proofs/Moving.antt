@@ -1,0 +1,27 @@
+-- The cluster of a settling command is what has occurred in its course made of the one at its start.
+use Rattle.std.proofs.Common.{◌≡◌, List, [], ◌∷◌, ◌++◌, sym, ap, ◌∙◌}
+use Rattle.std.proofs.lemmas.List.Sums.{fold-append}
+use Rattle.rk_world.specs.Backup.{Called}
+use Rattle.rk_world.specs.Cluster.{Cluster, Occurrence, cluster_after, cluster_run}
+use Rattle.rk_settle.specs.Course.{Course, moved, moved_all}
+use Rattle.rk_settle.proofs.Occurred.{move_is}
+
+-- a run goes on where the first part of it ended
+pub runs_join : (cluster : Cluster) (before after : List Occurrence) → cluster_run cluster (before ++ after) ≡ cluster_run (cluster_run cluster before) after
+runs_join cluster before after = fold-append cluster_after cluster before after
+
+-- the cluster of a course is what has occurred made of the one at its start
+abbrev pub IsCourseFrom : Cluster → Course → Type 0
+IsCourseFrom start course = course.cluster ≡ cluster_run start course.occurred
+
+-- it stays so at a move
+pub moved_from : (start : Cluster) (course : Course) (called : Called) → IsCourseFrom start course → IsCourseFrom start (moved course called)
+moved_from start course called from =
+    let move = move_is 0 course called in
+    move.cluster_is ∙ ap (λ (cluster : Cluster). cluster_run cluster move.occurrences) from
+    ∙ sym (runs_join start course.occurred move.occurrences) ∙ ap (cluster_run start) (sym move.occurred)
+
+-- and at all of them
+pub all_moved_from : (start : Cluster) (course : Course) (calls : List Called) → IsCourseFrom start course → IsCourseFrom start (moved_all course calls)
+all_moved_from start course [] from = from
+all_moved_from start course (called ∷ calls) from = all_moved_from start (moved course called) calls (moved_from start course called from)

@@ -1,0 +1,112 @@
+-- A cluster that a run of a new one has come to, and occurrences that go on with that run.
+use Rattle.std.proofs.Common.{◌≡◌, ℕ, ◌<◌, ◌≤◌, List, [], ◌∷◌, ◌++◌, length, refl, sym, ap, subst, ◌∙◌, arith}
+use Rattle.std.proofs.lemmas.List.FromFn.{length-map-range_with_len}
+use Rattle.rk_types.specs.declared.hashing.TheConstants.{LANES}
+use Rattle.rk_log.specs.declared.copied.TheConstants.{MOST_BACKUPS}
+use Rattle.rk_world.specs.Cluster.{Cluster, ClusterMay, KeepsCalm, Occurrence, cluster_after, cluster_run, lane_at, new_cluster}
+use Rattle.rk_world.specs.Premises.{MOST_MASTERS}
+use Rattle.rk_world.specs.World.{World, new_world}
+use Rattle.rk_laws_stands.specs.Backups.{AllBackupsTell}
+use Rattle.rk_laws_steps.specs.Steps.{IsSteady}
+use Rattle.rk_laws_history.specs.Runs.{IsRun}
+use Rattle.rk_laws_history.proofs.Clusters.{IsGood, IsGoodLane}
+use Rattle.rk_laws_history.proofs.Runs.{good_after}
+use Rattle.rk_laws_history.proofs.Staying.{lanes_stay}
+use Rattle.rk_laws_play.specs.Answered.{AreAnswered, ReplicasMay}
+use Rattle.rk_laws_play.proofs.Moving.{runs_join}
+
+-- a run goes on with one that begins where the first ended
+pub run_on : (cluster : Cluster) (before after : List Occurrence) → IsRun cluster before → IsRun (cluster_run cluster before) after → IsRun cluster (before ++ after)
+run_on cluster [] after first second = second
+run_on cluster (occurrence ∷ before) after first second =
+    (first.0, first.1, first.2, first.3, run_on (cluster_after cluster occurrence) before after first.4 second)
+
+-- what is answered in a run is answered in its first part
+pub answered_before : (cluster : Cluster) (before after : List Occurrence) → AreAnswered cluster (before ++ after) → AreAnswered cluster before
+answered_before cluster [] after answered = tt
+answered_before cluster (occurrence ∷ before) after answered =
+    (answered.0, answered.1, answered.2, answered_before (cluster_after cluster occurrence) before after answered.3)
+
+-- and in what follows that
+pub answered_after : (cluster : Cluster) (before after : List Occurrence) → AreAnswered cluster (before ++ after) → AreAnswered (cluster_run cluster before) after
+answered_after cluster [] after answered = answered
+answered_after cluster (occurrence ∷ before) after answered = answered_after (cluster_after cluster occurrence) before after answered.3
+
+-- a run of a new cluster has come to this one
+pub record IsReached (masters backups : ℕ) (cluster : Cluster) : Type 0 where
+  pub few_masters : masters ≤ MOST_MASTERS
+  pub backed : 1 ≤ backups
+  pub few_backups : backups ≤ MOST_BACKUPS
+  pub before : List Occurrence
+  pub run : IsRun (new_cluster masters backups) before
+  pub is : cluster ≡ cluster_run (new_cluster masters backups) before
+
+-- what is so of a lane from its start on, beside the invariant
+abbrev pub Lasts : World → Type 0
+Lasts w = IsSteady w × AllBackupsTell w
+
+module _ (masters backups : ℕ) where
+  -- a new cluster is reached by a run in which nothing occurs
+  pub new_reached : masters ≤ MOST_MASTERS → 1 ≤ backups → backups ≤ MOST_BACKUPS → IsReached masters backups (new_cluster masters backups)
+  new_reached few backed few_backups =
+      record { few_masters = few; backed = backed; few_backups = few_backups; before = []; run = tt; is = refl }
+
+  module _ (cluster : Cluster) (reached : IsReached masters backups cluster) where
+    -- so is one that a run of this one comes to
+    pub reached_after : (list : List Occurrence) → IsRun cluster list → IsReached masters backups (cluster_run cluster list)
+    reached_after list run =
+        let start : Cluster = new_cluster masters backups in
+        record {
+          few_masters = reached.few_masters;
+          backed = reached.backed;
+          few_backups = reached.few_backups;
+          before = reached.before ++ list;
+          run = run_on start reached.before list reached.run (subst (λ (from : Cluster). IsRun from list) reached.is run);
+          is =
+              ap (λ (from : Cluster). cluster_run from list) reached.is
+              ∙ sym (runs_join start reached.before list);
+        }
+
+    -- it is as a cluster between two occurrences is
+    pub reached_good : IsGood Lasts masters cluster
+    reached_good =
+        subst (IsGood Lasts masters) (sym reached.is)
+        (good_after masters backups reached.few_masters reached.backed reached.few_backups reached.before reached.run)
+
+    -- it has eight lanes
+    pub reached_eight : length cluster.lanes ≡ LANES
+    reached_eight =
+        ap (λ (it : Cluster). length it.lanes) reached.is ∙ lanes_stay (new_cluster masters backups) reached.before
+        ∙ length-map-range_with_len (λ (lane : ℕ). new_world lane masters backups) 0 LANES
+
+    -- each of which is there
+    pub lane_there : (lane : ℕ) → lane < LANES → lane < length cluster.lanes
+    lane_there lane inside = let eight = reached_eight in omega (arith, inside, eight)
+
+    -- and good
+    pub lane_good : (lane : ℕ) → lane < LANES → IsGoodLane Lasts masters lane (lane_at cluster lane)
+    lane_good lane inside = reached_good.lanes lane (lane_there lane inside)
+
+  -- ---- occurrences that go on with a run
+
+  -- occurrences go on with a run that has come to a cluster, where replicas answer as they may and all lanes have room after each
+  abbrev pub GoesOn : Cluster → List Occurrence → Type 0
+  GoesOn cluster list = IsReached masters backups cluster → AreAnswered cluster list → IsRun cluster list
+
+  pub none_on : (cluster : Cluster) → GoesOn cluster []
+  none_on cluster reached answered = tt
+
+  -- one that may occur, and those behind it
+  pub one_on : (cluster : Cluster) (occurrence : Occurrence) (later : List Occurrence)
+      → (IsReached masters backups cluster → ReplicasMay occurrence → ClusterMay cluster occurrence × KeepsCalm cluster occurrence)
+      → GoesOn (cluster_after cluster occurrence) later → GoesOn cluster (occurrence ∷ later)
+  one_on cluster occurrence later may rest reached answered =
+      let here : ClusterMay cluster occurrence × KeepsCalm cluster occurrence = may reached answered.0 in
+      let first : IsRun cluster (occurrence ∷ []) = (here.0, here.1, answered.1, answered.2, tt) in
+      (here.0, here.1, answered.1, answered.2, rest (reached_after cluster reached (occurrence ∷ []) first) answered.3)
+
+  -- some, and those behind them
+  pub all_on : (cluster : Cluster) (before after : List Occurrence) → GoesOn cluster before → GoesOn (cluster_run cluster before) after → GoesOn cluster (before ++ after)
+  all_on cluster before after first second reached answered =
+      let run : IsRun cluster before = first reached (answered_before cluster before after answered) in
+      run_on cluster before after run (second (reached_after cluster reached before run) (answered_after cluster before after answered))

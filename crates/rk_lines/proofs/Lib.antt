@@ -1,0 +1,4 @@
+pub mod Digits
+pub mod ByKey
+pub mod LaneLines
+pub mod Examples

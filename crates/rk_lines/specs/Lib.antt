@@ -1,0 +1,4 @@
+pub mod Lines
+pub mod Tablets
+pub mod Records
+pub mod History

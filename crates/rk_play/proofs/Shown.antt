@@ -1,0 +1,70 @@
+-- What commands that show something have come to, and those that a code refuses.
+use Rattle.std.proofs.Common.{◌≡◌, ℕ, ◌++◌, List, [], Option, None, Some, refl, sym, subst}
+use Rattle.rk_outside.specs.Segments.{Segments}
+use Rattle.rk_world.specs.Backup.{Called}
+use Rattle.rk_world.specs.Cluster.{Cluster}
+use Rattle.rk_cluster.specs.Numbers.{number_of}
+use Rattle.rk_cluster.specs.State.{ClusterState, IsOf}
+use Rattle.rk_lane.specs.LaneState.{LaneState}
+use Rattle.rk_cluster.specs.Steps.{state_of}
+use Rattle.rk_cluster.specs.Told.{LanesTell, Tells}
+use Rattle.rk_cluster.specs.declared.code.Code.{Code}
+use Rattle.rk_play.specs.Came.{Came, IsCome, Ran, Stopped, WhereRefused}
+use Rattle.rk_play.specs.Effects.{Effect, Refuses, refused_by, shown, writing}
+use Rattle.rk_play.specs.declared.error.PlayError.{PlayError}
+use Rattle.rk_play.specs.declared.error.PlayError.TheVariants as errors
+
+module _ {R : Type 0} (segments : R → Option Segments) (state : ClusterState R) where
+  -- a code refuses a command
+  pub came_refused : (effect_of : Cluster → List Called → Effect) (it : Code)
+      → ((cluster : Cluster) → IsOf segments state cluster → effect_of cluster [] ≡ refused_by it cluster)
+      → Came segments state state effect_of [] (Some (Refuses (number_of it)))
+  came_refused effect_of it refuses = record {
+    calls = [];
+    comes = λ cluster is.
+        subst (λ (effect : Effect). IsCome segments state [] (Some (Refuses (number_of it))) effect) (sym (refuses cluster is))
+        (record { cluster = is; text_is = refl; stop_is = refl });
+  }
+
+  module _ (code : Cluster → Option Code) (text : Cluster → List ℕ) where
+    pub shown_refused : (it : Code) → Tells segments state code (Some it)
+        → Came segments state state (λ cluster calls. shown cluster (code cluster) (text cluster)) [] (Some (Refuses (number_of it)))
+    shown_refused it tells =
+        came_refused (λ cluster calls. shown cluster (code cluster) (text cluster)) it (λ cluster is i. shown cluster (tells cluster is i) (text cluster))
+
+    -- a text is added that shows it
+    pub shown_written : (lines was now : List ℕ) → Tells segments state code None → Tells segments state text lines → now ≡ was ++ lines
+        → Ran segments state state (λ cluster calls. shown cluster (code cluster) (text cluster)) was now
+    shown_written lines was now none tells added = record {
+      text = lines;
+      added = added;
+      came = record {
+        calls = [];
+        comes = λ cluster is.
+            subst (λ (effect : Effect). IsCome segments state lines None effect)
+            (λ i. shown cluster (sym (none cluster is) i) (sym (tells cluster is) i))
+            (let effect : Effect = writing lines cluster [] in record { cluster = is; text_is = refl; stop_is = refl });
+      };
+    }
+
+-- what is seen in lanes is seen in the cluster that has them
+pub in_lanes : {R T : Type 0} (segments : R → Option Segments) (state : ClusterState R) (lanes : List (LaneState R)) (look : Cluster → T) (seen : T)
+    → lanes ≡ state.lanes → LanesTell segments lanes look seen → Tells segments state look seen
+in_lanes {R} segments state lanes look seen same tells cluster is =
+    tells state.sessions cluster (subst (λ (it : List (LaneState R)). IsOf segments (state_of it state.sessions) cluster) (sym same) is)
+
+-- what is known of the code of a refusal
+pub refused_weaker : (Holds Also : Code → Type 0) (error : PlayError) → ((code : Code) → Holds code → Also code) → WhereRefused Holds error → WhereRefused Also error
+refused_weaker Holds Also errors.NoMemory weaker known = tt
+refused_weaker Holds Also (errors.Refused code) weaker known = weaker code known
+refused_weaker Holds Also (errors.Worn number) weaker known = known
+refused_weaker Holds Also (errors.Replica rounds) weaker known = known
+
+-- a refusal ends the run as each of its codes does
+pub refused_stops : {R : Type 0} (segments : R → Option Segments) (state : ClusterState R) (effect_of : Cluster → List Called → Effect) (Holds : Code → Type 0) (error : PlayError)
+    → ((code : Code) → Holds code → Came segments state state effect_of [] (Some (Refuses (number_of code)))) → WhereRefused Holds error
+    → Stopped segments state state effect_of error
+refused_stops segments state effect_of Holds errors.NoMemory stops known = tt
+refused_stops segments state effect_of Holds (errors.Refused code) stops known = stops code known
+refused_stops segments state effect_of Holds (errors.Worn number) stops known = absurd known
+refused_stops segments state effect_of Holds (errors.Replica rounds) stops known = absurd known

@@ -1,0 +1,116 @@
+use Rattle.std.proofs.Common.{[], ◌∷◌, ap}
+use Rattle.rk_cluster.specs.Makes.{turn_makes}
+use Rattle.rk_script.specs.declared.command.Command.{Command}
+use Rattle.rk_play.specs.Effects.{effect}
+use Rattle.rk_play.proofs.Carried.{carried_out, delivered, ends_in, undelivered}
+use Rattle.rk_play.proofs.commands.run_command.Goals as goal
+
+pub returns-in-Table-clause-ok : goal.returns-in-Table-clause-ok
+returns-in-Table-clause-ok g c =
+    carried_out _ _ _ _ _ _ (λ cluster. ap (λ (command : Command). effect cluster command []) c.in-Table.is)
+    _ _ _ _ _ c.add_table.ensures.ok c.tell.ensures.ok
+
+pub returns-in-Table-clause-err : goal.returns-in-Table-clause-err
+returns-in-Table-clause-err g c =
+    ends_in _ _ _ _ _ _ (λ cluster. ap (λ (command : Command). effect cluster command []) c.in-Table.is)
+    _ _ c.add_table.ensures.err c.tell.ensures.err
+
+pub returns-in-Client-clause-ok : goal.returns-in-Client-clause-ok
+returns-in-Client-clause-ok g c =
+    carried_out _ _ _ _ _ _ (λ cluster. ap (λ (command : Command). effect cluster command []) c.in-Client.is)
+    _ _ _ _ _ c.add_client.ensures.ok c.tell-in-Client.ensures.ok
+
+pub returns-in-Client-clause-err : goal.returns-in-Client-clause-err
+returns-in-Client-clause-err g c =
+    ends_in _ _ _ _ _ _ (λ cluster. ap (λ (command : Command). effect cluster command []) c.in-Client.is)
+    _ _ c.add_client.ensures.err c.tell-in-Client.ensures.err
+
+pub returns-in-Call-clause-ok : goal.returns-in-Call-clause-ok
+returns-in-Call-clause-ok g c =
+    carried_out _ _ _ _ _ _ (λ cluster. ap (λ (command : Command). effect cluster command []) c.in-Call.is)
+    _ _ _ _ _ c.call.ensures.ok c.tell-in-Call.ensures.ok
+
+pub returns-in-Call-clause-err : goal.returns-in-Call-clause-err
+returns-in-Call-clause-err g c =
+    ends_in _ _ _ _ _ _ (λ cluster. ap (λ (command : Command). effect cluster command []) c.in-Call.is)
+    _ _ c.call.ensures.err c.tell-in-Call.ensures.err
+
+pub returns-in-Repeat-clause-ok : goal.returns-in-Repeat-clause-ok
+returns-in-Repeat-clause-ok g c =
+    carried_out _ _ _ _ _ _ (λ cluster. ap (λ (command : Command). effect cluster command []) c.in-Repeat.is)
+    _ _ _ _ _ c.again.ensures.ok c.tell-in-Repeat.ensures.ok
+
+pub returns-in-Repeat-clause-err : goal.returns-in-Repeat-clause-err
+returns-in-Repeat-clause-err g c =
+    ends_in _ _ _ _ _ _ (λ cluster. ap (λ (command : Command). effect cluster command []) c.in-Repeat.is)
+    _ _ c.again.ensures.err c.tell-in-Repeat.ensures.err
+
+pub returns-in-Migrate-clause-ok : goal.returns-in-Migrate-clause-ok
+returns-in-Migrate-clause-ok g c =
+    carried_out _ _ _ _ _ _ (λ cluster. ap (λ (command : Command). effect cluster command []) c.in-Migrate.is)
+    _ _ _ _ _ c.migrate.ensures.ok c.tell-in-Migrate.ensures.ok
+
+pub returns-in-Migrate-clause-err : goal.returns-in-Migrate-clause-err
+returns-in-Migrate-clause-err g c =
+    ends_in _ _ _ _ _ _ (λ cluster. ap (λ (command : Command). effect cluster command []) c.in-Migrate.is)
+    _ _ c.migrate.ensures.err c.tell-in-Migrate.ensures.err
+
+pub returns-in-Split-clause-ok : goal.returns-in-Split-clause-ok
+returns-in-Split-clause-ok g c =
+    carried_out _ _ _ _ _ _ (λ cluster. ap (λ (command : Command). effect cluster command []) c.in-Split.is)
+    _ _ _ _ _ c.split.ensures.ok c.tell-in-Split.ensures.ok
+
+pub returns-in-Split-clause-err : goal.returns-in-Split-clause-err
+returns-in-Split-clause-err g c =
+    ends_in _ _ _ _ _ _ (λ cluster. ap (λ (command : Command). effect cluster command []) c.in-Split.is)
+    _ _ c.split.ensures.err c.tell-in-Split.ensures.err
+
+pub returns-in-Turn-clause-ok : goal.returns-in-Turn-clause-ok
+returns-in-Turn-clause-ok g c =
+    carried_out _ _ _ _ _ _ (λ cluster. ap (λ (command : Command). effect cluster command []) c.in-Turn.is)
+    _ _ _ _ _ c.turn.ensures.ok c.tell-in-Turn.ensures.ok
+
+pub returns-in-Turn-clause-err : goal.returns-in-Turn-clause-err
+returns-in-Turn-clause-err g c =
+    ends_in _ _ _ _ _ (λ cluster. turn_makes cluster c.in-Turn.lane) (λ cluster. ap (λ (command : Command). effect cluster command []) c.in-Turn.is)
+    _ _ c.turn.ensures.err c.tell-in-Turn.ensures.err
+
+pub returns-in-Deliver-clause-ok : goal.returns-in-Deliver-clause-ok
+returns-in-Deliver-clause-ok g c =
+    delivered _ _ _ _ _ _ (λ called cluster. ap (λ (command : Command). effect cluster command (called ∷ [])) c.in-Deliver.is)
+    _ _ _ _ _ c.deliver.ensures.ok c.tell-in-Deliver.ensures.ok
+
+pub returns-in-Deliver-clause-err : goal.returns-in-Deliver-clause-err
+returns-in-Deliver-clause-err g c =
+    undelivered _ _ _ _ _ _ (λ called cluster. ap (λ (command : Command). effect cluster command (called ∷ [])) c.in-Deliver.is)
+    _ _ c.deliver.ensures.err c.tell-in-Deliver.ensures.err
+
+pub returns-in-Forget-clause-ok : goal.returns-in-Forget-clause-ok
+returns-in-Forget-clause-ok g c =
+    carried_out _ _ _ _ _ _ (λ cluster. ap (λ (command : Command). effect cluster command []) c.in-Forget.is)
+    _ _ _ _ _ c.forget.ensures.ok c.tell-in-Forget.ensures.ok
+
+pub returns-in-Forget-clause-err : goal.returns-in-Forget-clause-err
+returns-in-Forget-clause-err g c =
+    ends_in _ _ _ _ _ _ (λ cluster. ap (λ (command : Command). effect cluster command []) c.in-Forget.is)
+    _ _ c.forget.ensures.err c.tell-in-Forget.ensures.err
+
+pub returns-in-Crash-clause-ok : goal.returns-in-Crash-clause-ok
+returns-in-Crash-clause-ok g c =
+    carried_out _ _ _ _ _ _ (λ cluster. ap (λ (command : Command). effect cluster command []) c.in-Crash.is)
+    _ _ _ _ _ c.crash.ensures.ok c.tell-in-Crash.ensures.ok
+
+pub returns-in-Crash-clause-err : goal.returns-in-Crash-clause-err
+returns-in-Crash-clause-err g c =
+    ends_in _ _ _ _ _ _ (λ cluster. ap (λ (command : Command). effect cluster command []) c.in-Crash.is)
+    _ _ c.crash.ensures.err c.tell-in-Crash.ensures.err
+
+pub returns-in-Notice-clause-ok : goal.returns-in-Notice-clause-ok
+returns-in-Notice-clause-ok g c =
+    carried_out _ _ _ _ _ _ (λ cluster. ap (λ (command : Command). effect cluster command []) c.in-Notice.is)
+    _ _ _ _ _ c.notice.ensures.ok c.tell-in-Notice.ensures.ok
+
+pub returns-in-Notice-clause-err : goal.returns-in-Notice-clause-err
+returns-in-Notice-clause-err g c =
+    ends_in _ _ _ _ _ _ (λ cluster. ap (λ (command : Command). effect cluster command []) c.in-Notice.is)
+    _ _ c.notice.ensures.err c.tell-in-Notice.ensures.err

@@ -1,0 +1,57 @@
+-- A script that is too long is refused at line 0.
+use Rattle.std.proofs.Common.{◌≡◌, ◌<◌, ◌+◌, ℕ, List, [], length, ap, sym, subst, ◌∙◌}
+use Rattle.std.specs.Prelude.{Err}
+use Rattle.std.proofs.lemmas.Option.{IfSome_then}
+use Rattle.rk_types.specs.declared.status.Status.TheVariants.{Audit, Done, ReadFault, Usage}
+use Rattle.rk_script.specs.declared.script.TheConstants.{LONGEST_SCRIPT}
+use Rattle.rk_play.specs.Concluded.{MayComeTo}
+use Rattle.rk_play.specs.Played.{cluster_by, played, refused_at, unset}
+use Rattle.rk_play.proofs.Concluding.{concluded_apart, concluded_comes}
+use Rattle.rk_play.proofs.Telling.{refused_plays, too_long, unset_may}
+use Rattle.rk_play.proofs.playing.play.Goals as goal
+
+pub returns-in-Err-TooLong-clause-plays : goal.returns-in-Err-TooLong-clause-plays
+returns-in-Err-TooLong-clause-plays g c = λ empty.
+    IfSome_then (g.S.Source.left c.args.source.now) (c.in-Err-TooLong.ensures.too_long (ap Err c.in-Err-TooLong.field-0-is))
+    (λ script longer.
+    let plays =
+    refused_plays g.R.Replica.segments (λ calls. played script calls) 0 c.number.result unset c.refuse.result (g.K.Sink.written c.args.sink.now) (g.K.Sink.written c.refuse.new.sink)
+    c.args.replicas.now.items
+    (too_long script [] longer ∙ ap (λ (code : ℕ). refused_at 0 code (cluster_by unset)) (sym c.number.ensures))
+    (c.refuse.ensures.concludes (cluster_by unset)) c.requires unset_may empty
+    in
+    record { calls = plays.calls; runs = plays.runs; stored = λ memory read. plays.stored memory })
+
+pub returns-in-Err-TooLong-clause-usage : goal.returns-in-Err-TooLong-clause-usage
+returns-in-Err-TooLong-clause-usage g c = λ is.
+    let comes =
+    concluded_comes (refused_at 0 c.number.result (cluster_by unset)) [] c.refuse.result (g.K.Sink.written c.args.sink.now) (g.K.Sink.written c.refuse.new.sink)
+    (c.refuse.ensures.concludes (cluster_by unset)) tt
+    in
+    subst MayComeTo is comes
+
+pub returns-in-Err-TooLong-clause-audit : goal.returns-in-Err-TooLong-clause-audit
+returns-in-Err-TooLong-clause-audit g c = λ is.
+    let comes =
+    concluded_comes (refused_at 0 c.number.result (cluster_by unset)) [] c.refuse.result (g.K.Sink.written c.args.sink.now) (g.K.Sink.written c.refuse.new.sink)
+    (c.refuse.ensures.concludes (cluster_by unset)) tt
+    in
+    subst MayComeTo is comes
+
+pub returns-in-Err-TooLong-clause-all_read : goal.returns-in-Err-TooLong-clause-all_read
+returns-in-Err-TooLong-clause-all_read g c = λ done.
+    absurd
+    (concluded_apart (refused_at 0 c.number.result (cluster_by unset)) [] c.refuse.result (g.K.Sink.written c.args.sink.now) (g.K.Sink.written c.refuse.new.sink)
+    (c.refuse.ensures.concludes (cluster_by unset)) (λ same. absurd (cc same)) done)
+
+pub returns-in-Err-TooLong-clause-read_cause : goal.returns-in-Err-TooLong-clause-read_cause
+returns-in-Err-TooLong-clause-read_cause g c =
+    let comes =
+    concluded_comes (refused_at 0 c.number.result (cluster_by unset)) [] c.refuse.result (g.K.Sink.written c.args.sink.now) (g.K.Sink.written c.refuse.new.sink)
+    (c.refuse.ensures.concludes (cluster_by unset)) tt
+    in
+    record {
+      later = c.in-Err-TooLong.ensures.later;
+      kept = λ _. c.in-Err-TooLong.ensures.kept (λ failed. absurd (cc (sym (ap Err c.in-Err-TooLong.field-0-is) ∙ failed)));
+      rose = λ is. absurd (subst MayComeTo is comes);
+    }

@@ -1,0 +1,28 @@
+-- A line that is refused refuses the script before anything runs.
+use Rattle.std.proofs.Common.{◌≡◌, ℕ, List, [], ap, sym, ◌∙◌}
+use Rattle.std.specs.Prelude.{Result, Err}
+use Rattle.rk_script.specs.Script.{script_of}
+use Rattle.rk_script.specs.declared.command.Numbered.{Numbered}
+use Rattle.rk_script.specs.declared.script.ParseError.{ParseError}
+use Rattle.rk_script.specs.declared.script.ParseError.TheVariants.{Refused}
+use Rattle.rk_play.specs.Played.{cluster_by, played_of, refused_at, unset}
+use Rattle.rk_play.proofs.Concluding.{concluded_comes}
+use Rattle.rk_play.proofs.Telling.{refused_plays, unset_may}
+use Rattle.rk_play.proofs.playing.play_script.Goals as goal
+
+pub returns-in-Err-Refused-clause-plays : goal.returns-in-Err-Refused-clause-plays
+returns-in-Err-Refused-clause-plays g c = λ empty.
+    let said : script_of c.args.script.now ≡ Err (Refused c.in-Err-Refused.line c.in-Err-Refused.code) =
+    c.in-Err-Refused.ensures.err (λ memory. absurd (cc (sym c.in-Err-Refused.field-0-is ∙ memory))) ∙ ap Err c.in-Err-Refused.field-0-is
+    in
+    refused_plays g.R.Replica.segments (λ calls. played_of (script_of c.args.script.now) calls) c.in-Err-Refused.line c.number.result unset c.refuse.result
+    (g.K.Sink.written c.args.sink.now) (g.K.Sink.written c.refuse.new.sink) c.args.replicas.now.items
+    (ap (λ (read : Result (List Numbered) ParseError). played_of read []) said
+    ∙ ap (λ (code : ℕ). refused_at c.in-Err-Refused.line code (cluster_by unset)) (sym c.number.ensures))
+    (c.refuse.ensures.concludes (cluster_by unset)) c.requires unset_may empty
+
+pub returns-in-Err-Refused-clause-status : goal.returns-in-Err-Refused-clause-status
+returns-in-Err-Refused-clause-status g c =
+    let cluster = cluster_by unset in
+    concluded_comes (refused_at c.in-Err-Refused.line c.number.result cluster) [] c.refuse.result (g.K.Sink.written c.args.sink.now) (g.K.Sink.written c.refuse.new.sink)
+    (c.refuse.ensures.concludes cluster) tt

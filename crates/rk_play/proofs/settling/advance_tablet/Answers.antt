@@ -1,0 +1,46 @@
+use Rattle.std.proofs.Common.{◌≡◌, ◌++◌, List, Option, None, Some, refl, sym, ap, subst, ◌∙◌}
+use Rattle.std.proofs.lemmas.Result.{err_from_is_err_and}
+use Rattle.rk_types.specs.declared.node.Said.{Said}
+use Rattle.rk_lines.specs.Lines.{said_lines}
+use Rattle.rk_cluster.specs.declared.code.Code.{Code}
+use Rattle.rk_settle.specs.Course.{course_of, moved_all}
+use Rattle.rk_settle.specs.Codes.{advance_code}
+use Rattle.rk_settle.specs.Advance.{advance}
+use Rattle.rk_settle.specs.declared.reach.Reach.{Reach}
+use Rattle.rk_script.specs.declared.command.Command.TheVariants.{Advance}
+use Rattle.rk_play.specs.Came.{Ran, Stopped}
+use Rattle.rk_play.specs.Effects.{effect, settled}
+use Rattle.rk_play.specs.Stops.{error_by_settling}
+use Rattle.rk_play.proofs.Settled.{settled_ran, settled_stopped}
+use Rattle.rk_play.proofs.Shown.{came_refused}
+use Rattle.rk_play.proofs.settling.advance_tablet.Goals as goal
+
+pub returns-in_err-said-clause-err : goal.returns-in_err-said-clause-err
+returns-in_err-said-clause-err g c =
+    let lost = err_from_is_err_and c.from_residual.result c.from_residual.ensures.1 in
+    rw (lost.1, lost.2)
+    (subst (λ (reach : Reach). Stopped g.R.Replica.segments c.args.cluster.now c.advance.new.cluster
+    (λ cluster calls. settled cluster (advance_code cluster c.args.tablet reach) (moved_all (course_of cluster (advance cluster c.args.tablet reach)) calls))
+    (error_by_settling c.in_err-said.field-0.0))
+    c.reach_of-reach.ensures
+    (settled_stopped g.R.Replica.segments c.args.cluster.now c.advance.new.cluster (λ cluster. advance_code cluster c.args.tablet c.reach_of-reach.result)
+    (λ cluster. advance cluster c.args.tablet c.reach_of-reach.result) (λ cluster is. c.advance_code.ensures cluster is ∙ c.in_default.is)
+    c.in_err-said.field-0.0 c.in_err-said.ensures.err))
+
+pub returns-clause-ok : goal.returns-clause-ok
+returns-clause-ok g c =
+    subst (λ (reach : Reach). Ran g.R.Replica.segments c.args.cluster.now c.advance.new.cluster
+    (λ cluster calls. settled cluster (advance_code cluster c.args.tablet reach) (moved_all (course_of cluster (advance cluster c.args.tablet reach)) calls))
+    c.args.text.now.items c.push_all_said.new.text.items)
+    c.reach_of-reach.ensures
+    (settled_ran g.R.Replica.segments c.args.cluster.now c.advance.new.cluster (λ cluster. advance_code cluster c.args.tablet c.reach_of-reach.result)
+    (λ cluster. advance cluster c.args.tablet c.reach_of-reach.result) (λ cluster is. c.advance_code.ensures cluster is ∙ c.in_default.is)
+    c.in_ok-said.said.items c.args.text.now.items c.push_all_said.new.text.items
+    c.in_ok-said.ensures.ok (c.in_ok-push_all_said.ensures ∙ ap (λ (said : List Said). c.args.text.now.items ++ said_lines said) c.as_slice.ensures.value))
+
+pub returns-in-Some-clause-err : goal.returns-in-Some-clause-err
+returns-in-Some-clause-err g c =
+    came_refused g.R.Replica.segments c.args.cluster.now (λ cluster calls. effect cluster (Advance c.args.tablet c.args.wanted) calls) c.in-Some.code
+    (λ cluster is.
+    ap (λ (reach : Reach). settled cluster (advance_code cluster c.args.tablet reach) (course_of cluster (advance cluster c.args.tablet reach))) (sym c.reach_of-reach.ensures)
+    ∙ ap (λ (code : Option Code). settled cluster code (course_of cluster (advance cluster c.args.tablet c.reach_of-reach.result))) (c.advance_code.ensures cluster is ∙ c.in-Some.is))

@@ -1,0 +1,29 @@
+use Rattle.std.proofs.Common.{◌≡◌, ◌++◌, List, Option, None, Some, refl, ap, ◌∙◌}
+use Rattle.std.proofs.lemmas.Result.{err_from_is_err_and}
+use Rattle.rk_types.specs.declared.node.Said.{Said}
+use Rattle.rk_lines.specs.Lines.{said_lines}
+use Rattle.rk_cluster.specs.declared.code.Code.{Code}
+use Rattle.rk_settle.specs.Course.{course_of}
+use Rattle.rk_settle.specs.Codes.{priority_code}
+use Rattle.rk_settle.specs.Priority.{priority}
+use Rattle.rk_script.specs.declared.command.Command.TheVariants.{Priority}
+use Rattle.rk_play.specs.Effects.{effect, settled}
+use Rattle.rk_play.proofs.Settled.{settled_ran, settled_stopped}
+use Rattle.rk_play.proofs.Shown.{came_refused}
+use Rattle.rk_play.proofs.settling.hasten.Goals as goal
+
+pub returns-in_err-said-clause-err : goal.returns-in_err-said-clause-err
+returns-in_err-said-clause-err g c =
+    let lost = err_from_is_err_and c.from_residual.result c.from_residual.ensures.1 in
+    rw (lost.1, lost.2)
+    (settled_stopped g.R.Replica.segments c.args.cluster.now c.priority.new.cluster (λ cluster. priority_code cluster c.args.tablet) (λ cluster. priority cluster c.args.tablet) (λ cluster is. c.priority_code.ensures cluster is ∙ c.in_default.is) c.in_err-said.field-0.0 c.in_err-said.ensures.err)
+
+pub returns-clause-ok : goal.returns-clause-ok
+returns-clause-ok g c =
+    settled_ran g.R.Replica.segments c.args.cluster.now c.priority.new.cluster (λ cluster. priority_code cluster c.args.tablet) (λ cluster. priority cluster c.args.tablet) (λ cluster is. c.priority_code.ensures cluster is ∙ c.in_default.is) c.in_ok-said.said.items c.args.text.now.items c.push_all_said.new.text.items
+    c.in_ok-said.ensures.ok (c.in_ok-push_all_said.ensures ∙ ap (λ (said : List Said). c.args.text.now.items ++ said_lines said) c.as_slice.ensures.value)
+
+pub returns-in-Some-clause-err : goal.returns-in-Some-clause-err
+returns-in-Some-clause-err g c =
+    came_refused g.R.Replica.segments c.args.cluster.now (λ cluster calls. effect cluster (Priority c.args.tablet) calls) c.in-Some.code
+    (λ cluster is. ap (λ (code : Option Code). settled cluster code (course_of cluster (priority cluster c.args.tablet))) (c.priority_code.ensures cluster is ∙ c.in-Some.is))

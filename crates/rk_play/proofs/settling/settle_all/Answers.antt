@@ -1,0 +1,18 @@
+use Rattle.std.proofs.Common.{◌≡◌, ◌++◌, List, Option, None, Some, refl, ap, ◌∙◌}
+use Rattle.std.proofs.lemmas.Result.{err_from_is_err_and}
+use Rattle.rk_types.specs.declared.node.Said.{Said}
+use Rattle.rk_lines.specs.Lines.{said_lines}
+use Rattle.rk_settle.specs.Settle.{settle}
+use Rattle.rk_play.proofs.Settled.{settled_ran, settled_stopped}
+use Rattle.rk_play.proofs.settling.settle_all.Goals as goal
+
+pub returns-in_err-said-clause-err : goal.returns-in_err-said-clause-err
+returns-in_err-said-clause-err g c =
+    let lost = err_from_is_err_and c.from_residual.result c.from_residual.ensures.1 in
+    rw (lost.1, lost.2)
+    (settled_stopped g.R.Replica.segments c.args.cluster.now c.settle.new.cluster (λ cluster. None) (settle) (λ cluster is. refl) c.in_err-said.field-0.0 c.in_err-said.ensures.err)
+
+pub returns-clause-ok : goal.returns-clause-ok
+returns-clause-ok g c =
+    settled_ran g.R.Replica.segments c.args.cluster.now c.settle.new.cluster (λ cluster. None) (settle) (λ cluster is. refl) c.in_ok-said.said.items c.args.text.now.items c.push_all_said.new.text.items
+    c.in_ok-said.ensures.ok (c.in_ok-push_all_said.ensures ∙ ap (λ (said : List Said). c.args.text.now.items ++ said_lines said) c.as_slice.ensures.value)

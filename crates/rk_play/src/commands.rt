@@ -1,0 +1,82 @@
+// What a command of a script does in a cluster, and writes.
+ghost use Rattle.std.specs.Prelude.{◌≡◌, ◌≢◌, ◌++◌, IfErr, IsErrAnd, IsOkAnd, OnOk};
+ghost use Rattle.rk_lines.specs.Lines.{said_lines};
+ghost use Rattle.rk_play.specs.Came.{Ran, Stopped};
+ghost use Rattle.rk_play.specs.Effects.{effect, effect_within};
+ghost use Rattle.rk_play.specs.Stops.{error_by_cluster};
+ghost use Rattle.rk_play.specs.declared.error.PlayError.TheVariants.{NoMemory as no_memory};
+ghost use Rattle.rk_script.specs.Lawful.{IsLawfulCommand};
+
+use crate::error::PlayError;
+use crate::settling::settle_by;
+use crate::shows::is_full;
+use rk_cluster::{Cluster, ClusterError, Code};
+use rk_lines::push_all_said;
+use rk_outside::Replica;
+use rk_script::Command;
+use rk_types::Said;
+use std::alloc::Global;
+
+/// Runs a command in a cluster, unless that is full, and adds what it writes to a text. A command that a code refuses changes
+/// nothing. After `NoMemory` nothing is promised of the cluster, and the text may have a part of what the command writes; after
+/// another error a part of the command may have happened, and the text is as it was.
+pub(crate) fn run_within<R: Replica + Drop>(
+    alloc: Global,
+    cluster: &mut Cluster<R>,
+    command: Command,
+    text: &mut Vec<u8>,
+) -> Result<(), PlayError>
+    requires { IsLawfulCommand command }
+    ensures ok { OnOk result (Ran R.segments cluster.old cluster.new (λ c calls. effect_within c command calls) text.old.items text.new.items) }
+    ensures err { IfErr result (Stopped R.segments cluster.old cluster.new (λ c calls. effect_within c command calls)) }
+    ensures kept { IfErr result (λ e. e ≢ no_memory → text.new.items ≡ text.old.items) }
+{
+    if is_full(cluster) {
+        return Err(PlayError::Refused(Code::Limit));
+    }
+    run_command(alloc, cluster, command, text)
+}
+
+// Runs a command in a cluster that is not full.
+fn run_command<R: Replica + Drop>(
+    alloc: Global,
+    cluster: &mut Cluster<R>,
+    command: Command,
+    text: &mut Vec<u8>,
+) -> Result<(), PlayError>
+    requires { IsLawfulCommand command }
+    ensures ok { OnOk result (Ran R.segments cluster.old cluster.new (λ c calls. effect c command calls) text.old.items text.new.items) }
+    ensures err { IfErr result (Stopped R.segments cluster.old cluster.new (λ c calls. effect c command calls)) }
+    ensures kept { IfErr result (λ e. e ≢ no_memory → text.new.items ≡ text.old.items) }
+{
+    match command {
+        Command::Masters(_) | Command::Backups(_) => Err(PlayError::Refused(Code::TooLate)),
+        Command::Table { table, master } => tell(text, cluster.add_table(table, master)),
+        Command::Client(client) => tell(text, cluster.add_client(client)),
+        Command::Call {
+            client,
+            table,
+            key,
+            op,
+        } => tell(text, cluster.call(client, table, key, op)),
+        Command::Repeat(client) => tell(text, cluster.again(client)),
+        Command::Migrate { tablet, master } => tell(text, cluster.migrate(tablet, master)),
+        Command::Split { tablet, hash } => tell(text, cluster.split(tablet, hash)),
+        Command::Turn(lane) => tell(text, cluster.turn(lane)),
+        Command::Deliver { lane, place } => tell(text, cluster.deliver(lane, place)),
+        Command::Forget { lane, place } => tell(text, cluster.forget(lane, place)),
+        Command::Crash(master) => tell(text, cluster.crash(master)),
+        Command::Notice(master) => tell(text, cluster.notice(master)),
+        other => settle_by(alloc, cluster, other, text),
+    }
+}
+
+// Adds what clients said to a text, or answers why a call was not carried out.
+fn tell(text: &mut Vec<u8>, told: Result<Vec<Said>, ClusterError>) -> Result<(), PlayError>
+    ensures ok { OnOk result (IsOkAnd told (λ said. text.new.items ≡ text.old.items ++ said_lines said.items)) }
+    ensures err { IfErr result (λ e. e ≢ no_memory → IsErrAnd told (λ error. e ≡ error_by_cluster error)) }
+    ensures kept { IfErr result (λ e. e ≢ no_memory → text.new.items ≡ text.old.items) }
+{
+    push_all_said(text, told?.as_slice())?;
+    Ok(())
+}

@@ -1,0 +1,199 @@
+// A script read, played and written.
+ghost use Rattle.std.specs.Prelude.{◌≡◌, ◌+◌, All, [], length, IfSome};
+ghost use Rattle.std.specs.Io.KnownBytes.{IsAtEnd};
+ghost use Rattle.rk_outside.specs.Parts.{ConsumesBetween};
+ghost use Rattle.rk_world.specs.Cluster.{Cluster as Whole};
+ghost use Rattle.rk_cluster.specs.Fresh.{AreEmpty};
+ghost use Rattle.rk_script.specs.Lawful.{IsLawful};
+ghost use Rattle.rk_script.specs.Script.{script_of};
+ghost use Rattle.rk_play.specs.Concluded.{Concludes, ConcludesBy, IsWritten, MayComeTo, PlaysBy};
+ghost use Rattle.rk_play.specs.Played.{cluster_by, played_from, played_in, played_of, refused_at, stopped_at, unset};
+ghost use Rattle.rk_play.specs.Runs.{HasStatusCause, IsRead, Plays};
+ghost use Rattle.rk_play.specs.Settings.{IsSetting, setting_of};
+ghost use Rattle.rk_play.specs.Stops.{stop_by};
+
+use crate::end::End;
+use crate::error::PlayError;
+use crate::run::run_all;
+use crate::setting::{Opening, read_opening};
+use replicas::{give_back, lend};
+use rk_cluster::Cluster;
+use rk_lines::push_refused;
+use rk_outside::{PIECE, ReadError, Replica, Sink, Source, put_all, read_all};
+use rk_script::{Code, LONGEST_SCRIPT, Numbered, ParseError, parse};
+use rk_types::Status;
+use std::alloc::Global;
+
+mod replicas;
+
+/// How many masters and backups there are where a script does not say.
+const DEFAULT_COUNT: u8 = 2;
+
+/// Plays the script that the source has, and writes its text to the sink.
+///
+/// The replicas hold nothing; backup b of lane l has the one at place 8 * (b - 1) + l, counted from 0. Unless memory was
+/// wanting they come back in their order: they tell what the backups store at the end, and those of backups that are not there
+/// are as they were. A script that is too long is read up to one piece past the longest.
+pub fn play<S: Source, K: Sink, R: Replica + Drop>(
+    alloc: Global,
+    source: &mut S,
+    sink: &mut K,
+    replicas: &mut Vec<R>,
+) -> Status
+    requires { length replicas.old.items ≡ 32 }
+    ensures plays { AreEmpty R.segments replicas.old.items → IfSome (S.left source.old) (λ script.
+        Plays R.segments script result (K.written sink.old) (K.written sink.new) replicas.new.items) }
+    ensures count { (result ≡ Status.NoMemory → ⊥) → length replicas.new.items ≡ 32 }
+    ensures usage { result ≡ Status.Usage → ⊥ }
+    ensures audit { result ≡ Status.Audit → ⊥ }
+    ensures all_read { result ≡ Status.Done → IsAtEnd (S.left source.new) }
+    ensures read { result ≡ Status.Refused → IfSome (S.left source.old) (λ script. IsRead script (S.left source.new)) }
+    ensures most_read { ConsumesBetween (S.left source.old) (S.left source.new) 0 (LONGEST_SCRIPT + PIECE) }
+    ensures read_cause { HasStatusCause Status.ReadFault result (S.faults source.old) (S.faults source.new) }
+    ensures write_cause { HasStatusCause Status.WriteFault result (K.faults sink.old) (K.faults sink.new) }
+{
+    match read_all(alloc, LONGEST_SCRIPT, source) {
+        Ok(script) => play_script(alloc, script.as_slice(), sink, replicas),
+        Err(ReadError::TooLong) => refuse(alloc, 0, Code::ScriptLength.number(), sink),
+        Err(ReadError::Failed) => Status::ReadFault,
+        Err(ReadError::NoMemory) => Status::NoMemory,
+    }
+}
+
+// Plays a script.
+fn play_script<K: Sink, R: Replica + Drop>(
+    alloc: Global,
+    script: &[u8],
+    sink: &mut K,
+    replicas: &mut Vec<R>,
+) -> Status
+    requires { length replicas.old.items ≡ 32 }
+    ensures plays { AreEmpty R.segments replicas.old.items
+        → PlaysBy R.segments (λ calls. played_of (script_of script.now) calls) result (K.written sink.old) (K.written sink.new) replicas.new.items }
+    ensures count { (result ≡ Status.NoMemory → ⊥) → length replicas.new.items ≡ 32 }
+    ensures status { MayComeTo result }
+    ensures cause { HasStatusCause Status.WriteFault result (K.faults sink.old) (K.faults sink.new) }
+{
+    match parse(alloc, script) {
+        Ok(commands) => play_commands(alloc, commands, sink, replicas),
+        Err(ParseError::Refused { line, code }) => refuse(alloc, line, code.number(), sink),
+        Err(ParseError::NoMemory) => Status::NoMemory,
+    }
+}
+
+// Plays numbered commands from the start.
+fn play_commands<K: Sink, R: Replica + Drop>(
+    alloc: Global,
+    commands: Vec<Numbered>,
+    sink: &mut K,
+    replicas: &mut Vec<R>,
+) -> Status
+    requires lawful { All IsLawful commands.items }
+    requires count { length replicas.old.items ≡ 32 }
+    ensures plays { AreEmpty R.segments replicas.old.items
+        → PlaysBy R.segments (λ calls. played_from commands.items calls unset) result (K.written sink.old) (K.written sink.new) replicas.new.items }
+    ensures count { (result ≡ Status.NoMemory → ⊥) → length replicas.new.items ≡ 32 }
+    ensures status { MayComeTo result }
+    ensures cause { HasStatusCause Status.WriteFault result (K.faults sink.old) (K.faults sink.new) }
+{
+    let mut commands = commands;
+    let opening = match read_opening(commands.as_slice()) {
+        Ok(opening) => opening,
+        Err(line) => return refuse(alloc, line, rk_cluster::Code::TooLate.number(), sink),
+    };
+    let Ok(others) = commands.split_off(opening.count) else {
+        return Status::NoMemory;
+    };
+    play_opened(alloc, opening, others, sink, replicas)
+}
+
+// Plays commands in the cluster that an opening asks for.
+fn play_opened<K: Sink, R: Replica + Drop>(
+    alloc: Global,
+    opening: Opening,
+    commands: Vec<Numbered>,
+    sink: &mut K,
+    replicas: &mut Vec<R>,
+) -> Status
+    requires lawful { All IsLawful commands.items }
+    requires setting { IsSetting (setting_of opening) }
+    requires count { length replicas.old.items ≡ 32 }
+    ensures plays { AreEmpty R.segments replicas.old.items
+        → PlaysBy R.segments (λ calls. played_in commands.items calls (cluster_by (setting_of opening))) result (K.written sink.old) (K.written sink.new) replicas.new.items }
+    ensures count { (result ≡ Status.NoMemory → ⊥) → length replicas.new.items ≡ 32 }
+    ensures status { MayComeTo result }
+    ensures cause { HasStatusCause Status.WriteFault result (K.faults sink.old) (K.faults sink.new) }
+{
+    let masters = opening.masters.unwrap_or(DEFAULT_COUNT);
+    let backups = opening.backups.unwrap_or(DEFAULT_COUNT);
+    let Ok((its, room)) = lend(alloc, backups, replicas) else {
+        return Status::NoMemory;
+    };
+    let Ok(mut cluster) = Cluster::with_replicas(alloc, masters, backups, its) else {
+        return Status::NoMemory;
+    };
+    let mut held = Vec::new(alloc);
+    let end = run_all(alloc, &mut cluster, commands, &mut held, sink);
+    if let End::NoMemory = end {
+        return Status::NoMemory;
+    }
+    give_back(cluster, room, replicas);
+    conclude(end, held, sink)
+}
+
+// Writes what is held back of a run, and behind it the refusal where it was refused.
+fn conclude<K: Sink>(end: End, held: Vec<u8>, sink: &mut K) -> Status
+    ensures concludes { ConcludesBy end held.items result (K.written sink.old) (K.written sink.new) }
+    ensures cause { (end ≡ End.WriteFault → ⊥) → HasStatusCause Status.WriteFault result (K.faults sink.old) (K.faults sink.new) }
+    ensures kept { end ≡ End.WriteFault → K.faults sink.new ≡ K.faults sink.old }
+{
+    match end {
+        End::Done => write(held.as_slice(), Status::Done, sink),
+        End::Stopped { line, error } => stop(line, error, held, sink),
+        End::WriteFault => Status::WriteFault,
+        End::NoMemory => Status::NoMemory,
+    }
+}
+
+// Writes what is held back of a run that stops at a line, and behind it the refusal where it is refused.
+fn stop<K: Sink>(line: u32, error: PlayError, held: Vec<u8>, sink: &mut K) -> Status
+    ensures concludes { (cluster : Whole) → Concludes (stopped_at line (stop_by error) cluster) held.items result (K.written sink.old) (K.written sink.new) }
+    ensures cause { HasStatusCause Status.WriteFault result (K.faults sink.old) (K.faults sink.new) }
+{
+    let mut held = held;
+    match error {
+        PlayError::NoMemory => Status::NoMemory,
+        PlayError::Worn(_) => write(held.as_slice(), Status::Worn, sink),
+        PlayError::Replica(_) => write(held.as_slice(), Status::ReplicaFault, sink),
+        PlayError::Refused(code) => {
+            if push_refused(&mut held, line, code.number()).is_err() {
+                return Status::NoMemory;
+            }
+            write(held.as_slice(), Status::Refused, sink)
+        }
+    }
+}
+
+// Writes the rest of a text, and answers the status of the run.
+fn write<K: Sink>(text: &[u8], status: Status, sink: &mut K) -> Status
+    requires { status ≡ Status.WriteFault → ⊥ }
+    ensures written { IsWritten text.now status result (K.written sink.old) (K.written sink.new) }
+    ensures cause { HasStatusCause Status.WriteFault result (K.faults sink.old) (K.faults sink.new) }
+{
+    match put_all(sink, text) {
+        Ok(()) => status,
+        Err(_) => Status::WriteFault,
+    }
+}
+
+// Refuses a line with a code, which is all that is written.
+fn refuse<K: Sink>(alloc: Global, line: u32, code: u8, sink: &mut K) -> Status
+    ensures concludes { (cluster : Whole) → Concludes (refused_at line code cluster) [] result (K.written sink.old) (K.written sink.new) }
+    ensures cause { HasStatusCause Status.WriteFault result (K.faults sink.old) (K.faults sink.new) }
+{
+    let mut text = Vec::new(alloc);
+    if push_refused(&mut text, line, code).is_err() {
+        return Status::NoMemory;
+    }
+    write(text.as_slice(), Status::Refused, sink)
+}
