@@ -98,6 +98,18 @@ impl<'a> Pair<'a> {
         Ok(self.accept(2, session)?.taken)
     }
 
+    // The client's request comes to the owner, which sends its entry to the backup: what the client took before, the number of its
+    // request, how many messages the owner sent at once, and the number of the Append.
+    fn stage(&mut self, session: &mut Session) -> Result<(Option<Taken>, u64, u64, u64), StepError>
+        requires { MayAct 2 session.old }
+        ensures { MayAct 2 session.new }
+    {
+        let taken = self.locate(session)?;
+        let asked = self.ask(session)?.first;
+        let sent = self.deliver(3)?.sent;
+        Ok((taken, asked, sent, self.turn(1)?.first))
+    }
+
     // The put goes through the lane, up to the answer.
     fn put(&mut self, alloc: Global) -> Result<(), Fail> {
         let mut session = client(alloc)?;
@@ -156,10 +168,8 @@ impl<'a> Pair<'a> {
 fn a_put_is_told_once_the_backup_holds_it(rt: HostRuntime) -> Result<(), Fail> {
     let mut pair = Pair::new(rt.alloc())?;
     let mut session = client(rt.alloc())?;
-    same(&rt, &pair.locate(&mut session)?, &Some(Taken::Located));
-    same(&rt, &pair.ask(&mut session)?.first, &3);
-    same(&rt, &pair.deliver(3)?.sent, &0);
-    same(&rt, &pair.turn(1)?.first, &4);
+    let staged = pair.stage(&mut session)?;
+    same(&rt, &staged, &(Some(Taken::Located), 3, 0, 4));
     for (number, first, records) in [(4, 5, 0), (5, 6, 1)] {
         same(&rt, &pair.deliver(number)?.first, &first);
         same(&rt, &pair.lane.journal().len(), &records);

@@ -145,13 +145,22 @@ fn clients_are_kept(rt: HostRuntime) -> Result<(), Fail> {
     Ok(())
 }
 
+// Whether a request is the one above.
+fn is_question(request: Option<&Message>) -> bool {
+    match request {
+        Some(request) => *request == question(),
+        None => false,
+    }
+}
+
 #[test]
 fn the_last_request_is_kept(rt: HostRuntime) -> Result<(), Fail> {
     let mut lane = lane_of_one(rt.alloc())?;
-    lane.save(1, question());
-    let wanted = question();
-    same(&rt, &lane.request(1), &Some(&wanted));
-    same(&rt, &lane.request(2), &None);
+    if lane.is_added(1) {
+        lane.save(1, question());
+    }
+    same(&rt, &is_question(lane.request(1)), &true);
+    same(&rt, &lane.request(2).is_none(), &true);
     Ok(())
 }
 
