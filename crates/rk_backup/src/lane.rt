@@ -36,8 +36,8 @@ impl<R: Replica> BackupLane<R> {
     /// Takes bytes that begin at the byte `at` of a segment, and answers how many bytes the segment has then. They are
     /// accepted where `at` is no more than that was before and the bytes agree with the stored ones as far as both go;
     /// what goes past the stored ones is added at their end, and elsewhere nothing changes. After `Failed` some first
-    /// part of what is to be added was added, and the count of faults rose; after `NoMemory` nothing was. The segment
-    /// is read where there is something to compare.
+    /// part of what is to be added was added, and the count of faults rose; after `NoMemory` nothing was. The replica is
+    /// asked for more than a length only where there are bytes that begin within the stored ones or at their end.
     pub fn on_append(
         &mut self,
         alloc: Global,
@@ -54,6 +54,7 @@ impl<R: Replica> BackupLane<R> {
             (R.lengths (replica_of self.old)) (R.lengths (replica_of self.new)) }
         ensures gap { R.lengths (replica_of self.old) master segment < at
             → result ≡ Ok (R.lengths (replica_of self.old) master segment) }
+        ensures empty { length bytes.now ≡ 0 → result ≡ Ok (R.lengths (replica_of self.old) master segment) }
         ensures end { R.lengths (replica_of self.old) master segment ≡ at
             → IfOk result (λ stored. stored ≡ at + length bytes.now) }
         ensures number { number_of self.new ≡ number_of self.old }
@@ -61,6 +62,9 @@ impl<R: Replica> BackupLane<R> {
     {
         let stored = self.replica.length(master, segment);
         if stored < at {
+            return Ok(stored);
+        }
+        if bytes.is_empty() {
             return Ok(stored);
         }
         if !agrees_with_stored(&mut self.replica, alloc, master, segment, at, bytes)? {

@@ -14,7 +14,7 @@ use Rattle.rk_backup_node.specs.Called.{IsCopied, IsReadOf}
 -- what is told of a failed call
 told_failed : (told : Option Segments) (read : ReadSegment) → IfSome told (λ segments. IsReadOf segments read (Failed 0))
 told_failed None read = tt
-told_failed (Some segments) read = tt
+told_failed (Some segments) read = refl
 
 module _ (number reader : ℕ) (read : ReadSegment) (log : List ℕ) (told : Option Segments) where
   -- a read that failed

@@ -18,11 +18,11 @@ IsBacked backed (Ok message) = backed ≡ record { sends = message ∷ []; lost 
 IsBacked backed (Err failed) = backed ≡ failing
 IsBacked backed (Err NoMemory) = ⊤
 
--- what a read came to, where the replica tells its segments: it gave what is stored, or failed
+-- what a read came to, where the replica tells its segments: it gave what is stored, or failed and nothing was stored
 abbrev pub IsReadOf : Segments → ReadSegment → Called → Type 0
 IsReadOf segments read (Appended length) = ⊥
 IsReadOf segments read (Gave bytes) = bytes ≡ segments read.master read.segment
-IsReadOf segments read (Failed stored) = ⊤
+IsReadOf segments read (Failed stored) = stored ≡ 0
 
 -- a backup answered a Read of a segment that has these bytes in its master's log, by what the call of the replica came to
 pub record IsCopied (number reader : ℕ) (read : ReadSegment) (log : List ℕ) (told : Option Segments) (result : Result Message Lost) : Type 0 where

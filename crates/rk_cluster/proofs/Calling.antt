@@ -5,11 +5,13 @@ use Rattle.std.proofs.lemmas.Bool.{eqb-true}
 use Rattle.std.proofs.lemmas.Bool.Decides.{nat_tests}
 use Rattle.std.proofs.lemmas.List.Elements.{All-head, All-tail}
 use Rattle.rk_types.specs.NumberMap.{NumberMap, get, insert}
+use Rattle.rk_types.proofs.NumberMaps.{get_same}
 use Rattle.rk_types.specs.declared.call.Op.{Op}
 use Rattle.rk_outside.specs.Segments.{Segments}
 use Rattle.rk_tablet_map.specs.declared.row.Row.{Row}
 use Rattle.rk_world.specs.Client.{Session, busy, new_session, next_call, session_calling, with_next_call}
 use Rattle.rk_world.specs.Cluster.{Calls, Cluster, called_by_client, lane_at}
+use Rattle.rk_world.specs.ClusterRuns.{Leads}
 use Rattle.rk_world.specs.Formed.{IsFormedRow}
 use Rattle.rk_world.specs.Limits.{Limits, limits_of}
 use Rattle.rk_world.specs.Premises.{IsLawfulCall, MayAct}
@@ -23,9 +25,10 @@ use Rattle.rk_cluster.specs.Effects.{ActsBy, ActsOne, HasCode, IsActedAs}
 use Rattle.rk_cluster.specs.Looks.{calls_asked, calls_of, has_table, is_client, rows_of}
 use Rattle.rk_cluster.specs.Makes.{call_makes}
 use Rattle.rk_cluster.specs.State.{IsOf, IsWorld}
-use Rattle.rk_cluster.specs.Steps.{state_of}
+use Rattle.rk_cluster.specs.Steps.{MayAllAct, state_of}
 use Rattle.rk_cluster.specs.declared.code.Code.TheVariants.{Busy, Limit, Unknown}
 use Rattle.rk_cluster.proofs.Carrying.{only_acts}
+use Rattle.rk_cluster.proofs.Leading.{leads_by}
 use Rattle.rk_cluster.proofs.Worlds.{world_at}
 
 -- what is mapped twice is mapped once
@@ -123,20 +126,33 @@ module _ {R : Type 0} (segments : R → Option Segments) (lanes : List (LaneStat
   -- ---- what occurs
 
   module _ (later : NumberMap Session) (key : List ℕ) (op : Op) (asked : IsAsked sessions later client table key op) where
-    calls_one : ActsOne segments (state_of lanes sessions) (state_of lanes later) (Calls client table key op) [] None
-    calls_one cluster is =
+    -- where each session may act then, the call is lawful
+    pub call_lawful : (masters : ℕ) → MayAllAct masters later → IsLawfulCall (next_call asked.session table key op)
+    call_lawful masters acts =
+        let session : Session = with_next_call asked.session table key op in
+        let there : get later client ≡ Some session =
+        ap (λ (known : NumberMap Session). get known client) asked.asked ∙ get_same sessions client session client refl in
+        (acts client session there).call
+
+    calls_one : IsLawfulCall (next_call asked.session table key op) → ActsOne segments (state_of lanes sessions) (state_of lanes later) (Calls client table key op) [] None
+    calls_one lawful cluster is =
         let here : get cluster.sessions client ≡ Some asked.session = ap (λ (known : NumberMap Session). get known client) is.sessions ∙ asked.found in
         let free : busy asked.session ≡ None = ap (λ call. option_map (λ c. c.seq) call) asked.free in
-        subst (λ (found : Option Session). IsActedAs segments (state_of lanes later) [] None (quietly (called_by_client cluster client table key op found))) (sym here)
+        subst (λ (found : Option Session). IsActedAs segments cluster (state_of lanes later) [] None (quietly (called_by_client cluster client table key op found))) (sym here)
         (record {
           cluster = record {
             lanes = is.lanes;
             sessions =
                 (λ i. insert (is.sessions i) client (session_calling asked.session table key op (free i))) ∙ sym asked.asked;
           };
+          leads =
+              subst (λ (found : Option Session). Leads cluster (called_by_client cluster client table key op found)) here
+              (leads_by cluster (Calls client table key op)
+              (subst (λ (found : Option Session). IsLawfulCall (next_call (unwrap_or found (new_session client)) table key op)) (sym here) lawful) tt tt tt);
           said = refl;
           worn = refl;
         })
 
-    pub calls : ActsBy segments (state_of lanes sessions) (state_of lanes later) (λ cluster. call_makes client table key op) [] None
-    calls = only_acts segments (state_of lanes sessions) (state_of lanes later) (Calls client table key op) [] calls_one
+    pub calls : IsLawfulCall (next_call asked.session table key op)
+        → ActsBy segments (state_of lanes sessions) (state_of lanes later) (λ cluster. call_makes client table key op) [] None
+    calls lawful = only_acts segments (state_of lanes sessions) (state_of lanes later) (Calls client table key op) [] (calls_one lawful)

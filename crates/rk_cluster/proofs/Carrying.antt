@@ -2,20 +2,22 @@
 use Rattle.std.proofs.Common.{ℕ, List, [], ◌∷◌, ◌++◌, Option, None, Some, refl, sym, ap, subst, ◌∙◌, append-nil}
 use Rattle.rk_types.specs.declared.node.Said.{Said}
 use Rattle.rk_outside.specs.Segments.{Segments}
-use Rattle.rk_world.specs.Cluster.{Occurrence}
+use Rattle.rk_world.specs.Cluster.{Cluster, Occurrence}
 use Rattle.rk_cluster.specs.Acted.{Acted, acted, all_acted, going_on}
 use Rattle.rk_cluster.specs.Effects.{Acts, ActsOne, Carries, IsActedAs}
 use Rattle.rk_cluster.specs.State.{ClusterState}
+use Rattle.rk_cluster.proofs.Leading.{leads_nowhere, leads_on}
 
 module _ {R : Type 0} (segments : R → Option Segments) where
   -- what follows on one occurrence
-  gone_on : (next final : ClusterState R) (told : List Said) (broken : Option ℕ) (later : List Occurrence) (it : Acted) → IsActedAs segments next [] None it
-      → Acts segments next final later told broken → IsActedAs segments final told broken (going_on it it.worn (λ cluster. all_acted cluster later))
-  gone_on next final told broken later it is acts =
-      let after = acts it.cluster is.cluster in
-      subst (λ (o : Option ℕ). IsActedAs segments final told broken (going_on it o (λ cluster. all_acted cluster later))) (sym is.worn)
+  pub gone_on : (before : Cluster) (next final : ClusterState R) (told : List Said) (broken : Option ℕ) (later : List Occurrence) (it : Acted)
+      → IsActedAs segments before next [] None it → IsActedAs segments it.cluster final told broken (all_acted it.cluster later)
+      → IsActedAs segments before final told broken (going_on it it.worn (λ cluster. all_acted cluster later))
+  gone_on before next final told broken later it is after =
+      subst (λ (o : Option ℕ). IsActedAs segments before final told broken (going_on it o (λ cluster. all_acted cluster later))) (sym is.worn)
       (record {
         cluster = after.cluster;
+        leads = leads_on before it.cluster (all_acted it.cluster later).cluster is.leads after.leads;
         said = ap (λ (said : List Said). said ++ (all_acted it.cluster later).said) is.said ∙ after.said;
         worn = after.worn;
       })
@@ -23,31 +25,33 @@ module _ {R : Type 0} (segments : R → Option Segments) where
   pub first_acts : (old next final : ClusterState R) (occurrence : Occurrence) (later : List Occurrence) (told : List Said) (broken : Option ℕ)
       → ActsOne segments old next occurrence [] None → Acts segments next final later told broken → Acts segments old final (occurrence ∷ later) told broken
   first_acts old next final occurrence later told broken one acts cluster is =
-      gone_on next final told broken later (acted cluster occurrence) (one cluster is) acts
+      let it = one cluster is in
+      gone_on cluster next final told broken later (acted cluster occurrence) it (acts (acted cluster occurrence).cluster it.cluster)
 
   -- nothing follows where something is worn
-  worn_stays : (next : ClusterState R) (number : ℕ) (later : List Occurrence) (it : Acted) → IsActedAs segments next [] (Some number) it
-      → IsActedAs segments next [] (Some number) (going_on it it.worn (λ cluster. all_acted cluster later))
-  worn_stays next number later it is =
-      subst (λ (o : Option ℕ). IsActedAs segments next [] (Some number) (going_on it o (λ cluster. all_acted cluster later))) (sym is.worn) is
+  pub worn_stays : (before : Cluster) (next : ClusterState R) (told : List Said) (number : ℕ) (later : List Occurrence) (it : Acted)
+      → IsActedAs segments before next told (Some number) it
+      → IsActedAs segments before next told (Some number) (going_on it it.worn (λ cluster. all_acted cluster later))
+  worn_stays before next told number later it is =
+      subst (λ (o : Option ℕ). IsActedAs segments before next told (Some number) (going_on it o (λ cluster. all_acted cluster later))) (sym is.worn) is
 
   pub worn_acts : (old next : ClusterState R) (occurrence : Occurrence) (later : List Occurrence) (number : ℕ)
       → ActsOne segments old next occurrence [] (Some number) → Acts segments old next (occurrence ∷ later) [] (Some number)
-  worn_acts old next occurrence later number one cluster is = worn_stays next number later (acted cluster occurrence) (one cluster is)
+  worn_acts old next occurrence later number one cluster is = worn_stays cluster next [] number later (acted cluster occurrence) (one cluster is)
 
   -- one occurrence alone, and none
-  last_stays : (next : ClusterState R) (told : List Said) (it : Acted) → IsActedAs segments next told None it
-      → IsActedAs segments next told None (going_on it it.worn (λ cluster. all_acted cluster []))
-  last_stays next told it is =
-      subst (λ (o : Option ℕ). IsActedAs segments next told None (going_on it o (λ cluster. all_acted cluster []))) (sym is.worn)
-      (record { cluster = is.cluster; said = append-nil it.said ∙ is.said; worn = refl })
+  last_stays : (before : Cluster) (next : ClusterState R) (told : List Said) (it : Acted) → IsActedAs segments before next told None it
+      → IsActedAs segments before next told None (going_on it it.worn (λ cluster. all_acted cluster []))
+  last_stays before next told it is =
+      subst (λ (o : Option ℕ). IsActedAs segments before next told None (going_on it o (λ cluster. all_acted cluster []))) (sym is.worn)
+      (record { cluster = is.cluster; leads = is.leads; said = append-nil it.said ∙ is.said; worn = refl })
 
   pub only_acts : (old next : ClusterState R) (occurrence : Occurrence) (told : List Said) → ActsOne segments old next occurrence told None
       → Acts segments old next (occurrence ∷ []) told None
-  only_acts old next occurrence told one cluster is = last_stays next told (acted cluster occurrence) (one cluster is)
+  only_acts old next occurrence told one cluster is = last_stays cluster next told (acted cluster occurrence) (one cluster is)
 
   pub none_acts : (state : ClusterState R) → Acts segments state state [] [] None
-  none_acts state cluster is = record { cluster = is; said = refl; worn = refl }
+  none_acts state cluster is = record { cluster = is; leads = leads_nowhere cluster; said = refl; worn = refl }
 
   -- ---- what is left
 

@@ -1,12 +1,19 @@
 -- A client's turn or answer in a lane is one in the cluster.
-use Rattle.std.proofs.Common.{◌≡◌, ◌≢◌, ℕ, List, [], Option, Some, Result, Ok, Err, IfErr, IfOk, IsSomeAnd, OnErr, is_some, slice_get, slice_set, unwrap_or, refl, sym, ap, subst, ◌∙◌, ⊎_elim}
+use Rattle.std.proofs.Common.{◌≡◌, ◌≢◌, ◌<◌, ℕ, List, [], length, Option, None, Some, Result, Ok, Err, IfErr, IfOk, IfSome, IsSomeAnd, OnErr, is_some, slice_get, slice_set, unwrap_or, refl, sym, ap, subst, ◌∙◌, ⊎_elim, arith}
 use Rattle.std.proofs.lemmas.Bool.{cases_eq}
+use Rattle.std.proofs.lemmas.List.Elements.{All-nil}
+use Rattle.std.proofs.lemmas.Option.{slice_get_within}
 use Rattle.rk_types.specs.NumberMap.{IsInOrder, NumberMap, get, insert}
+use Rattle.rk_types.specs.declared.call.Call.{Call}
+use Rattle.rk_types.specs.declared.call.Ended.{Ended}
 use Rattle.rk_types.proofs.NumberMaps.{get_other, get_same, in_order_insert, same_map}
 use Rattle.rk_outside.specs.Segments.{Segments}
+use Rattle.rk_world.specs.Base.{Base, no_base}
 use Rattle.rk_world.specs.Calls.{Visited, accept, accept_by, ask, ask_by}
 use Rattle.rk_world.specs.Client.{Session, new_session}
 use Rattle.rk_world.specs.Cluster.{Accepts, Asks, Cluster, cluster_visited, lane_at, session_at}
+use Rattle.rk_world.specs.ClusterRuns.{Leads}
+use Rattle.rk_world.specs.Premises.{IsAfterStart}
 use Rattle.rk_world.specs.Refusals.{accept_refusal, ask_refusal}
 use Rattle.rk_world.specs.World.{World, new_world}
 use Rattle.rk_world.specs.declared.error.StepError.{StepError}
@@ -20,7 +27,8 @@ use Rattle.rk_cluster.specs.Saying.{said_then}
 use Rattle.rk_cluster.specs.State.{IsOf, IsWorld}
 use Rattle.rk_cluster.specs.Steps.{state_of}
 use Rattle.rk_cluster.specs.Visits.{HasSession}
-use Rattle.rk_cluster.proofs.Worlds.{set_there, world_at, world_set}
+use Rattle.rk_cluster.proofs.Leading.{leads_by}
+use Rattle.rk_cluster.proofs.Worlds.{same_count, set_there, world_at, world_set}
 
 -- what is put in the place of itself changes nothing
 pub insert_there : {X : Type 0} (things : NumberMap X) (number : ℕ) (thing : X) → IsInOrder things → get things number ≡ Some thing → insert things number thing ≡ things
@@ -30,6 +38,11 @@ insert_there {X} things number thing order there =
     (λ (is : q ≡ number). get_same things number thing q is ∙ sym there ∙ ap (get things) (sym is))
     (λ (apart : q ≡ number → ⊥). get_other things number thing q apart)
     (cases_eq q number))
+
+-- each call comes after a start from nothing
+pub after_nothing : (call : Option Call) → IfSome call (IsAfterStart no_base)
+after_nothing None = tt
+after_nothing (Some call) = All-nil (λ (end : Ended). end.client ≡ call.client → end.seq < call.seq)
 
 module _ {R : Type 0} (segments : R → Option Segments) where
   -- what a visit makes of a world and of a session, and what it answers
@@ -131,39 +144,50 @@ module _ {R : Type 0} (segments : R → Option Segments) where
     world_is : IsWorld segments old (lane_at cluster place)
     world_is = world_at segments lanes cluster.lanes place old (new_world place 0 0) is.lanes there
 
+    within_cluster : place < length cluster.lanes
+    within_cluster = omega (arith, slice_get_within lanes place old there, same_count segments lanes cluster.lanes is.lanes)
+
+    -- a lane in code has a history that starts from nothing
+    after_start : IfSome (session_at cluster client).outstanding (IsAfterStart (lane_at cluster place).base)
+    after_start =
+        subst (λ (base : Base). IfSome (session_at cluster client).outstanding (IsAfterStart base)) (sym (ap (λ (w : World). w.base) world_is.is))
+        (after_nothing (session_at cluster client).outstanding)
+
     asked_by_known : (answer : Result Seen StepError) → VisitsLane (λ w. ask w session) old new session later answer → (known : Session) → known ≡ session
-        → IsActedAs segments (state_of (slice_set lanes place new) (insert sessions client later)) [] (worn_in answer)
+        → Leads cluster (cluster_visited cluster place client (ask (lane_at cluster place) known))
+        → IsActedAs segments cluster (state_of (slice_set lanes place new) (insert sessions client later)) [] (worn_in answer)
         (record { cluster = cluster_visited cluster place client (ask (lane_at cluster place) known); said = []; worn = worn_in (ask (lane_at cluster place) known) })
-    asked_by_known answer visits known known_is =
-        subst (λ (it : Session). IsActedAs segments (state_of (slice_set lanes place new) (insert sessions client later)) [] (worn_in answer)
-        (record { cluster = cluster_visited cluster place client (ask (lane_at cluster place) it); said = []; worn = worn_in (ask (lane_at cluster place) it) }))
-        (sym known_is)
-        (record {
-          cluster = is_after answer (ask (lane_at cluster place) session) (visits (lane_at cluster place) world_is);
+    asked_by_known answer visits known known_is leads =
+        let has = visits (lane_at cluster place) world_is in
+        record {
+          cluster =
+              subst (λ (it : Session). IsOf segments (state_of (slice_set lanes place new) (insert sessions client later)) (cluster_visited cluster place client (ask (lane_at cluster place) it)))
+              (sym known_is) (is_after answer (ask (lane_at cluster place) session) has);
+          leads = leads;
           said = refl;
-          worn = worn_after answer (ask (lane_at cluster place) session) (visits (lane_at cluster place) world_is);
-        })
+          worn = ap (λ (it : Session). worn_in (ask (lane_at cluster place) it)) known_is ∙ worn_after answer (ask (lane_at cluster place) session) has;
+        }
 
     accepted_by_known : (number : ℕ) (answer : Result Seen StepError) → VisitsLane (λ w. accept w number session) old new session later answer → (known : Session) → known ≡ session
-        → IsActedAs segments (state_of (slice_set lanes place new) (insert sessions client later)) (said_then session.outstanding later.receipts answer) (worn_in answer)
+        → Leads cluster (cluster_visited cluster place client (accept (lane_at cluster place) number known))
+        → IsActedAs segments cluster (state_of (slice_set lanes place new) (insert sessions client later)) (said_then session.outstanding later.receipts answer) (worn_in answer)
         (record {
           cluster = cluster_visited cluster place client (accept (lane_at cluster place) number known);
           said = said_in known (accept (lane_at cluster place) number known);
           worn = worn_in (accept (lane_at cluster place) number known);
         })
-    accepted_by_known number answer visits known known_is =
-        subst (λ (it : Session). IsActedAs segments (state_of (slice_set lanes place new) (insert sessions client later)) (said_then session.outstanding later.receipts answer) (worn_in answer)
-        (record {
-          cluster = cluster_visited cluster place client (accept (lane_at cluster place) number it);
-          said = said_in it (accept (lane_at cluster place) number it);
-          worn = worn_in (accept (lane_at cluster place) number it);
-        }))
-        (sym known_is)
-        (record {
-          cluster = is_after answer (accept (lane_at cluster place) number session) (visits (lane_at cluster place) world_is);
-          said = said_after answer (accept (lane_at cluster place) number session) (visits (lane_at cluster place) world_is);
-          worn = worn_after answer (accept (lane_at cluster place) number session) (visits (lane_at cluster place) world_is);
-        })
+    accepted_by_known number answer visits known known_is leads =
+        let has = visits (lane_at cluster place) world_is in
+        record {
+          cluster =
+              subst (λ (it : Session). IsOf segments (state_of (slice_set lanes place new) (insert sessions client later)) (cluster_visited cluster place client (accept (lane_at cluster place) number it)))
+              (sym known_is) (is_after answer (accept (lane_at cluster place) number session) has);
+          leads = leads;
+          said =
+              ap (λ (it : Session). said_in it (accept (lane_at cluster place) number it)) known_is
+              ∙ said_after answer (accept (lane_at cluster place) number session) has;
+          worn = ap (λ (it : Session). worn_in (accept (lane_at cluster place) number it)) known_is ∙ worn_after answer (accept (lane_at cluster place) number session) has;
+        }
 
   pub asks : (lanes : List (LaneState R)) (sessions : NumberMap Session) (place client : ℕ) (old new : LaneState R) (session later : Session) (answer : Result Seen StepError)
       → slice_get lanes place ≡ Some old → get sessions client ≡ Some session → IsInOrder sessions → VisitsLane (λ w. ask w session) old new session later answer
@@ -171,6 +195,9 @@ module _ {R : Type 0} (segments : R → Option Segments) where
   asks lanes sessions place client old new session later answer there found order visits cluster is =
       asked_by_known cluster lanes sessions place client old new session later there found order is answer visits
       (session_at cluster client) (session_is cluster lanes sessions place client old new session later there found order is)
+      (leads_by cluster (Asks place client)
+      (within_cluster cluster lanes sessions place client old new session later there found order is, after_start cluster lanes sessions place client old new session later there found order is)
+      tt tt tt)
 
   pub accepts : (lanes : List (LaneState R)) (sessions : NumberMap Session) (place number client : ℕ) (old new : LaneState R) (session later : Session) (answer : Result Seen StepError)
       → slice_get lanes place ≡ Some old → get sessions client ≡ Some session → IsInOrder sessions → VisitsLane (λ w. accept w number session) old new session later answer
@@ -178,6 +205,7 @@ module _ {R : Type 0} (segments : R → Option Segments) where
   accepts lanes sessions place number client old new session later answer there found order visits cluster is =
       accepted_by_known cluster lanes sessions place client old new session later there found order is number answer visits
       (session_at cluster client) (session_is cluster lanes sessions place client old new session later there found order is)
+      (leads_by cluster (Accepts place number client) (within_cluster cluster lanes sessions place client old new session later there found order is) tt tt tt)
 
 -- who has a session keeps one
 pub has_after : (sessions : NumberMap Session) (client : ℕ) (later : Session) (other : ℕ) → HasSession sessions other → HasSession (insert sessions client later) other

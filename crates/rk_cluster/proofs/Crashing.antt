@@ -61,7 +61,7 @@ module _ {R : Type 0} (segments : R → Option Segments) where
   pub happens_crash : (old new : List (LaneState R)) (lane master : ℕ) → IsHappening segments old new lane (events.Crash master) None
       → (sessions : NumberMap Session) → ActsOne segments (state_of old sessions) (state_of new sessions) (Happens lane (events.Crash master) (Gave None)) [] None
   happens_crash old new lane master it sessions cluster is =
-      subst (λ (stepped : Result Stepped StepError). IsActedAs segments (state_of new sessions) [] None
+      subst (λ (stepped : Result Stepped StepError). IsActedAs segments cluster (state_of new sessions) [] None
       (record { cluster = cluster_stepped cluster lane stepped; said = []; worn = worn_in stepped }))
       (crash_same (lane_at cluster lane) master it.called (refusal (lane_at cluster lane) (events.Crash master)))
       (it.acts sessions cluster is)

@@ -64,7 +64,7 @@ module _ {R : Type 0} (segments : R → Option Segments) where
   pub happens_plain : (old new : List (LaneState R)) (lane : ℕ) (event : Event) (broken : Option ℕ) → IsPlain event → IsHappening segments old new lane event broken
       → (sessions : NumberMap Session) → ActsOne segments (state_of old sessions) (state_of new sessions) (Happens lane event (Gave None)) [] broken
   happens_plain old new lane event broken plain it sessions cluster is =
-      subst (λ (stepped : Result Stepped StepError). IsActedAs segments (state_of new sessions) [] broken
+      subst (λ (stepped : Result Stepped StepError). IsActedAs segments cluster (state_of new sessions) [] broken
       (record { cluster = cluster_stepped cluster lane stepped; said = []; worn = worn_in stepped }))
       (stepped_plain (lane_at cluster lane) event it.called (refusal (lane_at cluster lane) event) plain)
       (it.acts sessions cluster is)

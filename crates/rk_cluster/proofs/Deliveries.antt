@@ -26,7 +26,7 @@ use Rattle.rk_cluster.specs.Steps.{IsHappening, IsLosing, WhereWorn, state_of}
 use Rattle.rk_cluster.specs.declared.delivering.Delivered.{Delivered}
 use Rattle.rk_cluster.specs.declared.error.ClusterError.{ClusterError}
 use Rattle.rk_cluster.specs.declared.error.ClusterError.TheVariants as errors
-use Rattle.rk_cluster.proofs.Carrying.{none_acts, only_acts}
+use Rattle.rk_cluster.proofs.Carrying.{none_acts, only_acts, worn_stays}
 use Rattle.rk_cluster.proofs.Forgetting.{place_by, wire_is}
 
 -- a number that has no message has no receiver
@@ -39,15 +39,10 @@ no_receiver number wire e missing_is = missing_by number (get wire.messages numb
 
 module _ {R : Type 0} (segments : R → Option Segments) where
   -- one occurrence alone, whether or not something is worn there
-  worn_alone : (next : ClusterState R) (told : List Said) (number : ℕ) (it : Acted) → IsActedAs segments next told (Some number) it
-      → IsActedAs segments next told (Some number) (going_on it it.worn (λ cluster. all_acted cluster []))
-  worn_alone next told number it is =
-      subst (λ (o : Option ℕ). IsActedAs segments next told (Some number) (going_on it o (λ cluster. all_acted cluster []))) (sym is.worn) is
-
   alone_acts : (old next : ClusterState R) (occurrence : Occurrence) (told : List Said) (broken : Option ℕ) → ActsOne segments old next occurrence told broken
       → Acts segments old next (occurrence ∷ []) told broken
   alone_acts old next occurrence told None one cluster is = only_acts segments old next occurrence told one cluster is
-  alone_acts old next occurrence told (Some number) one cluster is = worn_alone next told number (acted cluster occurrence) (one cluster is)
+  alone_acts old next occurrence told (Some number) one cluster is = worn_stays segments cluster next told number [] (acted cluster occurrence) (one cluster is)
 
   module _ (lanes : List (LaneState R)) (sessions : NumberMap Session) (place number : ℕ) (lane : LaneState R) (wire : Traffic)
       (there : slice_get lanes place ≡ Some lane) (known : IfSome lane.running (λ running. wire ≡ running.wire)) where
@@ -69,13 +64,13 @@ module _ {R : Type 0} (segments : R → Option Segments) where
         ∙ ap (made_for cluster called) to_is
 
     by_receiver : (new : ClusterState R) (to : Option Node) (called : Called) (told : List Said) (broken : Option ℕ) → receiver_of number wire ≡ to → MayCome called
-        → ((cluster : Cluster) → IsOf segments (state_of lanes sessions) cluster → IsActedAs segments new told broken (all_acted cluster (made_for cluster called to)))
+        → ((cluster : Cluster) → IsOf segments (state_of lanes sessions) cluster → IsActedAs segments cluster new told broken (all_acted cluster (made_for cluster called to)))
         → Delivers segments (state_of lanes sessions) new place number told broken
     by_receiver new to called told broken to_is may acts = record {
       called = called;
       may = may;
       holds = λ cluster is.
-          subst (λ (made : List Occurrence). IsActedAs segments new told broken (all_acted cluster made)) (sym (made_is cluster is called to to_is)) (acts cluster is);
+          subst (λ (made : List Occurrence). IsActedAs segments cluster new told broken (all_acted cluster made)) (sym (made_is cluster is called to to_is)) (acts cluster is);
     }
 
     -- nothing occurs where the message is not there
@@ -91,7 +86,7 @@ module _ {R : Type 0} (segments : R → Option Segments) where
     client_by new client told broken has to_is found acts =
         by_receiver new (Some (nodes.Client client)) (Gave None) told broken to_is tt
         (λ cluster is.
-        subst (λ (it : Bool). IsActedAs segments new told broken (all_acted cluster (if it then Accepts place number client ∷ [] else [])))
+        subst (λ (it : Bool). IsActedAs segments cluster new told broken (all_acted cluster (if it then Accepts place number client ∷ [] else [])))
         (sym (ap (λ (known : NumberMap Session). is_some (get known client)) is.sessions ∙ found)) (acts cluster is))
 
     pub delivers_stranger : (client : ℕ) → receiver_of number wire ≡ Some (nodes.Client client) → is_some (get sessions client) ≡ false
@@ -181,7 +176,7 @@ module _ {R : Type 0} (segments : R → Option Segments) where
           → ActsBy segments (state_of lanes sessions) new (λ cluster. deliver_in_makes cluster place number called) told broken
           → ActsBy segments (state_of lanes sessions) new (λ cluster. deliver_makes cluster place at called) told broken
       placed called told broken acts cluster is =
-          subst (λ (o : Option ℕ). IsActedAs segments new told broken (all_acted cluster (deliver_by cluster place called o)))
+          subst (λ (o : Option ℕ). IsActedAs segments cluster new told broken (all_acted cluster (deliver_by cluster place called o)))
           (sym (ap (number_at at) (wire_is segments lanes sessions place lane wire there known cluster is) ∙ found)) (acts cluster is)
 
       has_place : HasCode segments (state_of lanes sessions) (λ cluster. place_code cluster place at) None

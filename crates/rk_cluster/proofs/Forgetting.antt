@@ -36,10 +36,10 @@ module _ {R : Type 0} (segments : R → Option Segments) (lanes : List (LaneStat
 
     module _ (new : List (LaneState R)) (message : ℕ) (found : number_at number wire ≡ Some message) where
       makes_it : (broken : Option ℕ) → ((cluster : Cluster) → IsOf segments (state_of lanes sessions) cluster
-          → IsActedAs segments (state_of new sessions) [] broken (all_acted cluster (Happens place (events.Forget message) (Gave None) ∷ [])))
+          → IsActedAs segments cluster (state_of new sessions) [] broken (all_acted cluster (Happens place (events.Forget message) (Gave None) ∷ [])))
           → ActsBy segments (state_of lanes sessions) (state_of new sessions) (λ cluster. forget_makes cluster place number) [] broken
       makes_it broken acts cluster is =
-          subst (λ (o : Option ℕ). IsActedAs segments (state_of new sessions) [] broken (all_acted cluster (forget_by place o)))
+          subst (λ (o : Option ℕ). IsActedAs segments cluster (state_of new sessions) [] broken (all_acted cluster (forget_by place o)))
           (sym (ap (number_at number) (wire_is cluster is) ∙ found)) (acts cluster is)
 
       pub forgets : IsHappening segments lanes new place (events.Forget message) None

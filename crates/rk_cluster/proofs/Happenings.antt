@@ -1,5 +1,5 @@
 -- An event that came to a lane came to the cluster.
-use Rattle.std.proofs.Common.{◌≡◌, ◌≢◌, ℕ, Bool, false, List, [], Option, None, Some, Result, Ok, Err, IfErr, IfOk, IfSome, IsSomeAnd, slice_get, slice_set, refl, sym, ap, subst, ◌∙◌}
+use Rattle.std.proofs.Common.{◌≡◌, ◌≢◌, ◌<◌, ℕ, Bool, false, List, [], length, Option, None, Some, Result, Ok, Err, IfErr, IfOk, IfSome, IsSomeAnd, slice_get, slice_set, refl, sym, ap, subst, ◌∙◌, arith}
 use Rattle.std.specs.Option.{option_map, option_or}
 use Rattle.std.proofs.Common.{cond}
 use Rattle.rk_types.specs.NumberMap.{NumberMap}
@@ -8,22 +8,30 @@ use Rattle.rk_outside.specs.Segments.{Segments}
 use Rattle.rk_world.specs.Backup.{Called, Gave}
 use Rattle.rk_world.specs.Client.{Session}
 use Rattle.rk_world.specs.Cluster.{Cluster, Happens, cluster_stepped, lane_at}
-use Rattle.rk_world.specs.Premises.{MayCome}
+use Rattle.rk_world.specs.ClusterRuns.{HasRoomAfter, Leads}
+use Rattle.rk_world.specs.Premises.{MayCome, MayHappen}
 use Rattle.rk_world.specs.Refusals.{comes_anyway, fault_of, refusal, worn}
-use Rattle.rk_world.specs.Step.{Stepped, step, stepped_by}
+use Rattle.rk_world.specs.Replicas.{AllTell, IsTold}
+use Rattle.rk_world.specs.Room.{HasRoom}
+use Rattle.rk_world.specs.Runs.{IsCalmEvent}
+use Rattle.rk_world.specs.Step.{Stepped, step, stepped_by, told_by_replica}
 use Rattle.rk_world.specs.World.{World, new_world}
 use Rattle.rk_world.specs.declared.error.StepError.{StepError}
 use Rattle.rk_world.specs.declared.error.StepError.TheVariants as causes
 use Rattle.rk_world.specs.declared.event.Event.{Event}
 use Rattle.rk_world.specs.declared.event.Event.TheVariants as events
 use Rattle.rk_world.specs.declared.event.Seen.{Seen}
-use Rattle.rk_lane.specs.Events.{IsRefused, IsStepFrom, IsStepOf}
+use Rattle.rk_lane.specs.Events.{IsAnswerOf, IsRefused, IsStepFrom, IsStepOf}
 use Rattle.rk_lane.specs.LaneState.{LaneState, Running, world_with}
+use Rattle.rk_lane.proofs.Backed.{by_failing}
+use Rattle.rk_lane.proofs.Steps.{calm_same, may_happen_same}
+use Rattle.std.proofs.lemmas.Option.{slice_get_within}
 use Rattle.rk_cluster.specs.Acted.{lost_in, worn_by, worn_in}
 use Rattle.rk_cluster.specs.Effects.{ActsOne, IsActedAs}
 use Rattle.rk_cluster.specs.State.{IsOf, IsWorld}
 use Rattle.rk_cluster.specs.Steps.{IsLosing, lost_by, state_of}
-use Rattle.rk_cluster.proofs.Worlds.{set_there, world_at, world_set}
+use Rattle.rk_cluster.proofs.Leading.{leads_by, leads_nowhere}
+use Rattle.rk_cluster.proofs.Worlds.{same_count, set_there, world_at, world_set}
 
 -- ---- a refusal reads no backup
 
@@ -50,15 +58,30 @@ module _ (w : World) (stored : NumberMap Segments) where
   refusal_same event =
       ap (λ (fault : Option StepError). cond (comes_anyway event) fault (option_or (option_map causes.Worn (worn w)) fault)) (fault_same event)
 
+-- ---- an event might come to a lane
+
+pub record MightCome (w : World) (event : Event) (called : Called) (after : World) : Type 0 where
+  pub may : MayHappen w event
+  pub come : MayCome called
+  pub calm : IsCalmEvent w event
+  pub told : AllTell w → IsTold w event called
+  pub room : HasRoom after
+
+told_so : (w : World) (event : Event) (called : Called) → IsAnswerOf (told_by_replica w event) called → IsTold w event called
+told_so w event called answers =
+    by_failing called (IsTold w event called)
+    (λ failed. let kept = answers.failed failed in record { fault = Some kept.0; told = kept.1 })
+    (λ fine. record { fault = None; told = answers.fine fine })
+
 module _ {R : Type 0} (segments : R → Option Segments) (faults : R → ℕ) where
-  -- what comes of an event in a lane
-  abbrev pub HasStepped : LaneState R → LaneState R → Option ℕ → Result Stepped StepError → Type 0
-  HasStepped old new broken (Ok stepped) = IsWorld segments new stepped.world × (broken ≡ None)
-  HasStepped old new broken (Err error) = (new ≡ old) × (broken ≡ worn_by error)
+  -- what comes of an event in a lane: it took it, and it might come there, or it refused it
+  abbrev pub HasStepped : LaneState R → LaneState R → Option ℕ → World → Event → Called → Result Stepped StepError → Type 0
+  HasStepped old new broken w event called (Ok stepped) = IsWorld segments new stepped.world × (broken ≡ None) × MightCome w event called stepped.world
+  HasStepped old new broken w event called (Err error) = (new ≡ old) × (broken ≡ worn_by error)
 
   -- so it is in each world that a lane stands for
   abbrev pub StepsLane : LaneState R → LaneState R → Event → Called → Option ℕ → Type 0
-  StepsLane old new event called broken = (w : World) → IsWorld segments old w → HasStepped old new broken (step w event called)
+  StepsLane old new event called broken = (w : World) → IsWorld segments old w → HasStepped old new broken w event called (step w event called)
 
   -- so it shows in each of them whether a message was lost
   abbrev pub ShowsLost : LaneState R → Event → Called → Bool → Type 0
@@ -71,9 +94,18 @@ module _ {R : Type 0} (segments : R → Option Segments) (faults : R → ℕ) wh
       let running_is : is.running ≡ it.before = cc same in
       let from : IsStepFrom segments (world_with old it.before is.stored) event it.called new it.after seen = it.stepped is.stored is.told in
       let world_is : w ≡ world_with old it.before is.stored = is.is ∙ ap (λ (running : Running). world_with old running is.stored) running_is in
-      subst (HasStepped old new None)
-      (sym (ap (λ (v : World). step v event it.called) world_is ∙ from.stepped))
-      (record { running = it.after; runs = it.is; stored = from.backups; told = from.told; is = refl }, refl)
+      let before : World = world_with old it.before is.stored in
+      let after : World = world_with new it.after from.backups in
+      let might : MightCome before event it.called after = record {
+        may = may_happen_same (world_with old it.before []) before event refl it.comes.may;
+        come = it.may;
+        calm = calm_same before (length old.backups) [] event it.comes.calm;
+        told = λ tell. told_so before event it.called (from.given tell);
+        room = record { number = it.room.number; bytes = it.room.bytes; masters = it.room.masters };
+      } in
+      subst (λ (v : World). HasStepped old new None v event it.called (step v event it.called)) (sym world_is)
+      (subst (HasStepped old new None before event it.called) (sym from.stepped)
+      (record { running = it.after; runs = it.is; stored = from.backups; told = from.told; is = refl }, refl, might))
 
   pub taken_shows : (old new : LaneState R) (event : Event) (seen : Seen) → (it : IsStepOf segments faults event old new seen) → ShowsLost old event it.called seen.lost
   taken_shows old new event seen it w is =
@@ -95,7 +127,7 @@ module _ {R : Type 0} (segments : R → Option Segments) (faults : R → ℕ) wh
   pub refused : (old new : LaneState R) (event : Event) (error : StepError) → (error ≢ causes.NoMemory) → IsRefused faults event old new error
       → StepsLane old new event (Gave None) (worn_by error)
   refused old new event error other it w is =
-      subst (HasStepped old new (worn_by error)) (sym (ap (stepped_by w event (Gave None)) (refused_in old new event error other it w is))) (it.same other, refl)
+      subst (HasStepped old new (worn_by error) w event (Gave None)) (sym (ap (stepped_by w event (Gave None)) (refused_in old new event error other it w is))) (it.same other, refl)
 
   refused_shows : (old new : LaneState R) (event : Event) (error : StepError) → (error ≢ causes.NoMemory) → IsRefused faults event old new error
       → ShowsLost old event (Gave None) false
@@ -104,29 +136,47 @@ module _ {R : Type 0} (segments : R → Option Segments) (faults : R → ℕ) wh
 
   -- ---- in a cluster
 
-  step_acted : (cluster : Cluster) (lanes : List (LaneState R)) (sessions : NumberMap Session) (place : ℕ) (old new : LaneState R) (broken : Option ℕ)
-      → slice_get lanes place ≡ Some old → IsOf segments (state_of lanes sessions) cluster → (stepped : Result Stepped StepError) → HasStepped old new broken stepped
-      → IsActedAs segments (state_of (slice_set lanes place new) sessions) [] broken
-      (record { cluster = cluster_stepped cluster place stepped; said = []; worn = worn_in stepped })
-  step_acted cluster lanes sessions place old new broken there is (Ok stepped) has = record {
-    cluster = record { lanes = world_set segments lanes cluster.lanes place new stepped.world is.lanes has.0; sessions = is.sessions };
-    said = refl;
-    worn = sym has.1;
-  }
-  step_acted cluster lanes sessions place old new broken there is (Err error) has = record {
-    cluster =
-        subst (λ (now : List (LaneState R)). IsOf segments (state_of now sessions) cluster)
-        (sym (ap (slice_set lanes place) has.0 ∙ set_there lanes place old there)) is;
-    said = refl;
-    worn = sym has.1;
-  }
+  module _ (cluster : Cluster) (lanes : List (LaneState R)) (sessions : NumberMap Session) (place : ℕ) (old new : LaneState R) (event : Event) (called : Called) (broken : Option ℕ)
+      (there : slice_get lanes place ≡ Some old) (is : IsOf segments (state_of lanes sessions) cluster) where
+    abbrev Stood : Result Stepped StepError → Type 0
+    Stood stepped = HasStepped old new broken (lane_at cluster place) event called stepped
+
+    within_cluster : place < length cluster.lanes
+    within_cluster = omega (arith, slice_get_within lanes place old there, same_count segments lanes cluster.lanes is.lanes)
+
+    step_leads : (stepped : Result Stepped StepError) → step (lane_at cluster place) event called ≡ stepped → Stood stepped → Leads cluster (cluster_stepped cluster place stepped)
+    step_leads (Ok stepped) stepped_is has =
+        subst (λ (it : Result Stepped StepError). Leads cluster (cluster_stepped cluster place it)) stepped_is
+        (leads_by cluster (Happens place event called) (within_cluster, has.2.may, has.2.come) has.2.calm has.2.told
+        (subst HasRoomAfter (sym stepped_is) has.2.room))
+    step_leads (Err error) stepped_is has = leads_nowhere cluster
+
+    step_acted : (stepped : Result Stepped StepError) → Stood stepped → Leads cluster (cluster_stepped cluster place stepped)
+        → IsActedAs segments cluster (state_of (slice_set lanes place new) sessions) [] broken
+        (record { cluster = cluster_stepped cluster place stepped; said = []; worn = worn_in stepped })
+    step_acted (Ok stepped) has leads = record {
+      cluster = record { lanes = world_set segments lanes cluster.lanes place new stepped.world is.lanes has.0; sessions = is.sessions };
+      leads = leads;
+      said = refl;
+      worn = sym has.1;
+    }
+    step_acted (Err error) has leads = record {
+      cluster =
+          subst (λ (now : List (LaneState R)). IsOf segments (state_of now sessions) cluster)
+          (sym (ap (slice_set lanes place) has.0 ∙ set_there lanes place old there)) is;
+      leads = leads;
+      said = refl;
+      worn = sym has.1;
+    }
 
   pub happening : (lanes : List (LaneState R)) (place : ℕ) (old new : LaneState R) (event : Event) (called : Called) (broken : Option ℕ)
       → slice_get lanes place ≡ Some old → StepsLane old new event called broken → (sessions : NumberMap Session)
       → ActsOne segments (state_of lanes sessions) (state_of (slice_set lanes place new) sessions) (Happens place event called) [] broken
   happening lanes place old new event called broken there steps sessions cluster is =
-      step_acted cluster lanes sessions place old new broken there is (step (lane_at cluster place) event called)
-      (steps (lane_at cluster place) (world_at segments lanes cluster.lanes place old (new_world place 0 0) is.lanes there))
+      let stepped = step (lane_at cluster place) event called in
+      let has = steps (lane_at cluster place) (world_at segments lanes cluster.lanes place old (new_world place 0 0) is.lanes there) in
+      step_acted cluster lanes sessions place old new event called broken there is stepped has
+      (step_leads cluster lanes sessions place old new event called broken there is stepped refl has)
 
   module _ (lanes : List (LaneState R)) (place : ℕ) (old new : LaneState R) (event : Event) (there : slice_get lanes place ≡ Some old) where
     losing : (called : Called) (broken : Option ℕ) (lost : Bool) → MayCome called → StepsLane old new event called broken → ShowsLost old event called lost

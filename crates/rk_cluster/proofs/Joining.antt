@@ -2,12 +2,15 @@
 use Rattle.std.proofs.Common.{◌≡◌, ◌≤◌, ◌<◌, ◌^◌, ℕ, Bool, true, false, List, [], ◌∷◌, ◌++◌, All, length, map, is_some, nat_le, Option, None, Some, refl, sym, ap, subst, ◌∙◌, arith}
 use Rattle.std.proofs.lemmas.Bool.Decides.{nat_tests}
 use Rattle.std.proofs.lemmas.List.Elements.{All-from_recursion, All-nil, All-replicate}
+use Rattle.std.specs.Int.{w32}
 use Rattle.std.specs.List.{range_with_len}
 use Rattle.rk_types.specs.NumberMap.{NumberMap, get, insert}
 use Rattle.rk_types.specs.declared.hashing.TheConstants.{LANES}
+use Rattle.rk_entry.specs.Numbers.{IsNumber}
 use Rattle.rk_outside.specs.Segments.{Segments}
 use Rattle.rk_world.specs.Client.{Session, new_session}
 use Rattle.rk_world.specs.Cluster.{Cluster, Joins, Occurrence, joined_by}
+use Rattle.rk_world.specs.ClusterRuns.{Leads}
 use Rattle.rk_world.specs.Premises.{IsCached, MayAct, MayHappen}
 use Rattle.rk_world.specs.Refusals.{MOST_CLIENTS}
 use Rattle.rk_world.specs.World.{new_world}
@@ -27,6 +30,7 @@ use Rattle.rk_cluster.specs.declared.error.ClusterError.{ClusterError}
 use Rattle.rk_cluster.specs.declared.error.ClusterError.TheVariants as errors
 use Rattle.rk_cluster.specs.declared.steps.Deed.{Deed}
 use Rattle.rk_cluster.proofs.Carrying.{only_acts}
+use Rattle.rk_cluster.proofs.Leading.{leads_by}
 use Rattle.rk_cluster.proofs.Worlds.{same_count}
 
 -- ---- tests
@@ -110,13 +114,16 @@ module _ {R : Type 0} (segments : R → Option Segments) where
 
   -- ---- what occurs
 
-  joins : (lanes : List (LaneState R)) (sessions : NumberMap Session) (client : ℕ) → get sessions client ≡ None
+  joins : (lanes : List (LaneState R)) (sessions : NumberMap Session) (client : ℕ) → IsNumber w32 1 client → get sessions client ≡ None
       → ActsOne segments (state_of lanes sessions) (state_of lanes (insert sessions client (new_session client))) (Joins client) [] None
-  joins lanes sessions client absent cluster is =
+  joins lanes sessions client number absent cluster is =
       let none : get cluster.sessions client ≡ None = ap (λ (known : NumberMap Session). get known client) is.sessions ∙ absent in
-      subst (λ (found : Option Session). IsActedAs segments (state_of lanes (insert sessions client (new_session client))) [] None (quietly (joined_by cluster client found))) (sym none)
+      subst (λ (found : Option Session). IsActedAs segments cluster (state_of lanes (insert sessions client (new_session client))) [] None (quietly (joined_by cluster client found))) (sym none)
       (record {
         cluster = record { lanes = is.lanes; sessions = ap (λ (known : NumberMap Session). insert known client (new_session client)) is.sessions };
+        leads =
+            subst (λ (found : Option Session). Leads cluster (joined_by cluster client found)) none
+            (leads_by cluster (Joins client) number tt tt tt);
         said = refl;
         worn = refl;
       })
@@ -128,15 +135,15 @@ module _ {R : Type 0} (segments : R → Option Segments) where
       let many : length cluster.lanes ≡ LANES = same_count segments lanes cluster.lanes is.lanes ∙ count in
       ap (λ (n : ℕ). in_lanes (range_with_len 0 n) event) (sym many)
 
-  pub client_acts : (old new : List (LaneState R)) (sessions later : NumberMap Session) (client : ℕ) → length old ≡ LANES → get sessions client ≡ None
+  pub client_acts : (old new : List (LaneState R)) (sessions later : NumberMap Session) (client : ℕ) → IsNumber w32 1 client → length old ≡ LANES → get sessions client ≡ None
       → later ≡ insert sessions client (new_session client) → CarriesSteps segments old new (deeds_in (events.AddClient client)) []
       → ActsBy segments (state_of old sessions) (state_of new later) (λ cluster. client_makes cluster client) [] None
-  client_acts old new sessions later client count absent put carries cluster is =
-      subst (λ (made : List Occurrence). IsActedAs segments (state_of new later) [] None (all_acted cluster (made ++ Joins client ∷ [])))
+  client_acts old new sessions later client number count absent put carries cluster is =
+      subst (λ (made : List Occurrence). IsActedAs segments cluster (state_of new later) [] None (all_acted cluster (made ++ Joins client ∷ [])))
       (made_in_all old sessions (events.AddClient client) count cluster is)
       (carries sessions (state_of new later) (Joins client ∷ []) [] None
       (only_acts segments (state_of new sessions) (state_of new later) (Joins client) []
-      (subst (λ (known : NumberMap Session). ActsOne segments (state_of new sessions) (state_of new known) (Joins client) [] None) (sym put) (joins new sessions client absent)))
+      (subst (λ (known : NumberMap Session). ActsOne segments (state_of new sessions) (state_of new known) (Joins client) [] None) (sym put) (joins new sessions client number absent)))
       cluster is)
 
   -- an event in all lanes, with more behind it, ended where one is worn
@@ -144,7 +151,7 @@ module _ {R : Type 0} (segments : R → Option Segments) where
       → StepsEndWorn segments old new (deeds_in event) number
       → ActsBy segments (state_of old sessions) (state_of new sessions) (λ cluster. in_lanes (all_lanes cluster) event ++ more) [] (Some number)
   all_worn old new sessions event more number count worn cluster is =
-      subst (λ (made : List Occurrence). IsActedAs segments (state_of new sessions) [] (Some number) (all_acted cluster (made ++ more)))
+      subst (λ (made : List Occurrence). IsActedAs segments cluster (state_of new sessions) [] (Some number) (all_acted cluster (made ++ more)))
       (made_in_all old sessions event count cluster is) (worn sessions more cluster is)
 
   -- how a call ends in an error, where it has no code

@@ -1,4 +1,5 @@
 pub mod Worlds
+pub mod Leading
 pub mod Happenings
 pub mod Heard
 pub mod Carrying

@@ -69,14 +69,14 @@ module _ {R : Type 0} (segments : R → Option Segments) where
     carried_out carries = record {
       code = code;
       acts = λ cluster is.
-          subst (λ (it : List Occurrence). IsActedAs segments (state_of new sessions) [] None (all_acted cluster it))
+          subst (λ (it : List Occurrence). IsActedAs segments cluster (state_of new sessions) [] None (all_acted cluster it))
           (append-nil (occurrences deeds) ∙ sym (made cluster is))
           (carries sessions (state_of new sessions) [] [] None (none_acts segments (state_of new sessions)) cluster is);
     }
 
     stops : (number : ℕ) → StepsEndWorn segments lanes new deeds number → ActsBy segments (state_of lanes sessions) (state_of new sessions) makes [] (Some number)
     stops number worn cluster is =
-        subst (λ (it : List Occurrence). IsActedAs segments (state_of new sessions) [] (Some number) (all_acted cluster it))
+        subst (λ (it : List Occurrence). IsActedAs segments cluster (state_of new sessions) [] (Some number) (all_acted cluster it))
         (append-nil (occurrences deeds) ∙ sym (made cluster is)) (worn sessions [] cluster is)
 
     -- some were done, up to one that found its lane worn

@@ -56,13 +56,13 @@ module _ {R : Type 0} (segments : R → Option Segments) (lanes : List (LaneStat
   pub all_act : (new : List (LaneState R)) (event : Event) → length lanes ≡ LANES → CarriesSteps segments lanes new (deeds_in event) []
       → ActsBy segments (state_of lanes sessions) (state_of new sessions) (λ cluster. in_lanes (all_lanes cluster) event) [] None
   all_act new event count carries cluster is =
-      subst (λ (made : List Occurrence). IsActedAs segments (state_of new sessions) [] None (all_acted cluster made))
+      subst (λ (made : List Occurrence). IsActedAs segments cluster (state_of new sessions) [] None (all_acted cluster made))
       (ap (λ (made : List Occurrence). made ++ []) (made_in_all segments lanes sessions event count cluster is) ∙ append-nil (in_lanes (all_lanes cluster) event))
       (carries sessions (state_of new sessions) [] [] None (none_acts segments (state_of new sessions)) cluster is)
 
   pub all_stop : (new : List (LaneState R)) (event : Event) (number : ℕ) → length lanes ≡ LANES → StepsEndWorn segments lanes new (deeds_in event) number
       → ActsBy segments (state_of lanes sessions) (state_of new sessions) (λ cluster. in_lanes (all_lanes cluster) event) [] (Some number)
   all_stop new event number count worn cluster is =
-      subst (λ (made : List Occurrence). IsActedAs segments (state_of new sessions) [] (Some number) (all_acted cluster made))
+      subst (λ (made : List Occurrence). IsActedAs segments cluster (state_of new sessions) [] (Some number) (all_acted cluster made))
       (append-nil (in_lanes (all_lanes cluster) event))
       (all_worn segments lanes new sessions event [] number count worn cluster is)

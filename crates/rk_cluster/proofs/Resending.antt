@@ -31,7 +31,7 @@ use Rattle.rk_cluster.specs.State.{ClusterState, IsOf, IsWorld}
 use Rattle.rk_cluster.specs.Steps.{IsHappening, state_of}
 use Rattle.rk_cluster.specs.declared.code.Code.{Code}
 use Rattle.rk_cluster.specs.declared.code.Code.TheVariants.{NothingSent, Unknown}
-use Rattle.rk_cluster.proofs.Carrying.{only_acts, worn_acts}
+use Rattle.rk_cluster.proofs.Carrying.{gone_on, only_acts, worn_acts, worn_stays}
 use Rattle.rk_cluster.proofs.Deeds.{happens_plain}
 use Rattle.rk_cluster.proofs.Worlds.{all_at, same_count, world_at}
 
@@ -100,33 +100,17 @@ only_code None = refl
 only_code (Some code) = refl
 
 module _ {R : Type 0} (segments : R → Option Segments) where
-  worn_here : (next : ClusterState R) (number : ℕ) (later : List Occurrence) (it : Acted) → IsActedAs segments next [] (Some number) it
-      → IsActedAs segments next [] (Some number) (going_on it it.worn (λ cluster. all_acted cluster later))
-  worn_here next number later it is =
-      subst (λ (o : Option ℕ). IsActedAs segments next [] (Some number) (going_on it o (λ cluster. all_acted cluster later))) (sym is.worn) is
-
   last_acts : (old new : ClusterState R) (occurrence : Occurrence) (broken : Option ℕ) → ActsOne segments old new occurrence [] broken
       → Acts segments old new (occurrence ∷ []) [] broken
   last_acts old new occurrence None one = only_acts segments old new occurrence [] one
   last_acts old new occurrence (Some number) one = worn_acts segments old new occurrence [] number one
 
-  -- what follows on one occurrence, in one cluster
-  on_from : (next final : ClusterState R) (broken : Option ℕ) (later : List Occurrence) (it : Acted) → IsActedAs segments next [] None it
-      → IsActedAs segments final [] broken (all_acted it.cluster later) → IsActedAs segments final [] broken (going_on it it.worn (λ cluster. all_acted cluster later))
-  on_from next final broken later it is after =
-      subst (λ (o : Option ℕ). IsActedAs segments final [] broken (going_on it o (λ cluster. all_acted cluster later))) (sym is.worn)
-      (record {
-        cluster = after.cluster;
-        said = ap (λ (said : List Said). said ++ (all_acted it.cluster later).said) is.said ∙ after.said;
-        worn = after.worn;
-      })
-
   -- a message for a master calls no replica
   delivers : (old new : List (LaneState R)) (sessions : NumberMap Session) (lane number : ℕ) (broken : Option ℕ) (cluster : Cluster) → IsOf segments (state_of old sessions) cluster
       → IsHappening segments old new lane (events.Deliver number) broken → IfSome (get (lane_at cluster lane).wire.messages number) (λ it. IsOfMaster it.to)
-      → IsActedAs segments (state_of new sessions) [] broken (acted cluster (Happens lane (events.Deliver number) (Gave None)))
+      → IsActedAs segments cluster (state_of new sessions) [] broken (acted cluster (Happens lane (events.Deliver number) (Gave None)))
   delivers old new sessions lane number broken cluster is it for =
-      subst (λ (stepped : Result Stepped StepError). IsActedAs segments (state_of new sessions) [] broken
+      subst (λ (stepped : Result Stepped StepError). IsActedAs segments cluster (state_of new sessions) [] broken
       (record { cluster = cluster_stepped cluster lane stepped; said = []; worn = worn_in stepped }))
       (deliver_same (lane_at cluster lane) number it.called for) (it.acts sessions cluster is)
 
@@ -165,25 +149,25 @@ module _ {R : Type 0} (segments : R → Option Segments) where
     -- ---- event by event
 
     module _ (now : List (LaneState R)) (sent : IsHappening segments old now lane (events.Again client) None) where
-      sends_one : IsActedAs segments (state_of now sessions) [] None (acted cluster (Happens lane (events.Again client) (Gave None)))
+      sends_one : IsActedAs segments cluster (state_of now sessions) [] None (acted cluster (Happens lane (events.Again client) (Gave None)))
       sends_one = happens_plain segments old now lane (events.Again client) None tt sent sessions cluster is
 
       pub again_undelivered : (new : List (LaneState R)) (broken : ℕ) → IsHappening segments now new lane (events.Deliver number) (Some broken)
-          → IsActedAs segments (state_of new sessions) [] (Some broken) (all_acted cluster (again_at lane client number))
+          → IsActedAs segments cluster (state_of new sessions) [] (Some broken) (all_acted cluster (again_at lane client number))
       again_undelivered new broken reached =
           let first = acted cluster (Happens lane (events.Again client) (Gave None)) in
-          on_from (state_of now sessions) (state_of new sessions) (Some broken) (in_lane lane (events.Deliver number) ∷ in_lane lane (events.Forget number) ∷ []) first sends_one
-          (worn_here (state_of new sessions) broken (in_lane lane (events.Forget number) ∷ []) (acted first.cluster (Happens lane (events.Deliver number) (Gave None)))
+          gone_on segments cluster (state_of now sessions) (state_of new sessions) [] (Some broken) (in_lane lane (events.Deliver number) ∷ in_lane lane (events.Forget number) ∷ []) first sends_one
+          (worn_stays segments first.cluster (state_of new sessions) [] broken (in_lane lane (events.Forget number) ∷ []) (acted first.cluster (Happens lane (events.Deliver number) (Gave None)))
           (delivers now new sessions lane number (Some broken) first.cluster sends_one.cluster reached for_master))
 
       pub again_to_end : (later new : List (LaneState R)) (broken : Option ℕ) → IsHappening segments now later lane (events.Deliver number) None
-          → IsHappening segments later new lane (events.Forget number) broken → IsActedAs segments (state_of new sessions) [] broken (all_acted cluster (again_at lane client number))
+          → IsHappening segments later new lane (events.Forget number) broken → IsActedAs segments cluster (state_of new sessions) [] broken (all_acted cluster (again_at lane client number))
       again_to_end later new broken reached forgotten =
           let first = acted cluster (Happens lane (events.Again client) (Gave None)) in
           let second = acted first.cluster (Happens lane (events.Deliver number) (Gave None)) in
           let delivered = delivers now later sessions lane number None first.cluster sends_one.cluster reached for_master in
-          on_from (state_of now sessions) (state_of new sessions) broken (in_lane lane (events.Deliver number) ∷ in_lane lane (events.Forget number) ∷ []) first sends_one
-          (on_from (state_of later sessions) (state_of new sessions) broken (in_lane lane (events.Forget number) ∷ []) second delivered
+          gone_on segments cluster (state_of now sessions) (state_of new sessions) [] broken (in_lane lane (events.Deliver number) ∷ in_lane lane (events.Forget number) ∷ []) first sends_one
+          (gone_on segments first.cluster (state_of later sessions) (state_of new sessions) [] broken (in_lane lane (events.Forget number) ∷ []) second delivered
           (last_acts (state_of later sessions) (state_of new sessions) (Happens lane (events.Forget number) (Gave None)) broken
           (happens_plain segments later new lane (events.Forget number) broken tt forgotten sessions) second.cluster delivered.cluster))
 
@@ -241,7 +225,7 @@ module _ {R : Type 0} (segments : R → Option Segments) where
         let made : again_makes cluster client ≡ again_at lane client number =
         ap (again_by cluster client) request ∙ ap (again_in cluster client) place
         ∙ ap (again_at lane client) (sym (number_is lanes lane client number its there next sessions cluster is)) in
-        subst (λ (list : List Occurrence). IsActedAs segments (state_of new sessions) [] broken (all_acted cluster list)) (sym made) (sent sessions cluster is)
+        subst (λ (list : List Occurrence). IsActedAs segments cluster (state_of new sessions) [] broken (all_acted cluster list)) (sym made) (sent sessions cluster is)
 
 -- ---- the lane
 

@@ -123,7 +123,7 @@ module _ {R : Type 0} (segments : R → Option Segments) where
         → Acts segments (state_of lanes sessions) new (all_ask lane (clients_in lane sessions) ++ occurrences (turns_of lane live)) [] broken
         → ActsBy segments (state_of lanes sessions) new (λ cluster. turn_makes cluster lane) [] broken
     turn_acts new broken acts cluster is =
-        subst (λ (made : List Occurrence). IsActedAs segments new [] broken (all_acted cluster made)) (makes_are cluster is) (acts cluster is)
+        subst (λ (made : List Occurrence). IsActedAs segments cluster new [] broken (all_acted cluster made)) (makes_are cluster is) (acts cluster is)
 
     -- the clients and the deeds that are collected in code are these
     module _ (mid new : List (LaneState R)) (later : NumberMap Session) (clients : List ℕ) (deeds : List Deed) (clients_are : clients ≡ clients_in lane sessions)

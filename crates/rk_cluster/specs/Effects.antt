@@ -4,6 +4,7 @@ use Rattle.rk_types.specs.declared.node.Said.{Said}
 use Rattle.rk_outside.specs.Segments.{Segments}
 use Rattle.rk_world.specs.Backup.{Called}
 use Rattle.rk_world.specs.Cluster.{Cluster, Occurrence}
+use Rattle.rk_world.specs.ClusterRuns.{Leads}
 use Rattle.rk_world.specs.Premises.{MayCome}
 use Rattle.rk_cluster.specs.Acted.{Acted, acted, all_acted}
 use Rattle.rk_cluster.specs.State.{ClusterState, IsOf}
@@ -11,21 +12,23 @@ use Rattle.rk_cluster.specs.declared.code.Code.{Code}
 use Rattle.rk_cluster.specs.declared.error.ClusterError.{ClusterError}
 use Rattle.rk_cluster.specs.declared.error.ClusterError.TheVariants as errors
 
--- this came of some events: the cluster in code stands for the one after them, this was said, and this is worn
-pub record IsActedAs {R : Type 0} (segments : R → Option Segments) (state : ClusterState R) (told : List Said) (broken : Option ℕ) (it : Acted) : Type 0 where
+-- this came of some events in a cluster: the one in code stands for the one after them, to which a run has led, this was said, and this is
+-- worn
+pub record IsActedAs {R : Type 0} (segments : R → Option Segments) (before : Cluster) (state : ClusterState R) (told : List Said) (broken : Option ℕ) (it : Acted) : Type 0 where
   pub cluster : IsOf segments state it.cluster
+  pub leads : Leads before it.cluster
   pub said : it.said ≡ told
   pub worn : it.worn ≡ broken
 
 -- of each cluster that the old one in code stood for, an occurrence makes one that the new one stands for
 abbrev pub ActsOne : {R : Type 0} → (R → Option Segments) → ClusterState R → ClusterState R → Occurrence → List Said → Option ℕ → Type 0
 ActsOne segments old new occurrence told broken =
-    (cluster : Cluster) → IsOf segments old cluster → IsActedAs segments new told broken (acted cluster occurrence)
+    (cluster : Cluster) → IsOf segments old cluster → IsActedAs segments cluster new told broken (acted cluster occurrence)
 
 -- so do these occurrences, one after the other
 abbrev pub Acts : {R : Type 0} → (R → Option Segments) → ClusterState R → ClusterState R → List Occurrence → List Said → Option ℕ → Type 0
 Acts segments old new occurrences told broken =
-    (cluster : Cluster) → IsOf segments old cluster → IsActedAs segments new told broken (all_acted cluster occurrences)
+    (cluster : Cluster) → IsOf segments old cluster → IsActedAs segments cluster new told broken (all_acted cluster occurrences)
 
 -- of all occurrences these are left: what comes of these, and more behind them, comes of all and more
 abbrev pub Carries : {R : Type 0} → (R → Option Segments) → ClusterState R → ClusterState R → List Occurrence → List Occurrence → Type 0
@@ -36,7 +39,7 @@ Carries {R} segments old now all left =
 -- what a call makes of a cluster comes of it
 abbrev pub ActsBy : {R : Type 0} → (R → Option Segments) → ClusterState R → ClusterState R → (Cluster → List Occurrence) → List Said → Option ℕ → Type 0
 ActsBy segments old new makes told broken =
-    (cluster : Cluster) → IsOf segments old cluster → IsActedAs segments new told broken (all_acted cluster (makes cluster))
+    (cluster : Cluster) → IsOf segments old cluster → IsActedAs segments cluster new told broken (all_acted cluster (makes cluster))
 
 -- the code of a call is this, or it has none
 abbrev pub HasCode : {R : Type 0} → (R → Option Segments) → ClusterState R → (Cluster → Option Code) → Option Code → Type 0

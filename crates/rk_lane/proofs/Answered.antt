@@ -1,5 +1,5 @@
 -- A backup took a message: what it answered, and what its replica tells then.
-use Rattle.std.proofs.Common.{◌≡◌, ◌≤◌, ◌-◌, ℕ, false, true, List, [], ◌∷◌, length, Option, None, Some, IfSome, Result, Ok, Err, slice_set, refl, sym, ap, subst, ◌∙◌}
+use Rattle.std.proofs.Common.{◌≡◌, ◌≤◌, ◌-◌, ℕ, Bool, false, true, cond, List, [], ◌∷◌, length, Option, None, Some, IfSome, Result, Ok, Err, slice_set, refl, sym, ap, subst, ◌∙◌}
 use Rattle.std.specs.Prelude.{IfErr, IsErrAnd, ⊤}
 use Rattle.rk_types.specs.declared.held.TheConstants.{SEGMENT_BYTES}
 use Rattle.rk_types.specs.declared.node.Node.{Node}
@@ -16,21 +16,16 @@ use Rattle.rk_message.specs.declared.message.Body.TheVariants as bodies
 use Rattle.rk_message.specs.declared.message.Message.{Message}
 use Rattle.rk_message.specs.declared.rebuilding.ReadSegment.{ReadSegment}
 use Rattle.rk_message.specs.declared.replication.Append.{Append}
-use Rattle.rk_world.specs.Backup.{Backed, Called, Appended, Failed, Gave, append_step, append_taken, backup_step, called_by, failing, idle, read_step, stored_after}
+use Rattle.rk_world.specs.Backup.{Backed, Called, Appended, Failed, Gave, append_step, append_taken, backup_step, called_by, calls_replica, failing, idle, read_step, stored_after}
 use Rattle.rk_world.specs.Premises.{MayCome}
 use Rattle.rk_lane.specs.Backing.{IsBackedAt, IsBackedBy, IsSpared, IsUnanswered, IsUnansweredAt, IsWithinSegment, sending}
-use Rattle.rk_lane.specs.Events.{IsFailed}
+use Rattle.rk_lane.specs.Events.{IsAnswerOf, IsFailed}
 
 -- what was sent was not lost
 sent_not_lost : (sends : List Message) → sending sends ≡ failing → ⊥
 sent_not_lost sends is =
     let never : false ≡ true = ap (λ (b : Backed). b.lost) is in
     cc never
-
--- of a call that failed nothing has to be told
-failed_given : (told : Option Segments) (called : Called) (by : Segments → Called) → IsFailed called → IfSome told (λ stored. (IsFailed called → ⊥) → called ≡ by stored)
-failed_given None called by failed = tt
-failed_given (Some stored) called by failed = λ fine. absurd (fine failed)
 
 -- who answered was spared
 pub spared_by : {R : Type 0} (segments : R → Option Segments) (faults : R → ℕ) (old new : BackupLane R) (from : Node) (body : Body) (log : ℕ → ℕ → List ℕ) (sends : List Message)
@@ -87,9 +82,9 @@ idle_told : (from : Node) (body : Body) (told : Option Segments) → AsksNothing
 idle_told from body None asks = tt
 idle_told from body (Some stored) asks = idle_stored from body stored asks
 
-idle_given : (from : Node) (body : Body) (told : Option Segments) → AsksNothing from body → IfSome told (λ stored. (IsFailed (Gave None) → ⊥) → Gave None ≡ called_by stored from body None)
+idle_given : (from : Node) (body : Body) (told : Option Segments) → AsksNothing from body → IfSome told (λ stored. IsAnswerOf (called_by stored from body) (Gave None))
 idle_given from body None asks = tt
-idle_given from body (Some stored) asks = λ fine. idle_called from body stored asks
+idle_given from body (Some stored) asks = record { fine = λ fine. idle_called from body stored asks; failed = λ failed. absurd failed }
 
 -- it is as it was
 pub idle_backed : {R : Type 0} (segments : R → Option Segments) (faults : R → ℕ) (it : BackupLane R) (from : Node) (body : Body) (log : ℕ → ℕ → List ℕ) (sends : List Message)
@@ -111,11 +106,29 @@ idle_backed segments faults it from body log sends asks none = record {
 -- what it tells then is what the call came to
 append_given : (master : ℕ) (append : Append) (after : ℕ) (old new : Option Segments) → WhereTold (λ before now. now ≡ append_taken before master append (Appended after)) old new
     → IfSome new (λ told. after ≡ lengths_of told master append.segment)
-    → IfSome old (λ stored. (IsFailed (Appended after) → ⊥) → Appended after ≡ called_by stored (nodes.Master master) (bodies.Append append) None)
+    → IfSome old (λ stored. IsAnswerOf (called_by stored (nodes.Master master) (bodies.Append append)) (Appended after))
 append_given master append after None new told is = tt
 append_given master append after (Some old) None told is = absurd told
-append_given master append after (Some old) (Some new) told is =
-    λ fine. ap Appended (is ∙ ap (λ (stored : Segments). length (bytes_of (stored master append.segment))) told)
+append_given master append after (Some old) (Some new) told is = record {
+  fine = λ fine. ap Appended (is ∙ ap (λ (stored : Segments). length (bytes_of (stored master append.segment))) told);
+  failed = λ failed. absurd failed;
+}
+
+-- where it failed, the replica was asked, and stored so much
+fault_given : (master : ℕ) (append : Append) (before after : ℕ) (old : Option Segments) → calls_replica before append ≡ true
+    → IfSome old (λ told. before ≡ lengths_of told master append.segment)
+    → IfSome old (λ stored. IsAnswerOf (called_by stored (nodes.Master master) (bodies.Append append)) (Failed (after - before)))
+fault_given master append before after None asked is = tt
+fault_given master append before after (Some stored) asked is = record {
+  fine = λ fine. absurd (fine tt);
+  failed = λ failed. (
+    after - before,
+    sym
+        (ap
+        (λ (b : Bool). cond b (Failed (after - before)) (Appended (length (bytes_of (stored master append.segment)))))
+        (ap (λ (count : ℕ). calls_replica count append) (sym is) ∙ asked)),
+  );
+}
 
 -- a message that tells what is stored tells no more than a segment
 within_segment : (number master : ℕ) (append : Append) (after : ℕ) (message : Message) → append_step number master append (Appended after) ≡ sending (message ∷ []) → IsWithinSegment message.body
@@ -150,14 +163,15 @@ module _ {R : Type 0} (segments : R → Option Segments) (faults : R → ℕ) (o
   }
 
   -- its replica failed
-  pub append_failed : IsStoredBy (Err losses.Failed) → HasLossCause {T = Message} (faults (replica_of old)) (faults (replica_of new)) (Err losses.Failed)
+  pub append_failed : IsStoredBy (Err losses.Failed) → calls_replica before append ≡ true → IfSome (segments (replica_of old)) (λ told. before ≡ lengths_of told master append.segment)
+      → HasLossCause {T = Message} (faults (replica_of old)) (faults (replica_of new)) (Err losses.Failed)
       → IsBackedBy segments faults old new (nodes.Master master) (bodies.Append append) log failing
-  append_failed told cause = record {
+  append_failed told asked is cause = record {
     called = append_called {T = Message} (Err losses.Failed) before after;
     may = tt;
     answer = refl;
     told = told;
-    given = failed_given (segments (replica_of old)) (append_called {T = Message} (Err losses.Failed) before after) (λ stored. called_by stored (nodes.Master master) (bodies.Append append) None) tt;
+    given = fault_given master append before after (segments (replica_of old)) asked is;
     number = number;
     lost = λ failed. refl;
     failed = λ failed. cause.failed refl;
@@ -175,11 +189,11 @@ read_told master wanted called (Some old) (Some new) told = λ i m s. told m s i
 
 -- a read that did not fail gave what is stored
 read_given : (master : ℕ) (wanted : ReadSegment) (called : Called) (old : Option Segments) → IfSome old (λ stored. IsReadOf stored wanted called)
-    → IfSome old (λ stored. (IsFailed called → ⊥) → called ≡ called_by stored (nodes.Master master) (bodies.Read wanted) None)
+    → IfSome old (λ stored. IsAnswerOf (called_by stored (nodes.Master master) (bodies.Read wanted)) called)
 read_given master wanted called None is = tt
 read_given master wanted (Appended length) (Some stored) is = absurd is
-read_given master wanted (Gave bytes) (Some stored) is = λ fine. ap Gave is
-read_given master wanted (Failed count) (Some stored) is = λ fine. absurd (fine tt)
+read_given master wanted (Gave bytes) (Some stored) is = record { fine = λ fine. ap Gave is; failed = λ failed. absurd failed }
+read_given master wanted (Failed count) (Some stored) is = record { fine = λ fine. absurd (fine tt); failed = λ failed. (0, ap Failed is) }
 
 -- who sent a copy did not fail
 copy_came : (number reader : ℕ) (wanted : ReadSegment) (log : ℕ → ℕ → List ℕ) (called : Called) (message : Message) → read_step number reader wanted log called ≡ sending (message ∷ [])
@@ -271,10 +285,12 @@ spared_loss {R} {T} faults old new number cause = record { number = number; fine
 module _ {R : Type 0} (segments : R → Option Segments) (faults : R → ℕ) (old new : BackupLane R) (master : ℕ) (log : ℕ → ℕ → List ℕ) (number : number_of new ≡ number_of old) where
   pub append_unanswered : (append : Append) (before after : ℕ) (cause : Lost)
       → WhereTold (λ told now. now ≡ append_taken told master append (append_called {T = Message} (Err cause) before after)) (segments (replica_of old)) (segments (replica_of new))
+      → (cause ≡ losses.Failed → calls_replica before append ≡ true) → IfSome (segments (replica_of old)) (λ told. before ≡ lengths_of told master append.segment)
       → HasLossCause {T = Message} (faults (replica_of old)) (faults (replica_of new)) (Err cause)
       → IsUnanswered segments faults old new (nodes.Master master) (bodies.Append append) log cause
-  append_unanswered append before after losses.Failed told cause = append_failed segments faults old new master append before after log number told cause
-  append_unanswered append before after losses.NoMemory told cause = spared_loss {T = Message} faults old new number cause
+  append_unanswered append before after losses.Failed told asked is cause =
+      append_failed segments faults old new master append before after log number told (asked refl) is cause
+  append_unanswered append before after losses.NoMemory told asked is cause = spared_loss {T = Message} faults old new number cause
 
   pub read_unanswered : (wanted : ReadSegment) (bytes : List ℕ) (cause : Lost) → log wanted.master wanted.segment ≡ bytes
       → WhereTold IsSame (segments (replica_of old)) (segments (replica_of new))

@@ -1,10 +1,9 @@
 -- A message reaches a backup: what the event makes of the parts of a lane and of its backups.
 use Rattle.std.proofs.Common.{◌≡◌, ◌≤◌, ◌<◌, ◌+◌, ◌-◌, ◌&&◌, ℕ, zero, suc, true, cond, inl, inr, List, [], ◌∷◌, length, slice_get, Option, None, Some, IfSome, is_some, refl, sym, ap, subst, ◌∙◌, arith}
-use Rattle.std.specs.List.{range_with_len}
 use Rattle.std.specs.Prelude.{unwrap_or}
 use Rattle.std.proofs.lemmas.Bool.{le-leb}
 use Rattle.std.proofs.lemmas.List.{length-set}
-use Rattle.rk_types.specs.NumberMap.{NumberMap, get, numbers}
+use Rattle.rk_types.specs.NumberMap.{NumberMap, get}
 use Rattle.rk_types.specs.declared.node.Node.{Node}
 use Rattle.rk_types.specs.declared.node.Node.TheVariants as nodes
 use Rattle.rk_log.specs.Log.{bytes_of}
@@ -19,16 +18,16 @@ use Rattle.rk_world.specs.Backup.{Backed, Called, Appended, Failed, Gave, backup
 use Rattle.rk_world.specs.Limits.{IsFormedBody, IsThere, Limits, limits_of}
 use Rattle.rk_world.specs.Master.{Master}
 use Rattle.rk_world.specs.Refusals.{refusal}
+use Rattle.rk_world.specs.Replicas.{AllTell}
 use Rattle.rk_world.specs.Step.{Stepped, backed_at, happened, log_bytes_of, quietly, told_by_replica, told_for, told_to, with_sends}
 use Rattle.rk_world.specs.World.{is_backup, with_stored_by}
 use Rattle.rk_world.specs.declared.error.StepError.{StepError}
 use Rattle.rk_world.specs.declared.error.StepError.TheVariants as errors
 use Rattle.rk_world.specs.declared.event.Event.TheVariants as events
 use Rattle.rk_world.specs.declared.event.Seen.{Seen}
-use Rattle.rk_laws_formed.proofs.Numbered.{found_in_range}
 use Rattle.rk_laws_formed.proofs.Rises.{keeps_to_top}
 use Rattle.rk_lane.specs.Backing.{CanBeAnswered, IsBackedBy, IsLogOf, IsSpared, sending}
-use Rattle.rk_lane.specs.Events.{HasCause, IsFailed}
+use Rattle.rk_lane.specs.Events.{HasCause, IsAnswerOf, IsFailed}
 use Rattle.rk_lane.specs.Finished.{IsCutBack, IsFinished}
 use Rattle.rk_lane.specs.Happened.{IsHappened, IsUnhappened}
 use Rattle.rk_lane.specs.Lane.{AreNumbered}
@@ -57,7 +56,7 @@ stored_world old backup change stored None = refl
 stored_world old backup change stored (Some its) = refl
 
 -- a call failed or it did not
-by_failing : (called : Called) (P : Type 0) → (IsFailed called → P) → ((IsFailed called → ⊥) → P) → P
+pub by_failing : (called : Called) (P : Type 0) → (IsFailed called → P) → ((IsFailed called → ⊥) → P) → P
 by_failing (Appended length) P failed fine = fine (λ never. never)
 by_failing (Gave bytes) P failed fine = fine (λ never. never)
 by_failing (Failed stored) P failed fine = failed tt
@@ -184,19 +183,19 @@ module _ {R : Type 0} (segments : R → Option Segments) (faults : R → ℕ) (o
       (λ fine. inr (fine, none_failed before backup it now is_there.0 at faults (by.fine fine)))
 
   -- what the call came to, where all replicas tell their segments
-  given : (stored : NumberMap Segments) → AreTold segments before stored → (IsFailed by.called → ⊥) → numbers stored ≡ range_with_len 1 old.backups
-      → by.called ≡ told_by_replica (world_of old stored) (events.Deliver number) None
-  given stored are fine all =
-      let its = found_some (get stored backup) (found_in_range stored old.backups backup all (record { first = is_there.0; last = is_there.1 })) in
+  given : (stored : NumberMap Segments) → AreTold segments before stored → AllTell (world_of old stored)
+      → IsAnswerOf (told_by_replica (world_of old stored) (events.Deliver number)) by.called
+  given stored are all =
+      let its = found_some (get stored backup) (all backup counted) in
       let tells : IsTold segments before backup its.it = are backup its.it its.is in
       let place : tells.place ≡ backup - 1 = omega (arith, tells.number_is) in
       let same_backup : Some tells.backup ≡ Some it = sym tells.there ∙ ap (slice_get before) place ∙ at in
       let same : tells.backup ≡ it = cc same_backup in
-      given_by segments (replica_of it) (get stored backup) (λ told. (IsFailed by.called → ⊥) → by.called ≡ called_by told message.from message.body None) its.it
-      (ap (λ (b : BackupLane R). segments (replica_of b)) (sym same) ∙ tells.tells) its.is by.given fine
-      ∙ sym
-      (ap (λ (found : Option Message). told_for (world_of old stored) found None) on
-      ∙ ap (λ node. told_to (world_of old stored) message node None) to)
+      let answers : told_by_replica (world_of old stored) (events.Deliver number) ≡ (λ fault. told_to (world_of old stored) message (nodes.Backup backup) fault) =
+      (λ i fault. told_for (world_of old stored) (on i) fault) ∙ (λ i fault. told_to (world_of old stored) message (to i) fault) in
+      subst (λ (answer : Option ℕ → Called). IsAnswerOf answer by.called) (sym answers)
+      (given_by segments (replica_of it) (get stored backup) (λ told. IsAnswerOf (called_by told message.from message.body) by.called) its.it
+      (ap (λ (b : BackupLane R). segments (replica_of b)) (sym same) ∙ tells.tells) its.is by.given)
 
   -- what the event makes, by the world after it
   pub backup_happened : (new : Parts) (after : List (BackupLane R)) (seen : Seen) → after ≡ with_backup before backup now → IsKept new → IsSameParts old new

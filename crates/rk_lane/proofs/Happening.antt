@@ -99,7 +99,7 @@ module _ {R : Type 0} (segments : R → Option Segments) (faults : R → ℕ) (o
       now = stored;
       made = made.made stored;
       told = are;
-      given = λ fine all. told_nothing old stored event other;
+      given = λ all. record { fine = λ fine. told_nothing old stored event other; failed = λ failed. absurd failed };
     };
   }
 

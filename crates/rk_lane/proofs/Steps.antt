@@ -2,7 +2,6 @@
 use Rattle.std.proofs.Common.{◌≡◌, ◌≢◌, ◌≤◌, ℕ, Bool, true, false, cond, [], length, vec_capacity, Option, None, Some, IfErr, IfOk, IfSome, IsSomeAnd, Result, Ok, Err, refl, sym, ap, subst, ◌∙◌}
 use Rattle.std.specs.Global.{Vec}
 use Rattle.rk_types.specs.NumberMap.{NumberMap}
-use Rattle.std.specs.List.{range_with_len}
 use Rattle.std.specs.Int.{w32}
 use Rattle.std.specs.Option.{option_map, option_or}
 use Rattle.rk_types.specs.declared.node.Node.TheVariants as nodes
@@ -12,6 +11,8 @@ use Rattle.rk_entry.specs.Ends.{IsLawfulRange}
 use Rattle.rk_entry.specs.Numbers.{IsNumber}
 use Rattle.rk_world.specs.Premises.{IsMaster, MayHappen, MayTurn}
 use Rattle.rk_world.specs.Refusals.{comes_anyway, fault_of, refusal, worn}
+use Rattle.rk_world.specs.Replicas.{AllTell}
+use Rattle.rk_world.specs.Room.{HasRoom}
 use Rattle.rk_world.specs.Runs.{IsCalmEvent}
 use Rattle.rk_world.specs.Step.{Stepped, happened, stepped_by, told_by_replica}
 use Rattle.rk_world.specs.World.{World, new_world}
@@ -20,7 +21,7 @@ use Rattle.rk_world.specs.declared.error.StepError.TheVariants as errors
 use Rattle.rk_world.specs.declared.event.Event.{Event}
 use Rattle.rk_world.specs.declared.event.Event.TheVariants as events
 use Rattle.rk_world.specs.declared.event.Seen.{Seen}
-use Rattle.rk_lane.specs.Events.{IsRefused, IsStepOf, MayComeTo, MayStep}
+use Rattle.rk_lane.specs.Events.{IsAnswerOf, IsRefused, IsStepOf, MayComeTo, MayStep}
 use Rattle.rk_lane.specs.Happened.{IsHappened, IsToldAfter, IsUnhappened}
 use Rattle.rk_lane.specs.Lane.{AreNumbered, IsLane, lane_of}
 use Rattle.rk_lane.specs.LaneState.{IsSameLane, LaneState, world_with}
@@ -61,7 +62,7 @@ module _ (w : World) (count : ℕ) (stored : NumberMap Segments) where
 -- ---- what may come
 
 -- what an event may name depends on how many masters there are
-may_happen_same : (w other : World) (event : Event) → w.coordinator.masters ≡ other.coordinator.masters → MayHappen w event → MayHappen other event
+pub may_happen_same : (w other : World) (event : Event) → w.coordinator.masters ≡ other.coordinator.masters → MayHappen w event → MayHappen other event
 may_happen_same w other (events.AddTablet tablet range master) same may = subst (λ (count : ℕ). IsNumber w32 1 tablet × IsLawfulRange range × IsMaster count master) same may
 may_happen_same w other (events.AddClient client) same may = may
 may_happen_same w other (events.Deliver number) same may = tt
@@ -73,17 +74,18 @@ may_happen_same w other (events.Split tablet at new) same may = may
 may_happen_same w other (events.Crash master) same may = subst (λ (count : ℕ). IsMaster count master) same may
 may_happen_same w other (events.Notice master) same may = subst (λ (count : ℕ). IsMaster count master) same may
 
-calm_same : (w : World) (count : ℕ) (event : Event) → IsCalmEvent (record w { backup_count = count }) event → IsCalmEvent w event
-calm_same w count (events.AddTablet tablet range master) calm = tt
-calm_same w count (events.AddClient client) calm = tt
-calm_same w count (events.Deliver number) calm = tt
-calm_same w count (events.Forget number) calm = tt
-calm_same w count (events.Turn node) calm = tt
-calm_same w count (events.Again client) calm = tt
-calm_same w count (events.Migrate tablet to) calm = tt
-calm_same w count (events.Split tablet at new) calm = tt
-calm_same w count (events.Crash master) calm = calm
-calm_same w count (events.Notice master) calm = tt
+-- whether a crash is calm depends on no backup
+pub calm_same : (w : World) (count : ℕ) (stored : NumberMap Segments) (event : Event) → IsCalmEvent (record w { backup_count = count; backups = stored }) event → IsCalmEvent w event
+calm_same w count stored (events.AddTablet tablet range master) calm = tt
+calm_same w count stored (events.AddClient client) calm = tt
+calm_same w count stored (events.Deliver number) calm = tt
+calm_same w count stored (events.Forget number) calm = tt
+calm_same w count stored (events.Turn node) calm = tt
+calm_same w count stored (events.Again client) calm = tt
+calm_same w count stored (events.Migrate tablet to) calm = tt
+calm_same w count stored (events.Split tablet at new) calm = tt
+calm_same w count stored (events.Crash master) calm = calm
+calm_same w count stored (events.Notice master) calm = tt
 
 -- what may come to a lane that is not spent may come to its parts
 pub may_come : {R : Type 0} (lane : Inside R) (event : Event) → lane.spent ≡ false → IsLane lane → MayComeTo (lane_of lane) event → MayStep (world_of lane.parts []) event
@@ -92,7 +94,7 @@ may_come lane event live is_lane may = record {
       may_happen_same (new_world lane.parts.number (length lane.parts.masters.items) (length lane.backups.items)) (world_of lane.parts []) event
       (sym (masters_counted lane.parts (is_lane.kept live))) may.may;
   calm =
-      calm_same (world_of lane.parts []) (length lane.backups.items) event
+      calm_same (world_of lane.parts []) (length lane.backups.items) [] event
       (may.calm (running_of lane.parts) (ap (λ (b : Bool). cond b None (Some (running_of lane.parts))) live));
 }
 
@@ -108,15 +110,21 @@ module _ {R : Type 0} (segments : R → Option Segments) (faults : R → ℕ) (l
   runs spent parts is = ap (λ (b : Bool). cond b None (Some (running_of parts))) is
 
   -- it took the event
-  pub step_of_lane : (seen : Seen) (spent : Bool) → spent ≡ false → IsHappened segments faults event lane.parts lane.backups.items new backups.items seen
+  pub step_of_lane : (seen : Seen) (spent : Bool) → spent ≡ false → MayStep (world_of lane.parts []) event
+      → IsHappened segments faults event lane.parts lane.backups.items new backups.items seen
       → IsStepOf segments faults event (lane_of lane) (lane_of (lane_then spent)) seen
-  step_of_lane seen spent lives happened_so = record {
+  step_of_lane seen spent lives may happened_so = record {
     before = running_of lane.parts;
     after = running_of new;
     was = runs lane.spent lane.parts live;
     is = runs spent new lives;
     called = happened_so.called;
+    comes =
+        subst (λ (count : ℕ). MayStep (record (world_of lane.parts []) { backup_count = count }) event) (sym is_lane.count) may;
     may = happened_so.may;
+    room =
+        subst (λ (count : ℕ). HasRoom (record (world_of new []) { backup_count = count }))
+        (happened_so.lane.backups ∙ sym is_lane.count ∙ sym happened_so.count) happened_so.kept.formed.room;
     cause = happened_so.cause;
     stepped = λ stored are.
         let told : IsToldAfter segments lane.parts event happened_so.called new backups.items seen stored = happened_so.made stored are in
@@ -132,9 +140,9 @@ module _ {R : Type 0} (segments : R → Option Segments) (faults : R → ℕ) (l
               ∙ ap (λ (count : ℕ). record { world = record (world_of new told.now) { backup_count = count }; seen = seen })
               (happened_so.lane.backups ∙ sym is_lane.count ∙ sym happened_so.count));
           told = told.told;
-          given = λ fine all.
-              told.given fine (all ∙ ap (range_with_len 1) is_lane.count)
-              ∙ ap (λ (count : ℕ). told_by_replica (record (world_of lane.parts stored) { backup_count = count }) event None) (sym is_lane.count);
+          given = λ all.
+              subst (λ (count : ℕ). IsAnswerOf (told_by_replica (record (world_of lane.parts stored) { backup_count = count }) event) happened_so.called) (sym is_lane.count)
+              (told.given (subst (λ (count : ℕ). AllTell (record (world_of lane.parts stored) { backup_count = count })) is_lane.count all));
         };
   }
 
@@ -206,11 +214,11 @@ module _ {R : Type 0} (segments : R → Option Segments) (faults : R → ℕ) (l
       cc never)))
       (is_lane.kept live))
 
-  pub step_after : (answer : Result Seen StepError) (spent : Bool) → spent ≡ is_out_of_memory answer
+  pub step_after : (answer : Result Seen StepError) (spent : Bool) → spent ≡ is_out_of_memory answer → MayStep (world_of lane.parts []) event
       → IfOk answer (IsHappened segments faults event lane.parts lane.backups.items new backups.items)
       → IfOk answer (IsStepOf segments faults event (lane_of lane) (lane_of (lane_then spent)))
-  step_after (Ok seen) spent is took = step_of_lane seen spent is took
-  step_after (Err error) spent is took = tt
+  step_after (Ok seen) spent is may took = step_of_lane seen spent is may took
+  step_after (Err error) spent is may took = tt
 
 -- what holds in any case holds where a lane is not spent
 pub where_some : {X : Type 0} (found : Option X) (P : Type 0) → P → IfSome found (λ _. P)

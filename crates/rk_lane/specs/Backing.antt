@@ -16,7 +16,7 @@ use Rattle.rk_message.specs.declared.rebuilding.ReadSegment.{ReadSegment}
 use Rattle.rk_world.specs.Backup.{Backed, Called, backup_step, called_by, failing, stored_after}
 use Rattle.rk_world.specs.Master.{Master}
 use Rattle.rk_world.specs.Premises.{IsMaster, MayCome}
-use Rattle.rk_lane.specs.Events.{IsFailed}
+use Rattle.rk_lane.specs.Events.{IsAnswerOf, IsFailed}
 use Rattle.rk_lane.specs.Masters.{IsAt}
 
 -- a backup can answer a body: an Append ends within a segment, and a Read is of a master that is there
@@ -52,7 +52,7 @@ pub record IsBackedBy {R : Type 0} (segments : R → Option Segments) (faults : 
   pub may : MayCome called
   pub answer : backed ≡ backup_step (number_of old) from body log called
   pub told : WhereTold (λ before now. now ≡ stored_after before from body called) (segments (replica_of old)) (segments (replica_of new))
-  pub given : IfSome (segments (replica_of old)) (λ stored. (IsFailed called → ⊥) → called ≡ called_by stored from body None)
+  pub given : IfSome (segments (replica_of old)) (λ stored. IsAnswerOf (called_by stored from body) called)
   pub number : number_of new ≡ number_of old
   pub lost : IsFailed called → backed ≡ failing
   pub failed : IsFailed called → Rose (faults (replica_of old)) (faults (replica_of new))

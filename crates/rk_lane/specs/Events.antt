@@ -1,7 +1,6 @@
 -- What an event makes of a lane in code.
 use Rattle.std.specs.Prelude.{◌≡◌, ◌≢◌, ◌⊎◌, ℕ, List, [], length, map, Option, Some, None, Ok, IsSomeAnd, slice_get, slice_set, ⊤}
-use Rattle.std.specs.List.{range_with_len}
-use Rattle.rk_types.specs.NumberMap.{NumberMap, numbers}
+use Rattle.rk_types.specs.NumberMap.{NumberMap}
 use Rattle.rk_outside.specs.Faults.{Rose}
 use Rattle.rk_outside.specs.Segments.{Segments}
 use Rattle.rk_backup.specs.Lane.{replica_of}
@@ -9,6 +8,8 @@ use Rattle.rk_backup.specs.declared.lane.BackupLane.{BackupLane}
 use Rattle.rk_world.specs.Backup.{Called, Failed}
 use Rattle.rk_world.specs.Premises.{MayCome, MayHappen}
 use Rattle.rk_world.specs.Refusals.{refusal}
+use Rattle.rk_world.specs.Replicas.{AllTell}
+use Rattle.rk_world.specs.Room.{HasRoom}
 use Rattle.rk_world.specs.Runs.{IsCalmEvent}
 use Rattle.rk_world.specs.Step.{step, told_by_replica}
 use Rattle.rk_world.specs.World.{World, new_world}
@@ -34,13 +35,19 @@ abbrev pub IsFailed : Called → Type 0
 IsFailed (Failed stored) = ⊤
 IsFailed called = ⊥
 
+-- the call of a replica came to what one answers that tells what it stores: to what it answers without a fault, or where it failed, with
+-- one
+pub record IsAnswerOf (answer : Option ℕ → Called) (called : Called) : Type 0 where
+  pub fine : (IsFailed called → ⊥) → called ≡ answer None
+  pub failed : IsFailed called → (kept : ℕ) × (called ≡ answer (Some kept))
+
 -- a lane took an event, where what its backups store is what their replicas tell: the world after it is that of the lane after it. Where
--- all of them tell it and none failed, the call of a replica came to what they tell
+-- all of them tell it, the call of a replica came to what that one answers
 pub record IsStepFrom {R : Type 0} (segments : R → Option Segments) (w : World) (event : Event) (called : Called) (new : LaneState R) (after : Running) (seen : Seen) : Type 0 where
   pub backups : NumberMap Segments
   pub stepped : step w event called ≡ Ok (record { world = world_with new after backups; seen = seen })
   pub told : AreTold segments new.backups backups
-  pub given : (IsFailed called → ⊥) → numbers w.backups ≡ range_with_len 1 w.backup_count → called ≡ told_by_replica w event None
+  pub given : AllTell w → IsAnswerOf (told_by_replica w event) called
 
 -- how often the replica of each backup failed
 abbrev pub fault_counts : {R : Type 0} → (R → ℕ) → List (BackupLane R) → List ℕ
@@ -60,15 +67,17 @@ abbrev pub HasCause : {R : Type 0} → (R → ℕ) → Called → List (BackupLa
 HasCause faults called old new =
     (IsFailed called × OneFailed faults old new) ⊎ ((IsFailed called → ⊥) × (fault_counts faults new ≡ fault_counts faults old))
 
--- a lane took an event: by what the call of a replica came to, if one was called, its world became just what the definitions make of
--- it, and so is what it showed
+-- a lane took an event that may come to it: by what the call of a replica came to, if one was called, its world became just what the
+-- definitions make of it, and so is what it showed; and it has room then, which no backup takes
 pub record IsStepOf {R : Type 0} (segments : R → Option Segments) (faults : R → ℕ) (event : Event) (old new : LaneState R) (seen : Seen) : Type 0 where
   pub before : Running
   pub after : Running
   pub was : old.running ≡ Some before
   pub is : new.running ≡ Some after
   pub called : Called
+  pub comes : MayStep (world_with old before []) event
   pub may : MayCome called
+  pub room : HasRoom (world_with new after [])
   pub cause : HasCause faults called old.backups new.backups
   pub stepped : (backups : NumberMap Segments) → AreTold segments old.backups backups
       → IsStepFrom segments (world_with old before backups) event called new after seen

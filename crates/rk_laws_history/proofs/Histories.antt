@@ -13,14 +13,15 @@ use Rattle.rk_model.specs.Merged.{HasOwnKeys, IsRisingAbove, journal_of}
 use Rattle.rk_model.proofs.Lanes.{legal_merged}
 use Rattle.rk_world.specs.Base.{Base, base_map}
 use Rattle.rk_world.specs.Client.{new_session}
+use Rattle.rk_world.specs.ClusterRuns.{IsRun}
 use Rattle.rk_world.specs.Cluster.{Cluster, HasOneHistory, Occurrence, cluster_after, cluster_run, journals_of, lane_at, new_cluster, session_at}
 use Rattle.rk_world.specs.Ledger.{Ledger, asked_by, new_ledger}
 use Rattle.rk_world.specs.Premises.{MOST_MASTERS}
+use Rattle.rk_world.specs.Replicas.{AllTell}
 use Rattle.rk_world.specs.World.{World, new_world}
 use Rattle.rk_laws_formed.proofs.New.{new_has_room, new_is_well_formed, new_may_act}
 use Rattle.rk_laws_parts.proofs.Empty.{empty_is_sound}
 use Rattle.rk_laws_history.specs.Agreement.{AreTold, IsLastKnown}
-use Rattle.rk_laws_history.specs.Runs.{IsRun}
 use Rattle.rk_laws_history.proofs.Clusters.{IsGood, IsGoodLane, lawful_lane, ledgers_of}
 use Rattle.rk_laws_history.proofs.Occurring.{ClientsKeep, EventsKeep, occurs}
 use Rattle.rk_laws_history.proofs.Ordered.{IsLawfulLane, ordered}
@@ -118,9 +119,9 @@ module _ (Steady : World → Type 0) (masters : ℕ) where
     }
 
   -- so is each cluster of a run
-  module _ (events_keep : EventsKeep Steady) (clients_keep : ClientsKeep Steady) where
+  module _ (events_keep : EventsKeep Steady) (clients_keep : ClientsKeep Steady) (tells : (w : World) → Steady w → AllTell w) where
     pub good_run : (cluster : Cluster) (list : List Occurrence) → IsGood Steady masters cluster → IsRun cluster list → IsGood Steady masters (cluster_run cluster list)
     good_run cluster [] good run = good
     good_run cluster (occurrence ∷ later) good run =
         good_run (cluster_after cluster occurrence) later
-        (occurs Steady masters events_keep clients_keep cluster good occurrence run.0 run.1 run.2 run.3) run.4
+        (occurs Steady masters events_keep clients_keep cluster good tells occurrence run.0 run.1 run.2 run.3) run.4

@@ -20,10 +20,12 @@ use Rattle.rk_world.specs.Backup.{Called}
 use Rattle.rk_world.specs.Calls.{Visited, accept, accept_by, accepting, ask, ask_by, asked_by_session, asking, asking_by, fits_with, is_asked_here, taking, untouched}
 use Rattle.rk_world.specs.Client.{ClientTurn, Session, busy, call_lane, new_session, next_call, session_calling, session_turn, with_next_call}
 use Rattle.rk_world.specs.Cluster.{Accepts, Asks, Calls, Cluster, ClusterMay, Happens, Joins, KeepsCalm, Occurrence, called_by_client, cluster_after, cluster_stepped, cluster_visited, joined_by, lane_at, session_at, with_lane, with_session}
+use Rattle.rk_world.specs.ClusterRuns.{HasRoomAfter, LaneHasRoom, ReplicasTell}
 use Rattle.rk_world.specs.Formed.{IsWellFormed}
 use Rattle.rk_world.specs.Ledger.{asked_by, is_added}
 use Rattle.rk_world.specs.Premises.{IsAfterStart, IsLawfulCall, MayAct, MayCome, MayHappen}
 use Rattle.rk_world.specs.Refusals.{accept_refusal, ask_refusal, is_for, refusal, where_true}
+use Rattle.rk_world.specs.Replicas.{AllTell, IsTold}
 use Rattle.rk_world.specs.Room.{HasRoom}
 use Rattle.rk_world.specs.Runs.{IsCalmEvent, world_visited}
 use Rattle.rk_world.specs.Step.{happened, stepped_by}
@@ -34,11 +36,9 @@ use Rattle.rk_sound.specs.Whole.{IsSound}
 use Rattle.rk_laws_formed.proofs.Asks.{IsFormedVisit, formed_accept, formed_ask}
 use Rattle.rk_laws_formed.proofs.New.{may_act_calling}
 use Rattle.rk_laws_formed.proofs.Whole.{formed_event}
-use Rattle.rk_laws_formed.proofs.Rooms.{room_accept}
+use Rattle.rk_laws_formed.proofs.Rooms.{room_accept, room_asking}
 use Rattle.rk_laws_events.proofs.Clients.{for_client, sound_accepts, sound_asks}
-use Rattle.rk_laws_steps.specs.Steps.{IsTold}
 use Rattle.rk_laws_history.specs.Agreement.{Agrees}
-use Rattle.rk_laws_history.specs.Runs.{LanesHaveRoom, ReplicasTell}
 use Rattle.rk_laws_history.proofs.Agreeing.{ChangesAt, agrees_calling, agrees_grown}
 use Rattle.rk_laws_history.proofs.Clusters.{IsGood, IsGoodLane, IsGoodSession, changes_there, each_session, lane_here, lanes_there, ledgers_of}
 use Rattle.rk_laws_history.proofs.GoesOn.{GoesOn, event_goes_on, same_ledger}
@@ -114,11 +114,8 @@ module _ (Steady : World → Type 0) (masters : ℕ) (events_keep : EventsKeep S
           sessions = good.sessions;
         }
 
-    pub steps : (refused : Option StepError) → refusal w event ≡ refused → LanesHaveRoom (cluster_stepped cluster lane (stepped_by w event called refused)) → IsGood Steady masters (cluster_stepped cluster lane (stepped_by w event called refused))
-    steps None none room =
-        happens none
-        (subst HasRoom (lane_here cluster lane new within)
-        (room lane (let long = length-set cluster.lanes lane new in omega (arith, within, long))))
+    pub steps : (refused : Option StepError) → refusal w event ≡ refused → HasRoomAfter (stepped_by w event called refused) → IsGood Steady masters (cluster_stepped cluster lane (stepped_by w event called refused))
+    steps None none room = happens none room
     steps (Some error) none room = good
 
   -- ---- sessions
@@ -246,12 +243,9 @@ module _ (Steady : World → Type 0) (masters : ℕ) (events_keep : EventsKeep S
         (changes (asking v mine (Some call)).world (asking v mine (Some call)).session))
         (still call out (asking v mine (Some call)).session formed.session)
 
-    pub asks : IfSome mine.outstanding (IsAfterStart v.base) → (refused : Option StepError) → ask_refusal v mine ≡ refused → LanesHaveRoom (cluster_visited cluster lane client (ask_by v mine refused)) → IsGood Steady masters (cluster_visited cluster lane client (ask_by v mine refused))
-    asks start None none room =
-        asks_with start none mine.outstanding refl
-        (subst HasRoom (lane_here cluster lane (asking v mine mine.outstanding).world within)
-        (room lane (let long = length-set cluster.lanes lane (asking v mine mine.outstanding).world in omega (arith, within, long))))
-    asks start (Some error) none room = good
+    pub asks : IfSome mine.outstanding (IsAfterStart v.base) → (refused : Option StepError) → ask_refusal v mine ≡ refused → IsGood Steady masters (cluster_visited cluster lane client (ask_by v mine refused))
+    asks start None none = asks_with start none mine.outstanding refl (room_asking v mine none stood.formed stood.room)
+    asks start (Some error) none = good
 
     -- ---- an answer
 
@@ -321,11 +315,16 @@ module _ (Steady : World → Type 0) (masters : ℕ) (events_keep : EventsKeep S
 
   -- ---- all that may occur
 
-  pub occurs : (occurrence : Occurrence) → ClusterMay cluster occurrence → KeepsCalm cluster occurrence → ReplicasTell cluster occurrence → LanesHaveRoom (cluster_after cluster occurrence) → IsGood Steady masters (cluster_after cluster occurrence)
-  occurs (Happens lane event called) may calm told room =
-      steps lane may.0 event called may.1 may.2 told calm (refusal (lane_at cluster lane) event) refl room
-  occurs (Joins client) may calm told room = joins client (get cluster.sessions client) refl
-  occurs (Calls client table key op) may calm told room = calls client table key op may (get cluster.sessions client) refl
-  occurs (Asks lane client) may calm told room =
-      asks lane may.0 client may.1 (ask_refusal (lane_at cluster lane) (session_at cluster client)) refl room
-  occurs (Accepts lane number client) may calm told room = accepts lane may client number
+  -- backups tell what they store
+  abbrev pub Tells : Type 0
+  Tells = (w : World) → Steady w → AllTell w
+
+  pub occurs : Tells → (occurrence : Occurrence) → ClusterMay cluster occurrence → KeepsCalm cluster occurrence → ReplicasTell cluster occurrence → LaneHasRoom cluster occurrence → IsGood Steady masters (cluster_after cluster occurrence)
+  occurs tells (Happens lane event called) may calm told room =
+      steps lane may.0 event called may.1 may.2 (told (tells (lane_at cluster lane) (good.lanes lane may.0).steady)) calm
+      (refusal (lane_at cluster lane) event) refl room
+  occurs tells (Joins client) may calm told room = joins client (get cluster.sessions client) refl
+  occurs tells (Calls client table key op) may calm told room = calls client table key op may (get cluster.sessions client) refl
+  occurs tells (Asks lane client) may calm told room =
+      asks lane may.0 client may.1 (ask_refusal (lane_at cluster lane) (session_at cluster client)) refl
+  occurs tells (Accepts lane number client) may calm told room = accepts lane may client number

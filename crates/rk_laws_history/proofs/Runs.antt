@@ -25,7 +25,8 @@ use Rattle.rk_laws_stands.proofs.Standing.{quiet_stands_in_room}
 use Rattle.rk_laws_stands.proofs.Telling.{all_after, all_new, own_where_all_tell}
 use Rattle.rk_laws_steps.specs.Steps.{IsSteady}
 use Rattle.rk_laws_steps.proofs.Stepped.{sound_event}
-use Rattle.rk_laws_history.specs.Runs.{IsKeptIn, IsRun}
+use Rattle.rk_world.specs.ClusterRuns.{IsRun}
+use Rattle.rk_laws_history.specs.Runs.{IsKeptIn}
 use Rattle.rk_laws_history.proofs.Clusters.{IsGood, IsGoodLane}
 use Rattle.rk_laws_history.proofs.Histories.{good_run, good_start, one_history}
 use Rattle.rk_laws_history.proofs.Occurring.{ClientsKeep, EventsKeep}
@@ -87,7 +88,7 @@ module _ (masters backups : ℕ) (few : masters ≤ MOST_MASTERS) (backed : 1 �
 
   pub good_after : (list : List Occurrence) → IsRun start list → IsGood Lasts masters (cluster_run start list)
   good_after list run =
-      good_run Lasts masters events_keep clients_keep start list
+      good_run Lasts masters events_keep clients_keep (λ w lasts. lasts.0.tell) start list
       (good_start Lasts masters backups few backed few_backups lasts_start) run
 
   -- each lane is there

@@ -1,34 +1,15 @@
--- Runs of a cluster whose replicas tell what they store and whose lanes have room, and what stays in them.
-use Rattle.std.specs.Prelude.{◌≡◌, ◌<◌, ℕ, true, List, [], ◌∷◌, length, Some, slice_get, ⊤}
+-- What stays in a run of a cluster, and what finishes in it.
+use Rattle.std.specs.Prelude.{◌≡◌, ℕ, true, List, Some, slice_get}
 use Rattle.rk_types.specs.declared.history.Placed.{Placed}
 use Rattle.rk_types.specs.declared.history.Receipt.{Receipt}
 use Rattle.rk_types.specs.declared.lineage.Member.{Member}
 use Rattle.rk_tablet_map.specs.declared.row.Row.{Row}
-use Rattle.rk_world.specs.Cluster.{Cluster, ClusterMay, KeepsCalm, Occurrence, Happens, cluster_after, lane_at}
+use Rattle.rk_world.specs.Cluster.{Cluster, lane_at}
 use Rattle.rk_world.specs.Finished.{Finishes}
-use Rattle.rk_world.specs.Room.{HasRoom}
 use Rattle.rk_world.specs.Step.{Stepped}
 use Rattle.rk_world.specs.World.{World}
 use Rattle.rk_world.specs.declared.event.Event.{Event}
 use Rattle.rk_world.specs.declared.event.Event.TheVariants as events
-use Rattle.rk_laws_steps.specs.Steps.{IsTold}
-
--- an event comes with what replicas that tell their segments answer, one of which may fail
-abbrev pub ReplicasTell : Cluster → Occurrence → Type 0
-ReplicasTell cluster (Happens lane event called) = IsTold (lane_at cluster lane) event called
-ReplicasTell cluster occurrence = ⊤
-
--- each lane of a cluster has room
-abbrev pub LanesHaveRoom : Cluster → Type 0
-LanesHaveRoom cluster = (lane : ℕ) → lane < length cluster.lanes → HasRoom (lane_at cluster lane)
-
--- each of these may occur when it does, each crash among them comes only while another master lives, replicas tell what they store, and
--- all lanes have room after each
-abbrev pub IsRun : Cluster → List Occurrence → Type 0
-IsRun cluster [] = ⊤
-IsRun cluster (occurrence ∷ later) =
-    ClusterMay cluster occurrence × KeepsCalm cluster occurrence × ReplicasTell cluster occurrence
-    × LanesHaveRoom (cluster_after cluster occurrence) × IsRun (cluster_after cluster occurrence) later
 
 -- a record stands at its place in a journal still, and is accepted where it was
 pub record IsStill (journal : List Placed) (place : ℕ) (placed : Placed) : Type 0 where

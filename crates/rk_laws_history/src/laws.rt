@@ -17,7 +17,8 @@ ghost use Rattle.rk_world.specs.declared.event.Event.{Event};
 ghost use Rattle.rk_sound.specs.Truth.{IsTruth};
 ghost use Rattle.rk_sound.specs.View.{truths, view};
 ghost use Rattle.rk_sound.specs.Whole.{IsSound};
-ghost use Rattle.rk_laws_history.specs.Runs.{IsFinishedBy, IsKeptIn, IsRun, RecordsStay};
+ghost use Rattle.rk_world.specs.ClusterRuns.{IsRun};
+ghost use Rattle.rk_laws_history.specs.Runs.{IsFinishedBy, IsKeptIn, RecordsStay};
 
 /// In every run of a new cluster, whatever is sent, lost, repeated or delayed and whichever masters crash while another one lives, each lane
 /// is sound and well formed. So the journals of all lanes merge into one lawful history of one map that starts empty, and that history is

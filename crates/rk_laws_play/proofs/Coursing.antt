@@ -2,15 +2,16 @@
 use Rattle.std.proofs.Common.{ℕ, List, [], ◌∷◌, ◌++◌, sym, subst}
 use Rattle.rk_world.specs.Backup.{Called}
 use Rattle.rk_world.specs.Cluster.{Cluster}
+use Rattle.rk_cluster.proofs.Leading.{run_on}
 use Rattle.rk_settle.proofs.Occurred.{move_is}
 use Rattle.rk_settle.specs.Course.{Course, moved, moved_all}
 use Rattle.rk_settle.specs.Lawful.{AreTasks}
-use Rattle.rk_laws_history.specs.Runs.{IsRun}
+use Rattle.rk_world.specs.ClusterRuns.{IsRun}
 use Rattle.rk_laws_play.specs.Answered.{AreAnswered}
 use Rattle.rk_laws_play.proofs.Allowed.{allowed_on}
 use Rattle.rk_laws_play.proofs.Masters.{names_masters}
 use Rattle.rk_laws_play.proofs.Moving.{IsCourseFrom, moved_from}
-use Rattle.rk_laws_play.proofs.Reaching.{IsReached, answered_after, answered_before, reached_after, run_on}
+use Rattle.rk_laws_play.proofs.Reaching.{IsReached, answered_after, answered_before, reached_after}
 
 module _ (masters backups : ℕ) (start : Cluster) (reached : IsReached masters backups start) where
   -- what has occurred in a course is a run, where replicas answer as they may, and the tasks that are left name what is there

@@ -11,3 +11,5 @@ pub mod Calling
 pub mod Commanding
 pub mod Going
 pub mod Playing
+pub mod Led
+pub mod Quiet

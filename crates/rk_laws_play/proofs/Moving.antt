@@ -1,14 +1,10 @@
 -- The cluster of a settling command is what has occurred in its course made of the one at its start.
-use Rattle.std.proofs.Common.{◌≡◌, List, [], ◌∷◌, ◌++◌, sym, ap, ◌∙◌}
-use Rattle.std.proofs.lemmas.List.Sums.{fold-append}
+use Rattle.std.proofs.Common.{◌≡◌, List, [], ◌∷◌, sym, ap, ◌∙◌}
 use Rattle.rk_world.specs.Backup.{Called}
-use Rattle.rk_world.specs.Cluster.{Cluster, Occurrence, cluster_after, cluster_run}
+use Rattle.rk_world.specs.Cluster.{Cluster, cluster_run}
+use Rattle.rk_cluster.proofs.Leading.{runs_join}
 use Rattle.rk_settle.specs.Course.{Course, moved, moved_all}
 use Rattle.rk_settle.proofs.Occurred.{move_is}
-
--- a run goes on where the first part of it ended
-pub runs_join : (cluster : Cluster) (before after : List Occurrence) → cluster_run cluster (before ++ after) ≡ cluster_run (cluster_run cluster before) after
-runs_join cluster before after = fold-append cluster_after cluster before after
 
 -- the cluster of a course is what has occurred made of the one at its start
 abbrev pub IsCourseFrom : Cluster → Course → Type 0

@@ -8,6 +8,7 @@ use Rattle.rk_world.specs.Backup.{Called}
 use Rattle.rk_world.specs.Cluster.{Cluster, HasOneHistory, IsQuietCluster, Occurrence, cluster_run, lane_at, new_cluster}
 use Rattle.rk_world.specs.Premises.{MOST_MASTERS}
 use Rattle.rk_world.specs.Stands.{Stands}
+use Rattle.rk_cluster.proofs.Leading.{runs_join}
 use Rattle.rk_cluster.specs.Numbers.{number_of}
 use Rattle.rk_cluster.specs.declared.code.Code.TheVariants.{TooLate}
 use Rattle.rk_script.specs.Lawful.{IsLawful, IsLawfulCommand}
@@ -22,13 +23,12 @@ use Rattle.rk_script.proofs.Widths.{HasWidthsAt, script_of-widths}
 use Rattle.rk_play.specs.Effects.{Effect, Fails, Pauses, Refuses, Stop, Wears, effect_within}
 use Rattle.rk_play.specs.Played.{Played, Setting, behind, cluster_by, continued, first_calls, how_many, opened_by, other_calls, played, played_from, played_in, played_of, refused_at, set_once, stopped_at, unset}
 use Rattle.rk_play.specs.Settings.{IsSetting}
-use Rattle.rk_laws_history.specs.Runs.{IsRun}
+use Rattle.rk_world.specs.ClusterRuns.{IsRun}
 use Rattle.rk_laws_history.proofs.Runs.{all_stand, has_history}
 use Rattle.rk_laws_play.specs.Answered.{AreAnswered}
 use Rattle.rk_laws_play.specs.Historical.{IsHistorical}
 use Rattle.rk_laws_play.proofs.Going.{within_on}
 use Rattle.rk_laws_play.proofs.Made.{within_from}
-use Rattle.rk_laws_play.proofs.Moving.{runs_join}
 use Rattle.rk_laws_play.proofs.Reaching.{GoesOn, all_on, new_reached, none_on}
 
 -- ---- commands in a cluster

@@ -5,21 +5,15 @@ use Rattle.rk_types.specs.declared.hashing.TheConstants.{LANES}
 use Rattle.rk_log.specs.declared.copied.TheConstants.{MOST_BACKUPS}
 use Rattle.rk_world.specs.Cluster.{Cluster, ClusterMay, KeepsCalm, Occurrence, cluster_after, cluster_run, lane_at, new_cluster}
 use Rattle.rk_world.specs.Premises.{MOST_MASTERS}
+use Rattle.rk_cluster.proofs.Leading.{run_on, runs_join}
 use Rattle.rk_world.specs.World.{World, new_world}
 use Rattle.rk_laws_stands.specs.Backups.{AllBackupsTell}
 use Rattle.rk_laws_steps.specs.Steps.{IsSteady}
-use Rattle.rk_laws_history.specs.Runs.{IsRun}
+use Rattle.rk_world.specs.ClusterRuns.{IsRun}
 use Rattle.rk_laws_history.proofs.Clusters.{IsGood, IsGoodLane}
 use Rattle.rk_laws_history.proofs.Runs.{good_after}
 use Rattle.rk_laws_history.proofs.Staying.{lanes_stay}
 use Rattle.rk_laws_play.specs.Answered.{AreAnswered, ReplicasMay}
-use Rattle.rk_laws_play.proofs.Moving.{runs_join}
-
--- a run goes on with one that begins where the first ended
-pub run_on : (cluster : Cluster) (before after : List Occurrence) → IsRun cluster before → IsRun (cluster_run cluster before) after → IsRun cluster (before ++ after)
-run_on cluster [] after first second = second
-run_on cluster (occurrence ∷ before) after first second =
-    (first.0, first.1, first.2, first.3, run_on (cluster_after cluster occurrence) before after first.4 second)
 
 -- what is answered in a run is answered in its first part
 pub answered_before : (cluster : Cluster) (before after : List Occurrence) → AreAnswered cluster (before ++ after) → AreAnswered cluster before

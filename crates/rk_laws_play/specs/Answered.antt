@@ -2,16 +2,16 @@
 use Rattle.std.specs.Prelude.{List, [], ◌∷◌, ⊤}
 use Rattle.rk_world.specs.Cluster.{Cluster, Happens, Occurrence, cluster_after}
 use Rattle.rk_world.specs.Premises.{MayCome}
-use Rattle.rk_laws_history.specs.Runs.{LanesHaveRoom, ReplicasTell}
+use Rattle.rk_world.specs.ClusterRuns.{LaneHasRoom, ReplicasTell}
 
 -- the call of a replica, where one was called, came to what it may come to
 abbrev pub ReplicasMay : Occurrence → Type 0
 ReplicasMay (Happens lane event called) = MayCome called
 ReplicasMay occurrence = ⊤
 
--- at each of these replicas answer as they may, and tell what they store, and all lanes have room after it
+-- at each of these replicas answer as they may, and what they store, and the lane of an event has room after it
 abbrev pub AreAnswered : Cluster → List Occurrence → Type 0
 AreAnswered cluster [] = ⊤
 AreAnswered cluster (occurrence ∷ later) =
-    ReplicasMay occurrence × ReplicasTell cluster occurrence × LanesHaveRoom (cluster_after cluster occurrence)
+    ReplicasMay occurrence × ReplicasTell cluster occurrence × LaneHasRoom cluster occurrence
     × AreAnswered (cluster_after cluster occurrence) later

@@ -5,7 +5,7 @@ use Rattle.rk_log.specs.declared.copied.TheConstants.{MOST_BACKUPS}
 use Rattle.rk_world.specs.Cluster.{HasOneHistory, IsQuietCluster, cluster_run, lane_at, new_cluster}
 use Rattle.rk_world.specs.Premises.{MOST_MASTERS}
 use Rattle.rk_world.specs.Stands.{Stands}
-use Rattle.rk_laws_history.specs.Runs.{IsRun}
+use Rattle.rk_world.specs.ClusterRuns.{IsRun}
 use Rattle.rk_play.specs.Played.{Played}
 use Rattle.rk_laws_play.specs.Answered.{AreAnswered}
 

@@ -4,6 +4,6 @@
 //! It stands on `rk_play` and `rk_laws_history`, and has no code: its headline law is the contract of a function that does nothing.
 #![tactic(auto)]
 
-pub use laws::scripts_are_historical;
+pub use laws::{runs_lead_to_one_map, scripts_are_historical, settled_clusters_are_quiet};
 
 mod laws;

@@ -29,7 +29,8 @@ use Rattle.rk_laws_steady.proofs.Sealed.{IsSealedAt, SealsThere, each_from_there
 use Rattle.rk_laws_steady.proofs.Steps.{step_there}
 use Rattle.rk_laws_steady.proofs.Turns.{turn_seals}
 use Rattle.rk_laws_steady.proofs.Walks.{IsKept, Part, accept_keeps, ask_keeps, event_keeps}
-use Rattle.rk_laws_steady.specs.Steady.{AllSealedThere, AllTell}
+use Rattle.rk_world.specs.Replicas.{AllTell}
+use Rattle.rk_laws_steady.specs.Steady.{AllSealedThere}
 
 -- ---- what backups tell
 

@@ -8,7 +8,8 @@ ghost use Rattle.rk_world.specs.Formed.{IsWellFormed};
 ghost use Rattle.rk_world.specs.Runs.{world_visited};
 ghost use Rattle.rk_world.specs.Step.{happened};
 ghost use Rattle.rk_world.specs.World.{World, new_world};
-ghost use Rattle.rk_laws_steady.specs.Steady.{AllSealedThere, AllTell};
+ghost use Rattle.rk_world.specs.Replicas.{AllTell};
+ghost use Rattle.rk_laws_steady.specs.Steady.{AllSealedThere};
 
 /// In a lane where nothing has happened each backup tells what it stores, and no target has sealed anything.
 pub fn new_lanes_are_steady()

@@ -18,7 +18,7 @@ use Rattle.rk_sound.specs.View.{view}
 use Rattle.rk_sound.specs.Whole.{IsSound, SoundView}
 use Rattle.rk_laws_events.proofs.Copying.{sound_read}
 use Rattle.rk_laws_events.proofs.Storing.{sound_append}
-use Rattle.rk_laws_steady.specs.Steady.{AllTell}
+use Rattle.rk_world.specs.Replicas.{AllTell}
 
 -- a message to a backup
 abbrev pub to_store : Node → ℕ → Body → Message

@@ -1,5 +1,5 @@
 -- Steps: what is so of a lane where an event happens.
-use Rattle.std.specs.Prelude.{◌≡◌, ℕ, Option, None}
+use Rattle.std.specs.Prelude.{◌≡◌, None}
 use Rattle.rk_world.specs.declared.event.Event.{Event}
 use Rattle.rk_world.specs.Backup.{Called}
 use Rattle.rk_world.specs.Formed.{IsWellFormed}
@@ -7,14 +7,10 @@ use Rattle.rk_world.specs.Premises.{MayCome, MayHappen}
 use Rattle.rk_world.specs.Refusals.{refusal}
 use Rattle.rk_world.specs.Room.{HasRoom}
 use Rattle.rk_world.specs.Runs.{IsCalmEvent}
-use Rattle.rk_world.specs.Step.{happened, told_by_replica}
+use Rattle.rk_world.specs.Replicas.{AllTell, IsTold}
+use Rattle.rk_world.specs.Step.{happened}
 use Rattle.rk_world.specs.World.{World}
-use Rattle.rk_laws_steady.specs.Steady.{AllSealedThere, AllTell}
-
--- an event comes with what replicas that tell their segments answer
-pub record IsTold (w : World) (event : Event) (called : Called) : Type 0 where
-  pub fault : Option ℕ
-  pub told : called ≡ told_by_replica w event fault
+use Rattle.rk_laws_steady.specs.Steady.{AllSealedThere}
 
 -- what is so of a lane from its start on, beside the invariant: its backups tell what they store, and what targets have sealed is there
 pub record IsSteady (w : World) : Type 0 where

@@ -14,6 +14,7 @@ use Rattle.rk_cluster.specs.declared.code.Code.{Code}
 use Rattle.rk_cluster.specs.declared.code.Code.TheVariants.{Limit}
 use Rattle.rk_cluster.specs.declared.error.ClusterError.{ClusterError}
 use Rattle.rk_cluster.specs.declared.error.ClusterError.TheVariants as answers
+use Rattle.rk_cluster.proofs.Leading.{leads_nowhere}
 use Rattle.rk_lines.specs.Lines.{said_lines}
 use Rattle.rk_play.specs.Came.{Came, IsCome, Ran, Stopped}
 use Rattle.rk_play.specs.Effects.{Effect, Refuses, Stop, Wears, carried, carried_by, is_full, refused_by, that_came}
@@ -28,17 +29,17 @@ unless_full effect_of cluster calls = if is_full cluster then refused_by Limit c
 module _ {R : Type 0} (segments : R → Option Segments) where
   -- ---- events that came, and a lane that was worn there or not
 
-  came_out : (occurred : List Occurrence) (state : ClusterState R) (told : List Said) (it : Acted) → IsActedAs segments state told None it
-      → IsCome segments state (said_lines told) None (carried_by occurred it it.worn)
-  came_out occurred state told it is =
-      subst (λ (worn : Option ℕ). IsCome segments state (said_lines told) None (carried_by occurred it worn)) (sym is.worn)
-      (record { cluster = is.cluster; text_is = ap said_lines is.said; stop_is = refl })
+  came_out : (cluster : Cluster) (occurred : List Occurrence) (state : ClusterState R) (told : List Said) (it : Acted) → IsActedAs segments cluster state told None it
+      → IsCome segments cluster state (said_lines told) None (carried_by occurred it it.worn)
+  came_out cluster occurred state told it is =
+      subst (λ (worn : Option ℕ). IsCome segments cluster state (said_lines told) None (carried_by occurred it worn)) (sym is.worn)
+      (record { cluster = is.cluster; leads = is.leads; text_is = ap said_lines is.said; stop_is = refl })
 
-  came_worn : (occurred : List Occurrence) (state : ClusterState R) (told : List Said) (number : ℕ) (it : Acted) → IsActedAs segments state told (Some number) it
-      → IsCome segments state [] (Some (Wears number)) (carried_by occurred it it.worn)
-  came_worn occurred state told number it is =
-      subst (λ (worn : Option ℕ). IsCome segments state [] (Some (Wears number)) (carried_by occurred it worn)) (sym is.worn)
-      (record { cluster = is.cluster; text_is = refl; stop_is = refl })
+  came_worn : (cluster : Cluster) (occurred : List Occurrence) (state : ClusterState R) (told : List Said) (number : ℕ) (it : Acted) → IsActedAs segments cluster state told (Some number) it
+      → IsCome segments cluster state [] (Some (Wears number)) (carried_by occurred it it.worn)
+  came_worn cluster occurred state told number it is =
+      subst (λ (worn : Option ℕ). IsCome segments cluster state [] (Some (Wears number)) (carried_by occurred it worn)) (sym is.worn)
+      (record { cluster = is.cluster; leads = is.leads; text_is = refl; stop_is = refl })
 
   module _ (old new : ClusterState R) (effect_of : Cluster → List Called → Effect) where
     -- ---- a call that made just what the effect says, by these calls of replicas
@@ -47,10 +48,10 @@ module _ {R : Type 0} (segments : R → Option Segments) where
         (same : (cluster : Cluster) → effect_of cluster calls ≡ carried cluster (code_of cluster) (makes cluster)) where
       -- what comes of the call comes of the command
       come : (text : List ℕ) (stop : Option Stop)
-          → ((cluster : Cluster) → IsOf segments old cluster → IsCome segments new text stop (carried cluster (code_of cluster) (makes cluster)))
+          → ((cluster : Cluster) → IsOf segments old cluster → IsCome segments cluster new text stop (carried cluster (code_of cluster) (makes cluster)))
           → Came segments old new effect_of text stop
       come text stop comes =
-          record { calls = calls; comes = λ cluster is. subst (IsCome segments new text stop) (sym (same cluster)) (comes cluster is) }
+          record { calls = calls; comes = λ cluster is. subst (IsCome segments cluster new text stop) (sym (same cluster)) (comes cluster is) }
 
       ran : (said : List Said) (was now : List ℕ) → IsCarriedOut segments old new code_of makes said → now ≡ was ++ said_lines said
           → Ran segments old new effect_of was now
@@ -58,21 +59,21 @@ module _ {R : Type 0} (segments : R → Option Segments) where
         text = said_lines said;
         added = added;
         came = come (said_lines said) None (λ cluster is.
-            subst (λ (code : Option Code). IsCome segments new (said_lines said) None (carried cluster code (makes cluster))) (sym (out.code cluster is))
-            (came_out (that_came cluster (makes cluster)) new said (all_acted cluster (makes cluster)) (out.acts cluster is)));
+            subst (λ (code : Option Code). IsCome segments cluster new (said_lines said) None (carried cluster code (makes cluster))) (sym (out.code cluster is))
+            (came_out cluster (that_came cluster (makes cluster)) new said (all_acted cluster (makes cluster)) (out.acts cluster is)));
       }
 
       refused : (code : Code) → HasCode segments old code_of (Some code) → new ≡ old → Came segments old new effect_of [] (Some (Refuses (number_of code)))
       refused code has unchanged = come [] (Some (Refuses (number_of code))) (λ cluster is.
-          subst (λ (it : Option Code). IsCome segments new [] (Some (Refuses (number_of code))) (carried cluster it (makes cluster))) (sym (has cluster is))
-          (record { cluster = subst (λ (state : ClusterState R). IsOf segments state cluster) (sym unchanged) is; text_is = refl; stop_is = refl }))
+          subst (λ (it : Option Code). IsCome segments cluster new [] (Some (Refuses (number_of code))) (carried cluster it (makes cluster))) (sym (has cluster is))
+          (record { cluster = subst (λ (state : ClusterState R). IsOf segments state cluster) (sym unchanged) is; leads = leads_nowhere cluster; text_is = refl; stop_is = refl }))
 
       stopped : (error : ClusterError) → EndsIn segments old new code_of makes error → Stopped segments old new effect_of (error_by_cluster error)
       stopped answers.NoMemory ends = tt
       stopped (answers.Code code) ends = refused code ends.0 ends.1
       stopped (answers.Worn number) ends = come [] (Some (Wears number)) (λ cluster is.
-          subst (λ (code : Option Code). IsCome segments new [] (Some (Wears number)) (carried cluster code (makes cluster))) (sym (ends.0 cluster is))
-          (came_worn (that_came cluster (makes cluster)) new [] number (all_acted cluster (makes cluster)) (ends.1 cluster is)))
+          subst (λ (code : Option Code). IsCome segments cluster new [] (Some (Wears number)) (carried cluster code (makes cluster))) (sym (ends.0 cluster is))
+          (came_worn cluster (that_came cluster (makes cluster)) new [] number (all_acted cluster (makes cluster)) (ends.1 cluster is)))
 
     -- ---- what the call answered, and what was answered to that
 
@@ -141,7 +142,7 @@ module _ {R : Type 0} (segments : R → Option Segments) where
     came_within text stop came = record {
       calls = came.calls;
       comes = λ cluster is.
-          subst (λ (full : Bool). IsCome segments new text stop (if full then refused_by Limit cluster else effect_of cluster came.calls)) (sym (free cluster is))
+          subst (λ (full : Bool). IsCome segments cluster new text stop (if full then refused_by Limit cluster else effect_of cluster came.calls)) (sym (free cluster is))
           (came.comes cluster is);
     }
 
@@ -169,7 +170,7 @@ module _ {R : Type 0} (segments : R → Option Segments) where
   refuses old effect_of code same = record {
     calls = [];
     comes = λ cluster is.
-        subst (IsCome segments old [] (Some (Refuses (number_of code)))) (sym (same cluster is)) (record { cluster = is; text_is = refl; stop_is = refl });
+        subst (IsCome segments cluster old [] (Some (Refuses (number_of code)))) (sym (same cluster is)) (record { cluster = is; leads = leads_nowhere cluster; text_is = refl; stop_is = refl });
   }
 
   -- where the cluster is full

@@ -6,17 +6,18 @@ use Rattle.std.proofs.lemmas.List.{length-map}
 use Rattle.std.proofs.lemmas.List.Elements.{All-cons, All-head, All-nil, All-tail}
 use Rattle.rk_types.specs.declared.hashing.TheConstants.{LANES}
 use Rattle.rk_types.specs.declared.status.Status.{Status}
-use Rattle.rk_types.specs.declared.status.Status.TheVariants.{Done}
+use Rattle.rk_types.specs.declared.status.Status.TheVariants.{Done, WriteFault}
 use Rattle.rk_outside.specs.Segments.{Segments}
 use Rattle.rk_world.specs.Backup.{Called}
 use Rattle.rk_world.specs.Cluster.{Cluster}
+use Rattle.rk_world.specs.ClusterRuns.{Leads}
 use Rattle.rk_world.specs.World.{World}
 use Rattle.rk_lane.specs.LaneState.{LaneState, Running, world_with}
 use Rattle.rk_cluster.specs.Fresh.{IsNewLane}
 use Rattle.rk_cluster.specs.State.{AreWorlds, ClusterState, IsOf, IsWorld}
 use Rattle.rk_script.specs.declared.command.Numbered.{Numbered}
 use Rattle.rk_play.specs.Concluded.{ConcludesBy, IsWritten}
-use Rattle.rk_play.specs.Effects.{Stop}
+use Rattle.rk_play.specs.Effects.{Fails, Pauses, Refuses, Stop, Wears}
 use Rattle.rk_play.specs.Ended.{EndsBy, StopsAt}
 use Rattle.rk_play.specs.Played.{Played, ending, played_in, stopped_at}
 use Rattle.rk_play.specs.Reached.{Reached}
@@ -35,11 +36,13 @@ pub record IsLeft {R : Type 0} (segments : R → Option Segments) (now : Cluster
   pub counts : map (look count_seen) end.lanes ≡ map (look count_seen) cluster.lanes
   pub stores : map (look stores_seen) end.lanes ≡ map (look stores_seen) cluster.lanes
 
--- by what the calls of replicas came to, a run has this status, and leaves a cluster in code
-pub record IsPlayedOut {R : Type 0} (segments : R → Option Segments) (now : ClusterState R) (played_by : List (List Called) → Played) (status : Status) (old new : Option (List ℕ)) : Type 0 where
+-- by what the calls of replicas came to, a run that began in a cluster has this status, and leaves a cluster in code; unless the sink failed, a
+-- run has led to its end
+pub record IsPlayedOut {R : Type 0} (segments : R → Option Segments) (start : Cluster) (now : ClusterState R) (played_by : List (List Called) → Played) (status : Status) (old new : Option (List ℕ)) : Type 0 where
   pub calls : List (List Called)
   pub runs : Runs (played_by calls) status old new
   pub left : IsLeft segments now (played_by calls).cluster
+  pub led : (status ≡ WriteFault → ⊥) → Leads start (played_by calls).cluster
 
 -- calls that came to anything
 all_any : (calls : List (List Called)) → All (All Any) calls
@@ -49,6 +52,13 @@ all_any (its ∷ others) = All-cons (All Any) its others (each its) (all_any oth
     each : (called : List Called) → All Any called
     each [] = All-nil Any
     each (one ∷ more) = All-cons Any one more tt (each more)
+
+-- a run that stops leaves the cluster as it is
+stopped_cluster : (line : ℕ) (stop : Stop) (cluster : Cluster) → (stopped_at line stop cluster).cluster ≡ cluster
+stopped_cluster line (Refuses code) cluster = refl
+stopped_cluster line (Wears number) cluster = refl
+stopped_cluster line (Fails rounds) cluster = refl
+stopped_cluster line Pauses cluster = refl
 
 module _ {R : Type 0} (segments : R → Option Segments) (old now : ClusterState R) (all : List Numbered) (was : Option (List ℕ)) (cluster : Cluster) (is : IsOf segments old cluster) where
   -- so many commands have run, and others are left that call no replica
@@ -67,7 +77,7 @@ module _ {R : Type 0} (segments : R → Option Segments) (old now : ClusterState
             ∙ kept_by_run stores_seen Nothing stores_kept refl left [] before.cluster (All-nil (All Nothing));
       }
 
-  stopped_left : (line : ℕ) (stop : Stop) (pieces : List (List ℕ)) (p : Played) → StopsAt segments now line stop pieces p
+  stopped_left : (line : ℕ) (stop : Stop) (pieces : List (List ℕ)) (p : Played) → StopsAt segments cluster now line stop pieces p
       → IsLeft segments now p.cluster
   stopped_left line stop pieces p stops = record {
     cluster = stops.cluster;
@@ -87,7 +97,7 @@ module _ {R : Type 0} (segments : R → Option Segments) (old now : ClusterState
 
   -- and the run is concluded
   pub played_out : (written new : Option (List ℕ)) (held : List ℕ) (end : End) (status : Status) → end ≢ ends.NoMemory → EndsBy segments old now all was written held end
-      → ConcludesBy end held status written new → IsPlayedOut segments now (λ calls. played_in all calls cluster) status was new
+      → ConcludesBy end held status written new → IsPlayedOut segments cluster now (λ calls. played_in all calls cluster) status was new
   played_out written new held ends.Done status apart on concludes =
       let before = on.reached.reached cluster is in
       let q : Played = ending Done before.cluster in
@@ -98,6 +108,7 @@ module _ {R : Type 0} (segments : R → Option Segments) (old now : ClusterState
             (written_runs q on.pieces before.occurred held was written on.sent status new tt
             (subst (λ (text : List ℕ). IsWritten text Done status written new) (sym (append-nil held)) concludes));
         left = goes_on_left [] on.pieces on.reached;
+        led = λ apart. subst (λ (p : Played). Leads cluster p.cluster) (sym (before.goes_on [])) before.leads;
       }
   played_out written new held (ends.Stopped line error) status apart stopped concludes =
       let stops = stopped.stopped cluster is in
@@ -109,6 +120,9 @@ module _ {R : Type 0} (segments : R → Option Segments) (old now : ClusterState
             (concluded_runs q stopped.pieces stops.occurred held was written stopped.sent status new (stopped_ended line error stops.cluster stopped.apart)
             (stopped_short line (stop_by error) stops.cluster) (concludes stops.cluster));
         left = stopped_left line (stop_by error) stopped.pieces (played_in all stopped.calls cluster) stops;
+        led = λ apart.
+            subst (λ (p : Played). Leads cluster p.cluster) (sym stops.stops)
+            (subst (Leads cluster) (sym (stopped_cluster line (stop_by error) stops.cluster)) stops.leads);
       }
   played_out written new held ends.WriteFault status apart failed concludes = record {
     calls = failed.reached.used ++ [];
@@ -117,6 +131,7 @@ module _ {R : Type 0} (segments : R → Option Segments) (old now : ClusterState
         (failed_runs segments old now all was new
         (record { pieces = failed.pieces; left = failed.left; reached = failed.reached; put = part_kept was written new (concat failed.pieces) failed.put concludes.1 }) cluster is);
     left = goes_on_left failed.left failed.pieces failed.reached;
+    led = λ apart. absurd (apart concludes.0);
   }
   played_out written new held ends.NoMemory status apart halted concludes = absurd (apart refl)
 

@@ -9,6 +9,7 @@ use Rattle.rk_outside.specs.Parts.{AppendsPart}
 use Rattle.rk_world.specs.Backup.{Called}
 use Rattle.rk_world.specs.Cluster.{Cluster, Occurrence}
 use Rattle.rk_cluster.specs.State.{ClusterState, IsOf}
+use Rattle.rk_cluster.proofs.Leading.{leads_nowhere, leads_on}
 use Rattle.rk_script.specs.declared.command.Command.{Command}
 use Rattle.rk_script.specs.declared.command.Numbered.{Numbered}
 use Rattle.rk_play.specs.Came.{Came, IsCome, Ran, Stopped}
@@ -57,7 +58,7 @@ module _ {R : Type 0} (segments : R → Option Segments) where
   pub reached_start : (old : ClusterState R) (all : List Numbered) → Reached segments old old all all []
   reached_start old all = record {
     used = [];
-    reached = λ cluster is. record { cluster = cluster; is = is; occurred = []; goes_on = λ later. refl };
+    reached = λ cluster is. record { cluster = cluster; is = is; leads = leads_nowhere cluster; occurred = []; goes_on = λ later. refl };
   }
 
   pub reached_step : (old mid now : ClusterState R) (all others : List Numbered) (first : Numbered) (pieces : List (List ℕ)) (text : List ℕ)
@@ -72,6 +73,7 @@ module _ {R : Type 0} (segments : R → Option Segments) where
         record {
           cluster = it.cluster;
           is = comes.cluster;
+          leads = leads_on cluster was.cluster it.cluster was.leads comes.leads;
           occurred = was.occurred ++ it.occurred;
           goes_on = λ later.
               ap (λ (calls : List (List Called)). played_in all calls cluster) (append_assoc before.used (came.calls ∷ []) later)
@@ -117,6 +119,7 @@ module _ {R : Type 0} (segments : R → Option Segments) where
               record {
                 cluster = it.cluster;
                 is = comes.cluster;
+                leads = leads_on cluster before.cluster it.cluster before.leads comes.leads;
                 occurred = before.occurred ++ it.occurred;
                 stops =
                     before.goes_on (came.calls ∷ [])

@@ -24,20 +24,20 @@ stopping : {Task : Type 0} (course : Course) (left : List Task) → (left ≡ []
 stopping course [] some = absurd (some refl)
 stopping course (task ∷ left) some = refl
 
-module _ {R : Type 0} (segments : R → Option Segments) (state : ClusterState R) where
+module _ {R : Type 0} (segments : R → Option Segments) (start : Cluster) (state : ClusterState R) where
   -- that is over has written what was said
-  over : (told : List Said) (course : Course) → IsOver segments state told course → IsCome segments state (said_lines told) None (settled_by course course.tasks)
+  over : (told : List Said) (course : Course) → IsOver segments start state told course → IsCome segments start state (said_lines told) None (settled_by course course.tasks)
   over told course is =
-      subst (λ (effect : Effect). IsCome segments state (said_lines told) None effect) (sym (ap (settled_by course) is.left))
-      (record { cluster = is.cluster; text_is = ap said_lines is.said; stop_is = refl })
+      subst (λ (effect : Effect). IsCome segments start state (said_lines told) None effect) (sym (ap (settled_by course) is.left))
+      (record { cluster = is.cluster; leads = is.leads; text_is = ap said_lines is.said; stop_is = refl })
 
   -- that stops where it is ends the run
-  halted : (error : SettleError) (course : Course) → IsStopped segments state error course
-      → IsCome segments state [] (Some (stop_of (Some error))) (settled_by course course.tasks)
+  halted : (error : SettleError) (course : Course) → IsStopped segments start state error course
+      → IsCome segments start state [] (Some (stop_of (Some error))) (settled_by course course.tasks)
   halted error course is =
       let some : course.tasks ≡ [] → ⊥ = λ none. cc (sym (ap (error_by course) none) ∙ is.stops) in
-      subst (λ (effect : Effect). IsCome segments state [] (Some (stop_of (Some error))) effect) (sym (stopping course course.tasks some))
-      (record { cluster = is.cluster; text_is = refl; stop_is = ap (λ (e : Option SettleError). Some (stop_of e)) is.stops })
+      subst (λ (effect : Effect). IsCome segments start state [] (Some (stop_of (Some error))) effect) (sym (stopping course course.tasks some))
+      (record { cluster = is.cluster; leads = is.leads; text_is = refl; stop_is = ap (λ (e : Option SettleError). Some (stop_of e)) is.stops })
 
 -- ---- a command
 
@@ -48,10 +48,10 @@ module _ {R : Type 0} (segments : R → Option Segments) (old new : ClusterState
   made cluster calls = settled cluster (code cluster) (moved_all (course_of cluster (command cluster)) calls)
 
   come : (cluster : Cluster) (calls : List Called) (text : List ℕ) (stop : Option Stop) → IsOf segments old cluster
-      → IsCome segments new text stop (settled cluster None (moved_all (course_of cluster (command cluster)) calls))
-      → IsCome segments new text stop (made cluster calls)
+      → IsCome segments cluster new text stop (settled cluster None (moved_all (course_of cluster (command cluster)) calls))
+      → IsCome segments cluster new text stop (made cluster calls)
   come cluster calls text stop is comes =
-      subst (λ (it : Option Code). IsCome segments new text stop (settled cluster it (moved_all (course_of cluster (command cluster)) calls))) (sym (none cluster is)) comes
+      subst (λ (it : Option Code). IsCome segments cluster new text stop (settled cluster it (moved_all (course_of cluster (command cluster)) calls))) (sym (none cluster is)) comes
 
   -- it came to its end, and what was said is added
   pub settled_ran : (told : List Said) (was now : List ℕ) → Ends segments old new command told → now ≡ was ++ said_lines told → Ran segments old new made was now
@@ -61,7 +61,7 @@ module _ {R : Type 0} (segments : R → Option Segments) (old new : ClusterState
     came = record {
       calls = ends.calls;
       comes = λ cluster is.
-          come cluster ends.calls (said_lines told) None is (over segments new told (moved_all (course_of cluster (command cluster)) ends.calls) (ends.over cluster is));
+          come cluster ends.calls (said_lines told) None is (over segments cluster new told (moved_all (course_of cluster (command cluster)) ends.calls) (ends.over cluster is));
     };
   }
 
@@ -69,7 +69,7 @@ module _ {R : Type 0} (segments : R → Option Segments) (old new : ClusterState
   before error stops = record {
     calls = stops.calls;
     comes = λ cluster is.
-        come cluster stops.calls [] (Some (stop_of (Some error))) is (halted segments new error (moved_all (course_of cluster (command cluster)) stops.calls) (stops.stopped cluster is));
+        come cluster stops.calls [] (Some (stop_of (Some error))) is (halted segments cluster new error (moved_all (course_of cluster (command cluster)) stops.calls) (stops.stopped cluster is));
   }
 
   -- it stopped before its end

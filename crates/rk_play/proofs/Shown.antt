@@ -9,6 +9,7 @@ use Rattle.rk_lane.specs.LaneState.{LaneState}
 use Rattle.rk_cluster.specs.Steps.{state_of}
 use Rattle.rk_cluster.specs.Told.{LanesTell, Tells}
 use Rattle.rk_cluster.specs.declared.code.Code.{Code}
+use Rattle.rk_cluster.proofs.Leading.{leads_nowhere}
 use Rattle.rk_play.specs.Came.{Came, IsCome, Ran, Stopped, WhereRefused}
 use Rattle.rk_play.specs.Effects.{Effect, Refuses, refused_by, shown, writing}
 use Rattle.rk_play.specs.declared.error.PlayError.{PlayError}
@@ -22,8 +23,8 @@ module _ {R : Type 0} (segments : R → Option Segments) (state : ClusterState R
   came_refused effect_of it refuses = record {
     calls = [];
     comes = λ cluster is.
-        subst (λ (effect : Effect). IsCome segments state [] (Some (Refuses (number_of it))) effect) (sym (refuses cluster is))
-        (record { cluster = is; text_is = refl; stop_is = refl });
+        subst (λ (effect : Effect). IsCome segments cluster state [] (Some (Refuses (number_of it))) effect) (sym (refuses cluster is))
+        (record { cluster = is; leads = leads_nowhere cluster; text_is = refl; stop_is = refl });
   }
 
   module _ (code : Cluster → Option Code) (text : Cluster → List ℕ) where
@@ -41,9 +42,9 @@ module _ {R : Type 0} (segments : R → Option Segments) (state : ClusterState R
       came = record {
         calls = [];
         comes = λ cluster is.
-            subst (λ (effect : Effect). IsCome segments state lines None effect)
+            subst (λ (effect : Effect). IsCome segments cluster state lines None effect)
             (λ i. shown cluster (sym (none cluster is) i) (sym (tells cluster is) i))
-            (let effect : Effect = writing lines cluster [] in record { cluster = is; text_is = refl; stop_is = refl });
+            (let effect : Effect = writing lines cluster [] in record { cluster = is; leads = leads_nowhere cluster; text_is = refl; stop_is = refl });
       };
     }
 

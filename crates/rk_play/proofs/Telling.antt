@@ -1,6 +1,6 @@
 -- What the replicas that come back tell.
 use Rattle.std.proofs.Common.{◌≡◌, ℕ, zero, suc, ◌+◌, ◌*◌, ◌-◌, ◌≤◌, ◌<◌, true, false, cond, List, [], ◌∷◌, ◌++◌, All, drop, length, map, take, slice_get, slice_index_or, refl, sym, ap, subst, ◌∙◌, arith, length-append}
-use Rattle.std.specs.Prelude.{Bool, Option, None, Some, Err}
+use Rattle.std.specs.Prelude.{Bool, Option, None, Some, Err, IfSome}
 use Rattle.std.specs.Str.Lines.{lines}
 use Rattle.std.proofs.lemmas.Bool.{lt-ltb}
 use Rattle.std.specs.List.{range_with_len}
@@ -16,6 +16,7 @@ use Rattle.rk_types.specs.declared.status.Status.TheVariants.{NoMemory}
 use Rattle.rk_outside.specs.Segments.{Segments}
 use Rattle.rk_world.specs.Backup.{Called, no_segments}
 use Rattle.rk_world.specs.Cluster.{Cluster, lane_at, new_cluster}
+use Rattle.rk_world.specs.ClusterRuns.{Leads}
 use Rattle.rk_world.specs.World.{World, new_backups, new_world}
 use Rattle.rk_lane.specs.LaneState.{IsTold, LaneState, replicas_of}
 use Rattle.rk_script.specs.Codes.{code_number}
@@ -26,15 +27,16 @@ use Rattle.rk_script.specs.declared.script.ParseError.TheVariants.{Refused}
 use Rattle.rk_script.specs.declared.script.TheConstants.{LONGEST_SCRIPT}
 use Rattle.rk_cluster.specs.Fresh.{AreEmpty}
 use Rattle.rk_cluster.specs.State.{ClusterState, IsOf, IsWorld}
+use Rattle.rk_cluster.proofs.Leading.{leads_nowhere}
 use Rattle.rk_cluster.proofs.Worlds.{all_at, something_within, there_within, world_at}
 use Rattle.rk_play.specs.Ended.{IsHalted}
 use Rattle.rk_play.specs.Lent.{AreGivenBack}
 use Rattle.rk_play.specs.Concluded.{Concludes, PlaysBy}
 use Rattle.rk_play.specs.Played.{Played, Setting, cluster_by, how_many, played, played_in, played_of, refused_at, unset}
-use Rattle.rk_play.specs.Runs.{Runs, TellStored, TellsAt}
+use Rattle.rk_play.specs.Runs.{IsLedTo, Plays, Runs, TellStored, TellsAt}
 use Rattle.rk_play.specs.Settings.{IsSetting}
 use Rattle.rk_play.proofs.Backups.{look, stores_seen}
-use Rattle.rk_play.proofs.Concluding.{halted_runs, refused_runs}
+use Rattle.rk_play.proofs.Concluding.{halted_runs, halts_at_once, refused_runs}
 use Rattle.rk_play.proofs.Leaving.{IsLeft, IsPlayedOut}
 use Rattle.rk_play.proofs.Stores.{alike_at}
 
@@ -51,6 +53,19 @@ there_seen : {X Y : Type 0} (see : X → Y) (xs : List X) (place : ℕ) (x : X) 
 there_seen see [] place x there = absurd (cc there)
 there_seen see (y ∷ xs) zero x there = let same : y ≡ x = cc there in ap (λ it. Some (see it)) same
 there_seen see (y ∷ xs) (suc place) x there = there_seen see xs place x there
+
+-- ---- runs of a new cluster
+
+-- a run of the cluster that a setting asks for is one of a new cluster
+led_by : (setting : Setting) (cluster : Cluster) → IsSetting setting → Leads (cluster_by setting) cluster → IsLedTo cluster
+led_by setting cluster may leads = record {
+  masters = how_many setting.masters;
+  backups = how_many setting.backups;
+  few_masters = may.masters.last;
+  backed = may.backed;
+  few_backups = may.backups;
+  leads = leads;
+}
 
 -- ---- replicas that come back
 
@@ -141,6 +156,7 @@ module _ {R : Type 0} (segments : R → Option Segments) where
         calls = [];
         runs = subst (λ (q : Played). Runs q status old new) (sym is) (refused_runs p status old new tt (λ done. absurd (cc done)) concludes);
         stored = λ apart. subst (λ (q : Played). TellStored segments replicas q.cluster) (sym is) (unset_tell replicas setting many may empty);
+        led = λ memory fault. subst (λ (q : Played). IsLedTo q.cluster) (sym is) (led_by setting (cluster_by setting) may (leads_nowhere (cluster_by setting)));
       }
 
 -- ---- runs
@@ -163,13 +179,36 @@ module _ {R : Type 0} (segments : R → Option Segments) where
     calls = halted.on.reached.used ++ [];
     runs = halted_runs segments old all was now halted cluster is;
     stored = λ apart. absurd (apart refl);
+    led = λ apart. absurd (apart refl);
+  }
+
+  -- one for which memory was wanting before anything ran
+  pub wanting_plays : (played_by : List (List Called) → Played) (was : Option (List ℕ)) (replicas : List R) → PlaysBy segments played_by NoMemory was was replicas
+  wanting_plays played_by was replicas = record {
+    calls = [];
+    runs = halts_at_once (played_by []) was;
+    stored = λ apart. absurd (apart refl);
+    led = λ apart. absurd (apart refl);
+  }
+
+  pub wanting_told : (told was : Option (List ℕ)) (replicas : List R) → IfSome told (λ script. Plays segments script NoMemory was was replicas)
+  wanting_told None was replicas = tt
+  wanting_told (Some script) was replicas = record {
+    calls = [];
+    runs = halts_at_once (played script []) was;
+    stored = λ apart. absurd (apart refl);
+    led = λ apart. absurd (apart refl);
   }
 
   -- one that was played out, and whose replicas came back
-  pub ended_plays : (now : ClusterState R) (played_by : List (List Called) → Played) (status : Status) (was new : Option (List ℕ)) (others replicas : List R)
-      → IsPlayedOut segments now played_by status was new → length now.lanes ≡ LANES → AreGivenBack now.lanes others replicas → PlaysBy segments played_by status was new replicas
-  ended_plays now played_by status was new others replicas out eight given =
-      record { calls = out.calls; runs = out.runs; stored = λ apart. left_tell segments now (played_by out.calls).cluster others replicas out.left eight given }
+  pub ended_plays : (setting : Setting) (now : ClusterState R) (played_by : List (List Called) → Played) (status : Status) (was new : Option (List ℕ)) (others replicas : List R)
+      → IsSetting setting → IsPlayedOut segments (cluster_by setting) now played_by status was new → length now.lanes ≡ LANES → AreGivenBack now.lanes others replicas → PlaysBy segments played_by status was new replicas
+  ended_plays setting now played_by status was new others replicas may out eight given = record {
+    calls = out.calls;
+    runs = out.runs;
+    stored = λ apart. left_tell segments now (played_by out.calls).cluster others replicas out.left eight given;
+    led = λ memory fault. led_by setting (played_by out.calls).cluster may (out.led fault);
+  }
 
 -- a script that asks for nothing asks for two masters and two backups
 pub unset_may : IsSetting unset

@@ -3,6 +3,7 @@ use Rattle.std.specs.Prelude.{◌≡◌, ◌++◌, ℕ, List, [], Option, None, 
 use Rattle.rk_outside.specs.Segments.{Segments}
 use Rattle.rk_world.specs.Backup.{Called}
 use Rattle.rk_world.specs.Cluster.{Cluster}
+use Rattle.rk_world.specs.ClusterRuns.{Leads}
 use Rattle.rk_cluster.specs.State.{ClusterState, IsOf}
 use Rattle.rk_cluster.specs.declared.code.Code.{Code}
 use Rattle.rk_play.specs.Effects.{Effect, Stop}
@@ -10,16 +11,17 @@ use Rattle.rk_play.specs.Stops.{stop_by}
 use Rattle.rk_play.specs.declared.error.PlayError.{PlayError}
 use Rattle.rk_play.specs.declared.error.PlayError.TheVariants as errors
 
--- an effect has this text, and ends the run or not; the cluster in code stands for the one after it
-pub record IsCome {R : Type 0} (segments : R → Option Segments) (state : ClusterState R) (text : List ℕ) (stop : Option Stop) (effect : Effect) : Type 0 where
+-- an effect in a cluster has this text, and ends the run or not; the cluster in code stands for the one after it, to which a run has led
+pub record IsCome {R : Type 0} (segments : R → Option Segments) (before : Cluster) (state : ClusterState R) (text : List ℕ) (stop : Option Stop) (effect : Effect) : Type 0 where
   pub cluster : IsOf segments state effect.cluster
+  pub leads : Leads before effect.cluster
   pub text_is : effect.text ≡ text
   pub stop_is : effect.stop ≡ stop
 
 -- by what the calls of replicas came to, of each cluster that the old one in code stood for a command has made this
 pub record Came {R : Type 0} (segments : R → Option Segments) (old new : ClusterState R) (effect_of : Cluster → List Called → Effect) (text : List ℕ) (stop : Option Stop) : Type 0 where
   pub calls : List Called
-  pub comes : (cluster : Cluster) → IsOf segments old cluster → IsCome segments new text stop (effect_of cluster calls)
+  pub comes : (cluster : Cluster) → IsOf segments old cluster → IsCome segments cluster new text stop (effect_of cluster calls)
 
 -- a command stopped the run for this reason; nothing is said where memory was wanting
 abbrev pub Stopped : {R : Type 0} → (R → Option Segments) → ClusterState R → ClusterState R → (Cluster → List Called → Effect) → PlayError → Type 0

@@ -8,7 +8,7 @@ use Rattle.rk_outside.specs.Segments.{Segments}
 use Rattle.rk_world.specs.Backup.{Called}
 use Rattle.rk_world.specs.Cluster.{Cluster}
 use Rattle.rk_play.specs.Played.{Played, stopped_at, text_of}
-use Rattle.rk_play.specs.Runs.{Runs, TellStored}
+use Rattle.rk_play.specs.Runs.{IsLedTo, Runs, TellStored}
 use Rattle.rk_play.specs.Stops.{stop_by}
 use Rattle.rk_play.specs.declared.end.End.{End}
 use Rattle.rk_play.specs.declared.end.End.TheVariants as ends
@@ -43,3 +43,4 @@ pub record PlaysBy {R : Type 0} (segments : R → Option Segments) (played_by : 
   pub calls : List (List Called)
   pub runs : Runs (played_by calls) status old new
   pub stored : (status ≡ NoMemory → ⊥) → TellStored segments replicas (played_by calls).cluster
+  pub led : (status ≡ NoMemory → ⊥) → (status ≡ WriteFault → ⊥) → IsLedTo (played_by calls).cluster

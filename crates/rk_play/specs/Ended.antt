@@ -6,6 +6,7 @@ use Rattle.rk_outside.specs.Parts.{AppendsPart}
 use Rattle.rk_outside.specs.Segments.{Segments}
 use Rattle.rk_world.specs.Backup.{Called}
 use Rattle.rk_world.specs.Cluster.{Cluster, Occurrence}
+use Rattle.rk_world.specs.ClusterRuns.{Leads}
 use Rattle.rk_cluster.specs.State.{ClusterState, IsOf}
 use Rattle.rk_script.specs.declared.command.Numbered.{Numbered}
 use Rattle.rk_play.specs.Effects.{Stop}
@@ -32,10 +33,12 @@ pub record HasFailed {R : Type 0} (segments : R → Option Segments) (old now : 
   pub reached : Reached segments old now all left pieces
   pub put : AppendsPart was written (concat pieces)
 
--- a run that was to be played so has written these pieces and stops at a line, with a cluster that the one in code stands for
-pub record StopsAt {R : Type 0} (segments : R → Option Segments) (now : ClusterState R) (line : ℕ) (stop : Stop) (pieces : List (List ℕ)) (played : Played) : Type 0 where
+-- a run that was to be played so in a cluster has written these pieces and stops at a line, with a cluster that the one in code stands for,
+-- to which a run has led
+pub record StopsAt {R : Type 0} (segments : R → Option Segments) (start : Cluster) (now : ClusterState R) (line : ℕ) (stop : Stop) (pieces : List (List ℕ)) (played : Played) : Type 0 where
   pub cluster : Cluster
   pub is : IsOf segments now cluster
+  pub leads : Leads start cluster
   pub occurred : List Occurrence
   pub stops : played ≡ behind pieces occurred (stopped_at line stop cluster)
 
@@ -45,7 +48,7 @@ pub record HasStopped {R : Type 0} (segments : R → Option Segments) (old now :
   pub pieces : List (List ℕ)
   pub sent : IsSent was written pieces held
   pub calls : List (List Called)
-  pub stopped : (cluster : Cluster) → IsOf segments old cluster → StopsAt segments now line (stop_by error) pieces (played_in all calls cluster)
+  pub stopped : (cluster : Cluster) → IsOf segments old cluster → StopsAt segments cluster now line (stop_by error) pieces (played_in all calls cluster)
 
 -- how the commands end
 abbrev pub EndsBy : {R : Type 0} → (R → Option Segments) → ClusterState R → ClusterState R → List Numbered → Option (List ℕ) → Option (List ℕ) → List ℕ → End → Type 0

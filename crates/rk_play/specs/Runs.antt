@@ -12,7 +12,10 @@ use Rattle.rk_outside.specs.Parts.{AppendsPart, ConsumesBetween}
 use Rattle.rk_outside.specs.Segments.{Segments}
 use Rattle.rk_script.specs.declared.script.TheConstants.{LONGEST_SCRIPT}
 use Rattle.rk_world.specs.Backup.{Called}
-use Rattle.rk_world.specs.Cluster.{Cluster, lane_at}
+use Rattle.rk_log.specs.declared.copied.TheConstants.{MOST_BACKUPS}
+use Rattle.rk_world.specs.Cluster.{Cluster, lane_at, new_cluster}
+use Rattle.rk_world.specs.ClusterRuns.{Leads}
+use Rattle.rk_world.specs.Premises.{MOST_MASTERS}
 use Rattle.rk_play.specs.Played.{Played, played, text_of}
 
 -- the status is that of the run played, and its whole text was written
@@ -52,12 +55,22 @@ TellStored segments replicas cluster =
     (lane place : ℕ) (stored : Segments) → lane < LANES → get (lane_at cluster lane).backups (place + 1) ≡ Some stored
     → TellsAt segments replicas (LANES * place + lane) stored
 
+-- a run of a new cluster, with as many masters and backups as there may be, leads to this one
+pub record IsLedTo (cluster : Cluster) : Type 0 where
+  pub masters : ℕ
+  pub backups : ℕ
+  pub few_masters : masters ≤ MOST_MASTERS
+  pub backed : 1 ≤ backups
+  pub few_backups : backups ≤ MOST_BACKUPS
+  pub leads : Leads (new_cluster masters backups) cluster
+
 -- by what the calls of replicas came to, a run of a script has this status, its sink holds what was written, and unless memory was
--- wanting its replicas tell what the backups store at the end
+-- wanting its replicas tell what the backups store at the end; and unless the sink failed either, a run of a new cluster has led there
 pub record Plays {R : Type 0} (segments : R → Option Segments) (script : List ℕ) (status : Status) (old new : Option (List ℕ)) (replicas : List R) : Type 0 where
   pub calls : List (List Called)
   pub runs : Runs (played script calls) status old new
   pub stored : (status ≡ NoMemory → ⊥) → (status ≡ ReadFault → ⊥) → TellStored segments replicas (played script calls).cluster
+  pub led : (status ≡ NoMemory → ⊥) → (status ≡ ReadFault → ⊥) → (status ≡ WriteFault → ⊥) → IsLedTo (played script calls).cluster
 
 -- a status tells of a fault exactly where there was one: the count of faults rose where it does, and elsewhere it stays
 pub record HasStatusCause (fault status : Status) (before now : ℕ) : Type 0 where

@@ -8,8 +8,8 @@ ghost use Rattle.rk_play.specs.declared.error.PlayError.TheVariants.{NoMemory as
 ghost use Rattle.rk_script.specs.Lawful.{IsLawfulCommand};
 
 use crate::error::PlayError;
-use crate::settling::settle_by;
-use crate::shows::is_full;
+use crate::settling::{advance_tablet, hasten, serve_call, settle_all};
+use crate::shows::{is_full, show_history, show_records, show_tablet};
 use rk_cluster::{Cluster, ClusterError, Code};
 use rk_lines::push_all_said;
 use rk_outside::Replica;
@@ -67,7 +67,13 @@ fn run_command<R: Replica + Drop>(
         Command::Forget { lane, place } => tell(text, cluster.forget(lane, place)),
         Command::Crash(master) => tell(text, cluster.crash(master)),
         Command::Notice(master) => tell(text, cluster.notice(master)),
-        other => settle_by(alloc, cluster, other, text),
+        Command::Settle => settle_all(alloc, cluster, text),
+        Command::Serve(client) => serve_call(alloc, cluster, client, text),
+        Command::Advance { tablet, reach } => advance_tablet(alloc, cluster, tablet, reach, text),
+        Command::Priority(tablet) => hasten(alloc, cluster, tablet, text),
+        Command::Where(tablet) => show_tablet(alloc, cluster, tablet, text),
+        Command::Dump(tablet) => show_records(alloc, cluster, tablet, text),
+        Command::History => show_history(alloc, cluster, text),
     }
 }
 

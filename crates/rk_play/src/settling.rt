@@ -1,4 +1,4 @@
-// What the settling commands do, and those that show something.
+// What the settling commands do.
 ghost use Rattle.std.specs.Prelude.{◌≡◌, ◌≢◌, IfErr, OnOk};
 ghost use Rattle.rk_play.specs.Came.{Ran, Stopped};
 ghost use Rattle.rk_play.specs.Effects.{effect, reach_of as reach_of_lem};
@@ -6,40 +6,15 @@ ghost use Rattle.rk_play.specs.declared.error.PlayError.TheVariants.{NoMemory as
 ghost use Rattle.rk_script.specs.declared.command.Command.TheVariants as commands;
 
 use crate::error::PlayError;
-use crate::shows::{show_history, show_records, show_tablet};
 use rk_cluster::Cluster;
 use rk_lines::push_all_said;
 use rk_outside::Replica;
-use rk_script::{Command, Reach as Wanted};
+use rk_script::Reach as Wanted;
 use rk_settle::{Reach, advance, advance_code, priority, priority_code, serve, serve_code, settle};
 use std::alloc::Global;
 
-/// Runs a settling command, or one that shows something, and adds what it writes to a text; the other commands are not for it.
-pub(crate) fn settle_by<R: Replica + Drop>(
-    alloc: Global,
-    cluster: &mut Cluster<R>,
-    command: Command,
-    text: &mut Vec<u8>,
-) -> Result<(), PlayError>
-    ensures ok { OnOk result (Ran R.segments cluster.old cluster.new (λ c calls. effect c command calls) text.old.items text.new.items) }
-    ensures err { IfErr result (Stopped R.segments cluster.old cluster.new (λ c calls. effect c command calls)) }
-    ensures kept { IfErr result (λ e. e ≢ no_memory → text.new.items ≡ text.old.items) }
-{
-    match command {
-        Command::Settle => settle_all(alloc, cluster, text),
-        Command::Serve(client) => serve_call(alloc, cluster, client, text),
-        Command::Advance { tablet, reach } => advance_tablet(alloc, cluster, tablet, reach, text),
-        Command::Priority(tablet) => hasten(alloc, cluster, tablet, text),
-        Command::Where(tablet) => show_tablet(alloc, cluster, tablet, text),
-        Command::Dump(tablet) => show_records(alloc, cluster, tablet, text),
-        Command::History => show_history(alloc, cluster, text),
-        // No other command comes here.
-        _ => Err(PlayError::NoMemory),
-    }
-}
-
-// Settles a cluster, and adds what clients said to a text.
-fn settle_all<R: Replica + Drop>(
+/// Settles a cluster, and adds what clients said to a text.
+pub(crate) fn settle_all<R: Replica + Drop>(
     alloc: Global,
     cluster: &mut Cluster<R>,
     text: &mut Vec<u8>,
@@ -53,8 +28,8 @@ fn settle_all<R: Replica + Drop>(
     Ok(())
 }
 
-// Brings the outstanding call of a client on, unless a code refuses that, and adds what the client said to a text.
-fn serve_call<R: Replica + Drop>(
+/// Brings the outstanding call of a client on, unless a code refuses that, and adds what the client said to a text.
+pub(crate) fn serve_call<R: Replica + Drop>(
     alloc: Global,
     cluster: &mut Cluster<R>,
     client: u32,
@@ -72,8 +47,8 @@ fn serve_call<R: Replica + Drop>(
     Ok(())
 }
 
-// Brings the migration of a tablet to a reach, unless a code refuses that, and adds what clients said to a text.
-fn advance_tablet<R: Replica + Drop>(
+/// Brings the migration of a tablet to a reach, unless a code refuses that, and adds what clients said to a text.
+pub(crate) fn advance_tablet<R: Replica + Drop>(
     alloc: Global,
     cluster: &mut Cluster<R>,
     tablet: u32,
@@ -93,8 +68,8 @@ fn advance_tablet<R: Replica + Drop>(
     Ok(())
 }
 
-// Sends for what the target of a tablet wants first, unless a code refuses that, and adds what clients said to a text.
-fn hasten<R: Replica + Drop>(
+/// Sends for what the target of a tablet wants first, unless a code refuses that, and adds what clients said to a text.
+pub(crate) fn hasten<R: Replica + Drop>(
     alloc: Global,
     cluster: &mut Cluster<R>,
     tablet: u32,

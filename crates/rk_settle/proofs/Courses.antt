@@ -17,6 +17,7 @@ use Rattle.rk_world.specs.Backup.{Called, Gave}
 use Rattle.rk_world.specs.Calls.{Visited, accept, ask}
 use Rattle.rk_world.specs.Client.{Session}
 use Rattle.rk_world.specs.Cluster.{Accepts, Asks, Calls, Cluster, Happens, Joins, Occurrence, cluster_stepped, cluster_visited, lane_at, session_at}
+use Rattle.rk_world.specs.ClusterRuns.{Leads}
 use Rattle.rk_world.specs.Refusals.{refusal}
 use Rattle.rk_world.specs.Step.{Stepped, step, stepped_by}
 use Rattle.rk_world.specs.World.{World}
@@ -29,6 +30,7 @@ use Rattle.rk_cluster.specs.State.{ClusterState, IsOf}
 use Rattle.rk_cluster.specs.Steps.{WhereWorn}
 use Rattle.rk_cluster.specs.declared.error.ClusterError.{ClusterError}
 use Rattle.rk_cluster.specs.declared.error.ClusterError.TheVariants as causes
+use Rattle.rk_cluster.proofs.Leading.{leads_on}
 use Rattle.rk_settle.specs.Course.{Course, error_by, has_actor, moved, moved_by, occurring, occurring_by, worn_error}
 use Rattle.rk_settle.specs.Failures.{failure_by}
 use Rattle.rk_settle.specs.Outcomes.{IsStopped}
@@ -80,24 +82,25 @@ worn_alone cluster (occurrence ∷ other ∷ others) number alone worn = absurd 
 
 module _ {R : Type 0} (segments : R → Option Segments) where
   -- what comes of one occurrence comes of the list of it alone
-  pub alone : (new : ClusterState R) (cluster : Cluster) (occurrence : Occurrence) (told : List Said) (broken : Option ℕ) → IsActedAs segments new told broken (acted cluster occurrence)
-      → IsActedAs segments new told broken (all_acted cluster (occurrence ∷ []))
+  pub alone : (new : ClusterState R) (cluster : Cluster) (occurrence : Occurrence) (told : List Said) (broken : Option ℕ) → IsActedAs segments cluster new told broken (acted cluster occurrence)
+      → IsActedAs segments cluster new told broken (all_acted cluster (occurrence ∷ []))
   alone new cluster occurrence told None it =
-      subst (λ (worn : Option ℕ). IsActedAs segments new told None (going_on (acted cluster occurrence) worn (λ next. all_acted next []))) (sym it.worn)
-      (record { cluster = it.cluster; said = append-nil (acted cluster occurrence).said ∙ it.said; worn = refl })
+      subst (λ (worn : Option ℕ). IsActedAs segments cluster new told None (going_on (acted cluster occurrence) worn (λ next. all_acted next []))) (sym it.worn)
+      (record { cluster = it.cluster; leads = it.leads; said = append-nil (acted cluster occurrence).said ∙ it.said; worn = refl })
   alone new cluster occurrence told (Some number) it =
-      subst (λ (worn : Option ℕ). IsActedAs segments new told (Some number) (going_on (acted cluster occurrence) worn (λ next. all_acted next []))) (sym it.worn) it
+      subst (λ (worn : Option ℕ). IsActedAs segments cluster new told (Some number) (going_on (acted cluster occurrence) worn (λ next. all_acted next []))) (sym it.worn) it
 
   -- a course goes on by what occurs
-  pub occurs : (new : ClusterState R) (occurrences : List Occurrence) (told : List Said) (failed : Bool) (rest : List Task) (was is : Progress) (course : Course)
-      → IsActedAs segments new told None (all_acted course.cluster occurrences) → is.said.items ≡ was.said.items ++ told → is.faults ≡ was.faults
+  pub occurs : (start : Cluster) (new : ClusterState R) (occurrences : List Occurrence) (told : List Said) (failed : Bool) (rest : List Task) (was is : Progress) (course : Course)
+      → Leads start course.cluster → IsActedAs segments course.cluster new told None (all_acted course.cluster occurrences) → is.said.items ≡ was.said.items ++ told → is.faults ≡ was.faults
       → is.failing ≡ (was.failing || failed) → course.said ≡ was.said.items → course.faults ≡ was.faults → course.failing ≡ was.failing
-      → IsCourse segments new rest is (occurring course occurrences failed rest)
-  occurs new occurrences told failed rest was is course it said faults failing was_said was_faults was_failing =
+      → IsCourse segments start new rest is (occurring course occurrences failed rest)
+  occurs start new occurrences told failed rest was is course leads it said faults failing was_said was_faults was_failing =
       let came = all_acted course.cluster occurrences in
-      subst (λ (worn : Option ℕ). IsCourse segments new rest is (occurring_by course occurrences failed rest came worn)) (sym it.worn)
+      subst (λ (worn : Option ℕ). IsCourse segments start new rest is (occurring_by course occurrences failed rest came worn)) (sym it.worn)
       (record {
         cluster = it.cluster;
+        leads = leads_on start course.cluster came.cluster leads it.leads;
         tasks = refl;
         said = ap (λ (more : List Said). course.said ++ more) it.said ∙ ap (λ (before : List Said). before ++ told) was_said ∙ sym said;
         faults = was_faults ∙ sym faults;
@@ -111,12 +114,12 @@ or_false false = refl
 
 module _ {R : Type 0} (segments : R → Option Segments) (old new : ClusterState R) (lane : ℕ) (act : Act) where
   -- what somebody does is a move
-  acts_moves : (rest : List Task) (progress : Progress) (course : Course) → has_actor course.cluster act ≡ true → ActsOne segments old new (occurrence_of lane act) [] None
-      → IsCourse segments old (made.Occurs lane act ∷ rest) progress course → IsCourse segments new rest progress (moved course (Gave None))
-  acts_moves rest progress course there acts stands =
-      subst (λ (left : List Task). IsCourse segments new rest progress (moved_by course (Gave None) left)) (sym stands.tasks)
-      (subst (λ (b : Bool). IsCourse segments new rest progress (occurring course (if b then occurrence_of lane act ∷ [] else []) false rest)) (sym there)
-      (occurs segments new (occurrence_of lane act ∷ []) [] false rest progress progress course
+  acts_moves : (rest : List Task) (progress : Progress) (start : Cluster) (course : Course) → has_actor course.cluster act ≡ true → ActsOne segments old new (occurrence_of lane act) [] None
+      → IsCourse segments start old (made.Occurs lane act ∷ rest) progress course → IsCourse segments start new rest progress (moved course (Gave None))
+  acts_moves rest progress start course there acts stands =
+      subst (λ (left : List Task). IsCourse segments start new rest progress (moved_by course (Gave None) left)) (sym stands.tasks)
+      (subst (λ (b : Bool). IsCourse segments start new rest progress (occurring course (if b then occurrence_of lane act ∷ [] else []) false rest)) (sym there)
+      (occurs segments start new (occurrence_of lane act ∷ []) [] false rest progress progress course stands.leads
       (alone segments new course.cluster (occurrence_of lane act) [] None (acts course.cluster stands.cluster)) (sym (append-nil progress.said.items)) refl (or_false progress.failing)
       stands.said stands.faults stands.failing))
 
@@ -125,7 +128,7 @@ module _ {R : Type 0} (segments : R → Option Segments) (old new : ClusterState
       → (rest : List Task) (progress : Progress) → Moves segments old new (made.Occurs lane act ∷ rest) rest progress progress
   happens_moves event is happens rest progress = record {
     called = Gave None;
-    moves = λ course stands. acts_moves rest progress course (ap (has_actor course.cluster) is)
+    moves = λ start course stands. acts_moves rest progress start course (ap (has_actor course.cluster) is)
         (subst (λ (it : Act). ActsOne segments old new (occurrence_of lane it) [] None) (sym is) happens) stands;
   }
 
@@ -134,7 +137,7 @@ module _ {R : Type 0} (segments : R → Option Segments) (old new : ClusterState
       → (rest : List Task) (progress : Progress) → Moves segments old new (made.Occurs lane act ∷ rest) rest progress progress
   asks_moves client is there asks rest progress = record {
     called = Gave None;
-    moves = λ course stands. acts_moves rest progress course
+    moves = λ start course stands. acts_moves rest progress start course
         (ap (has_actor course.cluster) is ∙ ap (λ (sessions : NumberMap Session). is_some (get sessions client)) stands.cluster.sessions ∙ there)
         (subst (λ (it : Act). ActsOne segments old new (occurrence_of lane it) [] None) (sym is) asks) stands;
   }
@@ -144,12 +147,13 @@ module _ {R : Type 0} (segments : R → Option Segments) (old new : ClusterState
       → (rest : List Task) (progress : Progress) → Moves segments old old (made.Occurs lane act ∷ rest) rest progress progress
   nobody_moves client is none rest progress = record {
     called = Gave None;
-    moves = λ course stands.
-        subst (λ (left : List Task). IsCourse segments old rest progress (moved_by course (Gave None) left)) (sym stands.tasks)
-        (subst (λ (b : Bool). IsCourse segments old rest progress (occurring course (if b then occurrence_of lane act ∷ [] else []) false rest))
+    moves = λ start course stands.
+        subst (λ (left : List Task). IsCourse segments start old rest progress (moved_by course (Gave None) left)) (sym stands.tasks)
+        (subst (λ (b : Bool). IsCourse segments start old rest progress (occurring course (if b then occurrence_of lane act ∷ [] else []) false rest))
         (sym (ap (has_actor course.cluster) is ∙ ap (λ (sessions : NumberMap Session). is_some (get sessions client)) stands.cluster.sessions ∙ none))
         (record {
           cluster = stands.cluster;
+          leads = stands.leads;
           tasks = refl;
           said = append-nil course.said ∙ stands.said;
           faults = stands.faults;
@@ -158,13 +162,14 @@ module _ {R : Type 0} (segments : R → Option Segments) (old new : ClusterState
   }
 
   -- what somebody does ends where the lane is worn
-  worn_stops : (number : ℕ) (rest : List Task) (progress : Progress) (course : Course) → has_actor course.cluster act ≡ true
-      → ActsOne segments old new (occurrence_of lane act) [] (Some number) → IsCourse segments old (made.Occurs lane act ∷ rest) progress course
-      → IsStopped segments new (errors.Worn number) course
-  worn_stops number rest progress course there acts stands =
+  worn_stops : (number : ℕ) (rest : List Task) (progress : Progress) (start : Cluster) (course : Course) → has_actor course.cluster act ≡ true
+      → ActsOne segments old new (occurrence_of lane act) [] (Some number) → IsCourse segments start old (made.Occurs lane act ∷ rest) progress course
+      → IsStopped segments start new (errors.Worn number) course
+  worn_stops number rest progress start course there acts stands =
       let it = alone segments new course.cluster (occurrence_of lane act) [] (Some number) (acts course.cluster stands.cluster) in
       record {
         cluster = subst (λ (cluster : Cluster). IsOf segments new cluster) (worn_alone course.cluster (occurrence_of lane act ∷ []) number tt it.worn) it.cluster;
+        leads = stands.leads;
         stops =
             ap (error_by course) stands.tasks
             ∙ ap (λ (b : Bool). worn_error (all_acted course.cluster (if b then occurrence_of lane act ∷ [] else [])).worn) there ∙ ap worn_error it.worn;
@@ -176,7 +181,7 @@ module _ {R : Type 0} (segments : R → Option Segments) (old new : ClusterState
   happens_stops event is causes.NoMemory worn rest progress = tt
   happens_stops event is (causes.Code code) worn rest progress = absurd worn
   happens_stops event is (causes.Worn number) worn rest progress =
-      λ course stands. worn_stops number rest progress course (ap (has_actor course.cluster) is)
+      λ start course stands. worn_stops number rest progress start course (ap (has_actor course.cluster) is)
       (subst (λ (it : Act). ActsOne segments old new (occurrence_of lane it) [] (Some number)) (sym is) worn) stands
 
   -- so does the turn of a client
@@ -186,7 +191,7 @@ module _ {R : Type 0} (segments : R → Option Segments) (old new : ClusterState
   asks_stops client is there causes.NoMemory worn rest progress = tt
   asks_stops client is there (causes.Code code) worn rest progress = absurd worn
   asks_stops client is there (causes.Worn number) worn rest progress =
-      λ course stands. worn_stops number rest progress course
+      λ start course stands. worn_stops number rest progress start course
       (ap (has_actor course.cluster) is ∙ ap (λ (sessions : NumberMap Session). is_some (get sessions client)) stands.cluster.sessions ∙ there)
       (subst (λ (it : Act). ActsOne segments old new (occurrence_of lane it) [] (Some number)) (sym is) worn) stands
 
@@ -237,9 +242,9 @@ module _ {R : Type 0} (segments : R → Option Segments) (old new : ClusterState
       → (rest : List Task) → Moves segments old new (made.Delivers lane number ∷ rest) rest was is
   delivers_moves delivered was is it said faults failing rest = record {
     called = it.called;
-    moves = λ course stands.
-        subst (λ (left : List Task). IsCourse segments new rest is (moved_by course it.called left)) (sym stands.tasks)
-        (occurs segments new (deliver_in_makes course.cluster lane number it.called) (option_to_list delivered.said) (is_lost_at_backup course.cluster lane number it.called) rest was is course
+    moves = λ start course stands.
+        subst (λ (left : List Task). IsCourse segments start new rest is (moved_by course it.called left)) (sym stands.tasks)
+        (occurs segments start new (deliver_in_makes course.cluster lane number it.called) (option_to_list delivered.said) (is_lost_at_backup course.cluster lane number it.called) rest was is course stands.leads
         (it.holds.acts course.cluster stands.cluster) said faults
         (failing ∙ ap (λ (failed : Bool). was.failing || failed) (sym (it.holds.failed course.cluster stands.cluster)))
         stands.said stands.faults stands.failing);
@@ -250,11 +255,12 @@ module _ {R : Type 0} (segments : R → Option Segments) (old new : ClusterState
       → Stops segments old new (made.Delivers lane number ∷ rest) progress (failure_by e)
   delivers_stops causes.NoMemory worn rest progress = tt
   delivers_stops (causes.Code code) worn rest progress = absurd worn
-  delivers_stops (causes.Worn count) worn rest progress = λ course stands.
+  delivers_stops (causes.Worn count) worn rest progress = λ start course stands.
       let it = worn.holds course.cluster stands.cluster in
       let found = get (lane_at course.cluster lane).wire.messages number in
       record {
         cluster = subst (λ (cluster : Cluster). IsOf segments new cluster)
             (worn_alone course.cluster (deliver_in_makes course.cluster lane number worn.called) count (delivered_alone course.cluster lane number worn.called found) it.worn) it.cluster;
+        leads = stands.leads;
         stops = ap (error_by course) stands.tasks ∙ ap worn_error (sym (delivered_same course.cluster lane number worn.called found) ∙ it.worn);
       }

@@ -5,6 +5,7 @@ use Rattle.rk_types.specs.declared.hashing.TheConstants.{LANES}
 use Rattle.rk_outside.specs.Segments.{Segments}
 use Rattle.rk_world.specs.Cluster.{Cluster}
 use Rattle.rk_cluster.specs.State.{ClusterState, IsOf}
+use Rattle.rk_cluster.proofs.Leading.{leads_nowhere}
 use Rattle.rk_cluster.proofs.Worlds.{same_count}
 use Rattle.rk_settle.specs.Course.{course_of}
 use Rattle.rk_settle.specs.Outcomes.{Ends, Fails}
@@ -24,9 +25,10 @@ pub record IsFresh (progress : Progress) : Type 0 where
 module _ {R : Type 0} (segments : R → Option Segments) (old new : ClusterState R) (command : Cluster → List Task) (left : List Task) (was : Progress) (fresh : IsFresh was)
     (eight : length old.lanes ≡ LANES) (tells : EightTell segments old command left) where
   -- a command begins
-  begun : (cluster : Cluster) → IsOf segments old cluster → IsCourse segments old left was (course_of cluster (command cluster))
+  begun : (cluster : Cluster) → IsOf segments old cluster → IsCourse segments cluster old left was (course_of cluster (command cluster))
   begun cluster stands = record {
     cluster = stands;
+    leads = leads_nowhere cluster;
     tasks = tells cluster stands (same_count segments old.lanes cluster.lanes stands.lanes ∙ eight);
     said = sym fresh.said;
     faults = sym fresh.faults;
@@ -38,8 +40,8 @@ module _ {R : Type 0} (segments : R → Option Segments) (old new : ClusterState
   ends_by after is none all = record {
     calls = all.calls;
     over = λ cluster stands.
-        let it = all.moves (course_of cluster (command cluster)) (begun cluster stands) in
-        record { cluster = it.cluster; left = it.tasks ∙ none; said = it.said };
+        let it = all.moves cluster (course_of cluster (command cluster)) (begun cluster stands) in
+        record { cluster = it.cluster; leads = it.leads; left = it.tasks ∙ none; said = it.said };
   }
 
   -- or stops
@@ -47,9 +49,9 @@ module _ {R : Type 0} (segments : R → Option Segments) (old new : ClusterState
   fails_by errors.NoMemory stops = tt
   fails_by errors.TooLong stops = tt
   fails_by (errors.Worn number) stops =
-      record { calls = stops.calls; stopped = λ cluster stands. stops.stopped (course_of cluster (command cluster)) (begun cluster stands) }
+      record { calls = stops.calls; stopped = λ cluster stands. stops.stopped cluster (course_of cluster (command cluster)) (begun cluster stands) }
   fails_by (errors.Replica rounds) stops =
-      record { calls = stops.calls; stopped = λ cluster stands. stops.stopped (course_of cluster (command cluster)) (begun cluster stands) }
+      record { calls = stops.calls; stopped = λ cluster stands. stops.stopped cluster (course_of cluster (command cluster)) (begun cluster stands) }
 
 module _ {R : Type 0} (segments : R → Option Segments) (state : ClusterState R) where
   -- tasks for all lanes, and more behind them

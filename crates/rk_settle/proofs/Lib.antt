@@ -11,3 +11,4 @@ pub mod Unfolded
 pub mod Occurred
 mod Examples
 pub mod Making
+pub mod AtRest

@@ -61,12 +61,12 @@ module _ {R : Type 0} (segments : R → Option Segments) (state : ClusterState R
       → Moves segments state state (task ∷ rest) rest was is
   begins_moves task rest was is begins below same = record {
     called = Gave None;
-    moves = λ course stands.
-        subst (λ (left : List Task). IsCourse segments state rest is (moved_by course (Gave None) left)) (sym (stands.tasks ∙ ap (λ (first : Task). first ∷ rest) begins))
-        (subst (λ (b : Bool). IsCourse segments state rest is (if b then course else with_tasks course rest))
+    moves = λ start course stands.
+        subst (λ (left : List Task). IsCourse segments start state rest is (moved_by course (Gave None) left)) (sym (stands.tasks ∙ ap (λ (first : Task). first ∷ rest) begins))
+        (subst (λ (b : Bool). IsCourse segments start state rest is (if b then course else with_tasks course rest))
         (sym (ap (nat_le MOST_FAULTS) stands.faults ∙ below_limit MOST_FAULTS was.faults below))
-        (subst (λ (progress : Progress). IsCourse segments state rest progress (with_tasks course rest)) (sym same)
-        (record { cluster = stands.cluster; tasks = refl; said = stands.said; faults = stands.faults; failing = stands.failing })));
+        (subst (λ (progress : Progress). IsCourse segments start state rest progress (with_tasks course rest)) (sym same)
+        (record { cluster = stands.cluster; leads = stands.leads; tasks = refl; said = stands.said; faults = stands.faults; failing = stands.failing })));
   }
 
   -- a round is over
@@ -74,11 +74,12 @@ module _ {R : Type 0} (segments : R → Option Segments) (state : ClusterState R
       → is ≡ (record was { faults = was.faults + (if was.failing then 1 else 0); failing = false }) → Moves segments state state (task ∷ rest) rest was is
   ends_moves task rest was is ends so = record {
     called = Gave None;
-    moves = λ course stands.
-        subst (λ (left : List Task). IsCourse segments state rest is (moved_by course (Gave None) left)) (sym (stands.tasks ∙ ap (λ (first : Task). first ∷ rest) ends))
-        (subst (λ (progress : Progress). IsCourse segments state rest progress (round_over course rest)) (sym so)
+    moves = λ start course stands.
+        subst (λ (left : List Task). IsCourse segments start state rest is (moved_by course (Gave None) left)) (sym (stands.tasks ∙ ap (λ (first : Task). first ∷ rest) ends))
+        (subst (λ (progress : Progress). IsCourse segments start state rest progress (round_over course rest)) (sym so)
         (record {
           cluster = stands.cluster;
+          leads = stands.leads;
           tasks = refl;
           said = stands.said;
           faults = ap (λ (count : ℕ). count + (if course.failing then 1 else 0)) stands.faults ∙ ap (λ (b : Bool). was.faults + (if b then 1 else 0)) stands.failing;
@@ -91,10 +92,10 @@ module _ {R : Type 0} (segments : R → Option Segments) (state : ClusterState R
       → ClusterTells segments state (λ cluster. unfolded cluster task ++ rest) after → Moves segments state state (task ∷ rest) after progress progress
   unfolds_moves task rest after progress unfolds tells = record {
     called = Gave None;
-    moves = λ course stands.
-        subst (λ (left : List Task). IsCourse segments state after progress (moved_by course (Gave None) left)) (sym stands.tasks)
-        (subst (λ (next : Course). IsCourse segments state after progress next) (sym (moved_unfolding course task rest unfolds))
-        (record { cluster = stands.cluster; tasks = tells course.cluster stands.cluster; said = stands.said; faults = stands.faults; failing = stands.failing }));
+    moves = λ start course stands.
+        subst (λ (left : List Task). IsCourse segments start state after progress (moved_by course (Gave None) left)) (sym stands.tasks)
+        (subst (λ (next : Course). IsCourse segments start state after progress next) (sym (moved_unfolding course task rest unfolds))
+        (record { cluster = stands.cluster; leads = stands.leads; tasks = tells course.cluster stands.cluster; said = stands.said; faults = stands.faults; failing = stands.failing }));
   }
 
   -- a command stops where a round is to begin and replicas have failed too often
@@ -102,8 +103,9 @@ module _ {R : Type 0} (segments : R → Option Segments) (state : ClusterState R
       → Stops segments state state (task ∷ rest) progress e
   begins_stops task rest progress e begins is above =
       subst (Stops segments state state (task ∷ rest) progress) (sym is)
-      (λ course stands. record {
+      (λ start course stands. record {
         cluster = stands.cluster;
+        leads = stands.leads;
         stops =
             ap (error_by course) (stands.tasks ∙ ap (λ (first : Task). first ∷ rest) begins)
             ∙ ap (λ (b : Bool). if b then Some (errors.Replica course.faults) else None) (ap (nat_le MOST_FAULTS) stands.faults ∙ at_limit MOST_FAULTS progress.faults above)
@@ -113,27 +115,27 @@ module _ {R : Type 0} (segments : R → Option Segments) (state : ClusterState R
 module _ {R : Type 0} (segments : R → Option Segments) where
   -- no move yet
   pub none_moved : (state : ClusterState R) (left : List Task) (progress : Progress) → MovesAll segments state state left left progress progress
-  none_moved state left progress = record { calls = []; moves = λ course stands. stands }
+  none_moved state left progress = record { calls = []; moves = λ start course stands. stands }
 
   -- one more move
-  pub one_more : (start now next : ClusterState R) (first left after : List Task) (was is later : Progress) → MovesAll segments start now first left was is
-      → Moves segments now next left after is later → MovesAll segments start next first after was later
-  one_more start now next first left after was is later all move = record {
+  pub one_more : (begun now next : ClusterState R) (first left after : List Task) (was is later : Progress) → MovesAll segments begun now first left was is
+      → Moves segments now next left after is later → MovesAll segments begun next first after was later
+  one_more begun now next first left after was is later all move = record {
     calls = all.calls ++ move.called ∷ [];
-    moves = λ course stands.
-        subst (λ (it : Course). IsCourse segments next after later it) (sym (fold-append moved course all.calls (move.called ∷ [])))
-        (move.moves (moved_all course all.calls) (all.moves course stands));
+    moves = λ start course stands.
+        subst (λ (it : Course). IsCourse segments start next after later it) (sym (fold-append moved course all.calls (move.called ∷ [])))
+        (move.moves start (moved_all course all.calls) (all.moves start course stands));
   }
 
   -- what stops now stops after the moves so far
-  pub stops_in : (start now next : ClusterState R) (first left : List Task) (was is : Progress) (e : SettleError) → MovesAll segments start now first left was is
-      → Stops segments now next left is e → StopsIn segments start next first was e
-  stops_in start now next first left was is errors.NoMemory all stops = tt
-  stops_in start now next first left was is errors.TooLong all stops = tt
-  stops_in start now next first left was is (errors.Worn number) all stops =
-      record { calls = all.calls; stopped = λ course stands. stops (moved_all course all.calls) (all.moves course stands) }
-  stops_in start now next first left was is (errors.Replica rounds) all stops =
-      record { calls = all.calls; stopped = λ course stands. stops (moved_all course all.calls) (all.moves course stands) }
+  pub stops_in : (begun now next : ClusterState R) (first left : List Task) (was is : Progress) (e : SettleError) → MovesAll segments begun now first left was is
+      → Stops segments now next left is e → StopsIn segments begun next first was e
+  stops_in begun now next first left was is errors.NoMemory all stops = tt
+  stops_in begun now next first left was is errors.TooLong all stops = tt
+  stops_in begun now next first left was is (errors.Worn number) all stops =
+      record { calls = all.calls; stopped = λ start course stands. stops start (moved_all course all.calls) (all.moves start course stands) }
+  stops_in begun now next first left was is (errors.Replica rounds) all stops =
+      record { calls = all.calls; stopped = λ start course stands. stops start (moved_all course all.calls) (all.moves start course stands) }
 
 -- how far a run has come: what has moved, the tasks that are left are lawful, a fault counts for a move at most, and each lane has as many
 -- masters and backups

@@ -4,6 +4,7 @@ use Rattle.rk_types.specs.declared.hashing.TheConstants.{LANES}
 use Rattle.rk_outside.specs.Segments.{Segments}
 use Rattle.rk_world.specs.Backup.{Called}
 use Rattle.rk_world.specs.Cluster.{Cluster, lane_at}
+use Rattle.rk_world.specs.ClusterRuns.{Leads}
 use Rattle.rk_lane.specs.LaneState.{LaneState}
 use Rattle.rk_cluster.specs.State.{ClusterState, IsOf, IsWorld}
 use Rattle.rk_settle.specs.Course.{Course, moved, moved_all}
@@ -13,10 +14,11 @@ use Rattle.rk_settle.specs.declared.error.SettleError.{SettleError}
 use Rattle.rk_settle.specs.declared.error.SettleError.TheVariants as errors
 use Rattle.rk_settle.specs.declared.task.Task.{Task}
 
--- a command in code, with these tasks left, stands for a course of the definitions: all but what occurred, which nothing looks at, is the
--- same
-pub record IsCourse {R : Type 0} (segments : R → Option Segments) (state : ClusterState R) (left : List Task) (progress : Progress) (course : Course) : Type 0 where
+-- a command in code that began in a cluster, with these tasks left, stands for a course of the definitions: all but what occurred, which
+-- nothing looks at, is the same, and a run has led there
+pub record IsCourse {R : Type 0} (segments : R → Option Segments) (start : Cluster) (state : ClusterState R) (left : List Task) (progress : Progress) (course : Course) : Type 0 where
   pub cluster : IsOf segments state course.cluster
+  pub leads : Leads start course.cluster
   pub tasks : course.tasks ≡ left
   pub said : course.said ≡ progress.said.items
   pub faults : course.faults ≡ progress.faults
@@ -25,23 +27,23 @@ pub record IsCourse {R : Type 0} (segments : R → Option Segments) (state : Clu
 -- a move was made, by what the call of a replica came to, if one was called
 pub record Moves {R : Type 0} (segments : R → Option Segments) (old new : ClusterState R) (before after : List Task) (was is : Progress) : Type 0 where
   pub called : Called
-  pub moves : (course : Course) → IsCourse segments old before was course → IsCourse segments new after is (moved course called)
+  pub moves : (start : Cluster) (course : Course) → IsCourse segments start old before was course → IsCourse segments start new after is (moved course called)
 
 -- some moves were made
 pub record MovesAll {R : Type 0} (segments : R → Option Segments) (old new : ClusterState R) (before after : List Task) (was is : Progress) : Type 0 where
   pub calls : List Called
-  pub moves : (course : Course) → IsCourse segments old before was course → IsCourse segments new after is (moved_all course calls)
+  pub moves : (start : Cluster) (course : Course) → IsCourse segments start old before was course → IsCourse segments start new after is (moved_all course calls)
 
 -- a command stops where it is, for this reason; nothing is said where memory was wanting
 abbrev pub Stops : {R : Type 0} → (R → Option Segments) → ClusterState R → ClusterState R → List Task → Progress → SettleError → Type 0
 Stops segments old new left progress errors.NoMemory = ⊤
 Stops segments old new left progress error =
-    (course : Course) → IsCourse segments old left progress course → IsStopped segments new error course
+    (start : Cluster) (course : Course) → IsCourse segments start old left progress course → IsStopped segments start new error course
 
 -- a command stopped after some moves
 pub record StopsAfter {R : Type 0} (segments : R → Option Segments) (old new : ClusterState R) (left : List Task) (progress : Progress) (error : SettleError) : Type 0 where
   pub calls : List Called
-  pub stopped : (course : Course) → IsCourse segments old left progress course → IsStopped segments new error (moved_all course calls)
+  pub stopped : (start : Cluster) (course : Course) → IsCourse segments start old left progress course → IsStopped segments start new error (moved_all course calls)
 
 -- so where it is worn or replicas failed; nothing is said where memory was wanting, or where it made more moves than are counted
 abbrev pub StopsIn : {R : Type 0} → (R → Option Segments) → ClusterState R → ClusterState R → List Task → Progress → SettleError → Type 0

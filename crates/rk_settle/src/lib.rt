@@ -3,13 +3,14 @@
 //! It stands on `rk_cluster`. A command is a list of tasks, and a course does them move by move: each move makes one occurrence, or none,
 //! or unfolds a task into smaller ones. What it promises: where [`settle`], [`serve`], [`priority`] and [`advance`] end, what they made of
 //! the cluster and what clients said is just what the course of the definitions comes to, after some moves; where they stop, it is where
-//! that course stops. That a command ends is not proved: after 2^64 - 1 moves it stops. [`serve_code`], [`priority_code`] and
-//! [`advance_code`] tell beforehand why a command is to be refused, if it is.
+//! that course stops; and where [`settle`] ends its cluster is at rest. That a command ends is not proved: after 2^64 - 1 moves it stops.
+//! [`serve_code`], [`priority_code`] and [`advance_code`] tell beforehand why a command is to be refused, if it is.
 #![tactic(auto)]
 
 pub use codes::{advance_code, is_tablet, priority_code, serve_code};
 pub use commands::{advance, priority, serve, settle};
 pub use error::SettleError;
+pub use laws::settled_clusters_are_at_rest;
 pub use looks::row_at;
 pub use reach::Reach;
 
@@ -21,6 +22,7 @@ mod course;
 mod error;
 mod exchange;
 mod hastening;
+mod laws;
 mod looks;
 mod reach;
 mod reaching;

@@ -33,6 +33,7 @@ pub mod World
 pub mod Splits
 pub mod Refusals
 pub mod Step
+pub mod Replicas
 pub mod Calls
 pub mod Premises
 pub mod Limits
@@ -40,6 +41,7 @@ pub mod Formed
 pub mod Room
 pub mod Runs
 pub mod Cluster
+pub mod ClusterRuns
 pub mod Justified
 pub mod Quiet
 pub mod Finished

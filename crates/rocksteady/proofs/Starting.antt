@@ -12,20 +12,19 @@ use Rattle.rk_outside.specs.Segments.{Segments}
 use Rattle.rk_world.specs.Backup.{no_segments}
 use Rattle.rk_cluster.specs.Fresh.{AreEmpty}
 use Rattle.rk_play.specs.Played.{played}
-use Rattle.rk_play.specs.Runs.{Plays}
 use Rattle.rk_play.proofs.Concluding.{halts_at_once}
-use Rattle.rocksteady.specs.Run.{IsPlayed}
+use Rattle.rocksteady.specs.Run.{IsPlayed, PlaysOneMap}
 
 -- where memory is wanting at once, nothing was written
 pub halts_told : (told old : Option (List ℕ)) → IfSome told (λ script. IsPlayed script NoMemory old old)
 halts_told None old = tt
-halts_told (Some script) old = record { calls = []; runs = halts_at_once (played script []) old }
+halts_told (Some script) old = record { calls = []; runs = halts_at_once (played script []) old; one_map = λ whole. absurd whole }
 
 -- a run over replicas that told so is a run played
 pub played_told : {R : Type 0} (segments : R → Option Segments) (told : Option (List ℕ)) (status : Status) (old new : Option (List ℕ)) (replicas : List R)
-    → IfSome told (λ script. Plays segments script status old new replicas) → IfSome told (λ script. IsPlayed script status old new)
-played_told segments None status old new replicas plays = tt
-played_told segments (Some script) status old new replicas plays = record { calls = plays.calls; runs = plays.runs }
+    → IfSome told (λ script. PlaysOneMap segments script status old new replicas) → IfSome told (λ script. IsPlayed script status old new)
+played_told segments None status old new replicas it = tt
+played_told segments (Some script) status old new replicas it = record { calls = it.plays.calls; runs = it.plays.runs; one_map = it.one_map }
 
 -- a replica that is new tells that nothing was written
 new_tells : (replica : ReplicaState) → replica ≡ new_replica → segments_of replica ≡ no_segments

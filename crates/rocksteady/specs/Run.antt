@@ -1,12 +1,14 @@
 -- What a run of the program says, by the words after its name.
-use Rattle.std.specs.Prelude.{◌≡◌, List, [], ◌∷◌, Bool, false, ℕ, Option, bytes_eq, codes}
+use Rattle.std.specs.Prelude.{◌≡◌, List, [], ◌∷◌, Bool, false, ℕ, Option, bytes_eq, codes, ⊤}
 use Rattle.std.specs.Io.KnownBytes.{Appends, Keeps}
 use Rattle.rk_types.specs.declared.status.Status.{Status}
-use Rattle.rk_types.specs.declared.status.Status.TheVariants.{Usage, WriteFault}
+use Rattle.rk_types.specs.declared.status.Status.TheVariants.{NoMemory, ReadFault, Usage, WriteFault}
 use Rattle.rk_outside.specs.Parts.{AppendsPart}
+use Rattle.rk_outside.specs.Segments.{Segments}
 use Rattle.rk_world.specs.Backup.{Called}
 use Rattle.rk_play.specs.Played.{played}
-use Rattle.rk_play.specs.Runs.{Runs}
+use Rattle.rk_play.specs.Runs.{Plays, Runs}
+use Rattle.rk_laws_play.specs.OneMap.{IsOneMap}
 
 -- whether the words after the program's name are those of a play
 abbrev pub is_play : List (List ℕ) → Bool
@@ -23,7 +25,21 @@ Refuses Usage old new = Appends old new usage_text
 Refuses WriteFault old new = AppendsPart old new usage_text
 Refuses _ old new = ⊥
 
--- by what the calls of replicas came to, a run of a script has this status, and its sink holds what was written
+-- a run with this status was played to its end: memory was not wanting, and neither the source nor the sink failed
+abbrev pub IsWhole : Status → Type 0
+IsWhole NoMemory = ⊥
+IsWhole ReadFault = ⊥
+IsWhole WriteFault = ⊥
+IsWhole status = ⊤
+
+-- a run of a script over replicas says what `play` says, and where it was played to its end its answers are those of one map
+pub record PlaysOneMap {R : Type 0} (segments : R → Option Segments) (script : List ℕ) (status : Status) (old new : Option (List ℕ)) (replicas : List R) : Type 0 where
+  pub plays : Plays segments script status old new replicas
+  pub one_map : IsWhole status → IsOneMap (played script plays.calls).cluster
+
+-- by what the calls of replicas came to, a run of a script has this status, and its sink holds what was written; where it was played to its
+-- end its answers are those of one map
 pub record IsPlayed (script : List ℕ) (status : Status) (old new : Option (List ℕ)) : Type 0 where
   pub calls : List (List Called)
   pub runs : Runs (played script calls) status old new
+  pub one_map : IsWhole status → IsOneMap (played script calls).cluster

@@ -5,8 +5,8 @@ ghost use Rattle.rk_outside.specs.Parts.{ConsumesBetween};
 ghost use Rattle.rk_world.specs.Backup.{Called};
 ghost use Rattle.rk_laws_play.specs.Historical.{IsHistorical};
 ghost use Rattle.rk_play.specs.Played.{played};
-ghost use Rattle.rk_play.specs.Runs.{HasStatusCause, IsRead, Plays};
-ghost use Rattle.rocksteady.specs.Run.{Refuses, is_play};
+ghost use Rattle.rk_play.specs.Runs.{HasStatusCause, IsRead};
+ghost use Rattle.rocksteady.specs.Run.{PlaysOneMap, Refuses, is_play};
 
 use rk_outside::{Gate, PIECE, Replica, Sink, Source, put_all};
 use rk_play::play;
@@ -47,7 +47,7 @@ fn write_usage<K: Sink>(sink: &mut K) -> Status
 /// what the sink and the replicas tell, the clause `play` says what each status means. A fault of the source or the sink comes
 /// only where its count rose in this call, and `Done` only once the source has given its end. A script that is too long is read
 /// up to one piece past the longest.
-#[tactic(auto, using(crate::proofs::Telling::history_told))]
+#[tactic(auto, using(crate::proofs::Telling::history_told, crate::proofs::Telling::one_map_told))]
 pub fn run<X: Threads + Wait + Sync, S: Source, K: Sink, R: Replica + Send + Drop, G: Gate + Sync>(
     _rt: &X,
     alloc: Global,
@@ -59,16 +59,17 @@ pub fn run<X: Threads + Wait + Sync, S: Source, K: Sink, R: Replica + Send + Dro
 ) -> Status
     requires { length replicas.old.items ≡ 32 }
 
-    // What the sink holds afterwards and what the replicas tell, by the status.
+    // What the sink holds afterwards and what the replicas tell, by the status. The answers are those of one map: whatever the
+    // script, and whatever the calls of replicas came to, the journals at the end of a run that was played to its end make one
+    // lawful history that is ordered with the sessions.
     ensures play { is_play (map string_bytes words.now) ≡ true → AreEmpty R.segments replicas.old.items
         → IfSome (S.left source.old) (λ script.
-        Plays R.segments script result (K.written sink.old) (K.written sink.new) replicas.new.items) }
+        PlaysOneMap R.segments script result (K.written sink.old) (K.written sink.new) replicas.new.items) }
     ensures wrong_words { is_play (map string_bytes words.now) ≡ false →
         Refuses result (K.written sink.old) (K.written sink.new) }
 
-    // The answers are those of one map along one history: whatever the script, and whatever the calls of replicas come to, the
-    // cluster that it leaves is what its occurrences make of a new one. Where replicas answer what they store, and no lane outgrows
-    // its limits, these are a run, and the journals make one lawful history that is ordered with the sessions.
+    // So it is with any answers of replicas that may come: the cluster that a script leaves is what its occurrences make of a new
+    // one, and where replicas answer what they store and no lane outgrows its limits, these are a run.
     ensures history { IfSome (S.left source.old) (λ script. (calls : List (List Called)) → IsHistorical (played script calls)) }
 
     // What is gone from the source.

@@ -1,7 +1,8 @@
-use Rattle.std.proofs.Common.{ℕ, List, sym, subst}
+use Rattle.std.proofs.Common.{◌≡◌, ℕ, List, Err, ap, sym, subst}
 use Rattle.std.proofs.lemmas.Result.{IfOk-weaker}
 use Rattle.rk_types.specs.declared.node.Node.TheVariants as nodes
 use Rattle.rk_outside.specs.declared.replica.Lost.{Lost}
+use Rattle.rk_outside.specs.declared.replica.Lost.TheVariants as losses
 use Rattle.rk_message.specs.declared.message.Body.TheVariants as bodies
 use Rattle.rk_message.specs.declared.message.Message.{Message}
 use Rattle.rk_lane.specs.Backing.{IsBackedBy, IsUnanswered, sending}
@@ -20,7 +21,8 @@ returns-in_err-answer-clause-err g c =
     c.args.append.now
     (g.R.Replica.lengths c.args.backup.now.replica c.args.sender c.args.append.now.segment)
     (g.R.Replica.lengths c.take_append.new.backup.replica c.args.sender c.args.append.now.segment)
-    c.in_err-answer.field-0.0 c.in_err-answer.ensures.segments c.in_err-answer.ensures.cause)
+    c.in_err-answer.field-0.0 c.in_err-answer.ensures.segments (λ (failed : c.in_err-answer.field-0.0 ≡ losses.Failed). c.in_err-answer.ensures.asked (ap Err failed))
+    (g.met.R.Replica.agrees c.args.backup.now.replica c.args.sender c.args.append.now.segment) c.in_err-answer.ensures.cause)
 
 -- it tells how much is stored
 pub returns-clause-ok : goal.returns-clause-ok

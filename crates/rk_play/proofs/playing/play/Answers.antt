@@ -7,7 +7,7 @@ use Rattle.rk_script.specs.declared.script.TheConstants.{LONGEST_SCRIPT}
 use Rattle.rk_play.specs.Concluded.{MayComeTo}
 use Rattle.rk_play.specs.Played.{cluster_by, played, refused_at, unset}
 use Rattle.rk_play.proofs.Concluding.{concluded_apart, concluded_comes}
-use Rattle.rk_play.proofs.Telling.{refused_plays, too_long, unset_may}
+use Rattle.rk_play.proofs.Telling.{refused_plays, too_long, unset_may, wanting_told}
 use Rattle.rk_play.proofs.playing.play.Goals as goal
 
 pub returns-in-Err-TooLong-clause-plays : goal.returns-in-Err-TooLong-clause-plays
@@ -20,7 +20,7 @@ returns-in-Err-TooLong-clause-plays g c = λ empty.
     (too_long script [] longer ∙ ap (λ (code : ℕ). refused_at 0 code (cluster_by unset)) (sym c.number.ensures))
     (c.refuse.ensures.concludes (cluster_by unset)) c.requires unset_may empty
     in
-    record { calls = plays.calls; runs = plays.runs; stored = λ memory read. plays.stored memory })
+    record { calls = plays.calls; runs = plays.runs; stored = λ memory read. plays.stored memory; led = λ memory read. plays.led memory })
 
 pub returns-in-Err-TooLong-clause-usage : goal.returns-in-Err-TooLong-clause-usage
 returns-in-Err-TooLong-clause-usage g c = λ is.
@@ -55,3 +55,7 @@ returns-in-Err-TooLong-clause-read_cause g c =
       kept = λ _. c.in-Err-TooLong.ensures.kept (λ failed. absurd (cc (sym (ap Err c.in-Err-TooLong.field-0-is) ∙ failed)));
       rose = λ is. absurd (subst MayComeTo is comes);
     }
+
+-- memory was wanting
+pub returns-in-Err-NoMemory-clause-plays : goal.returns-in-Err-NoMemory-clause-plays
+returns-in-Err-NoMemory-clause-plays g c = λ _. wanting_told _ (g.S.Source.left c.args.source.now) _ _

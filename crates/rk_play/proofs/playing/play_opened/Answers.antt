@@ -8,8 +8,15 @@ use Rattle.rk_play.specs.Played.{cluster_by, played_in}
 use Rattle.rk_play.specs.Settings.{setting_of}
 use Rattle.rk_play.proofs.Concluding.{ended_cause, ended_comes}
 use Rattle.rk_play.proofs.Leaving.{counted, played_out}
-use Rattle.rk_play.proofs.Telling.{ended_plays, halted_plays, opened}
+use Rattle.rk_play.proofs.Telling.{ended_plays, halted_plays, opened, wanting_plays}
 use Rattle.rk_play.proofs.playing.play_opened.Goals as goal
+
+-- memory was wanting before anything ran
+pub returns-in_default-clause-plays : goal.returns-in_default-clause-plays
+returns-in_default-clause-plays g c = λ _. wanting_plays _ _ _ _
+
+pub returns-in_default-with_replicas-clause-plays : goal.returns-in_default-with_replicas-clause-plays
+returns-in_default-with_replicas-clause-plays g c = λ _. wanting_plays _ _ _ _
 
 pub returns-in-NoMemory-clause-plays : goal.returns-in-NoMemory-clause-plays
 returns-in-NoMemory-clause-plays g c = λ empty.
@@ -56,8 +63,8 @@ returns g c = record {
       counted segments old now c.args.commands.items (g.K.Sink.written c.args.sink.now) (g.K.Sink.written c.run_all-end.new.sink) c.run_all-end.new.held.items c.run_all-end.result
       c.unwrap_or-masters.result c.unwrap_or-backups.result c.in-Ok-with_replicas.ensures.lanes c.in-Ok-with_replicas.ensures.each c.in_default-end.not-NoMemory c.run_all-end.ensures.ends
       in
-      ended_plays segments now (λ calls. played_in c.args.commands.items calls (cluster_by setting)) c.conclude.result (g.K.Sink.written c.args.sink.now) (g.K.Sink.written c.conclude.new.sink)
-      c.in-Ok.room.others.items c.give_back.new.replicas.items out its.count c.give_back.ensures;
+      ended_plays segments setting now (λ calls. played_in c.args.commands.items calls (cluster_by setting)) c.conclude.result (g.K.Sink.written c.args.sink.now) (g.K.Sink.written c.conclude.new.sink)
+      c.in-Ok.room.others.items c.give_back.new.replicas.items c.requires.setting out its.count c.give_back.ensures;
   count = λ _. c.give_back.ensures.count;
   status =
       ended_comes c.run_all-end.result c.run_all-end.new.held.items c.conclude.result (g.K.Sink.written c.run_all-end.new.sink) (g.K.Sink.written c.conclude.new.sink)

@@ -80,7 +80,7 @@ returns-clause-ok g c =
     (record {
       code = client_free g.R.Replica.segments (cluster_of c.self.inside) c.args.client (sym c.has_session.ensures ∙ c.if-has_session.false)
           (few (length c.self.inside.sessions.entries) (omega (arith, c.count.ensures, c.if-count-ge-MOST_CLIENTS.false)));
-      acts = client_acts g.R.Replica.segments old new now c.put_session.new.sessions.entries c.args.client c.self.invariant.count
+      acts = client_acts g.R.Replica.segments old new now c.put_session.new.sessions.entries c.args.client (record { least_is = c.requires; fits = c.ranges.client.fits }) c.self.invariant.count
           (absent_none (get now c.args.client) (sym c.has_session.ensures ∙ c.if-has_session.false)) (c.in_ok-put_session.ensures.ok ∙ ap (insert now c.args.client) c.new.ensures)
           (rw c.in_all_lanes-deeds.ensures at c.in_ok-act_all.ensures.ok);
     }))

@@ -6,11 +6,13 @@ use Rattle.rk_types.specs.declared.call.Call.{Call}
 use Rattle.rk_tablet_map.specs.declared.row.Row.{Row}
 use Rattle.rk_world.specs.Client.{Session}
 use Rattle.rk_cluster.specs.Codes.{MOST_CALLS, call_code}
-use Rattle.rk_cluster.specs.Effects.{HasCode}
+use Rattle.rk_cluster.specs.Effects.{HasCode, IsCarriedOut}
 use Rattle.rk_cluster.specs.Looks.{calls_of, has_table}
+use Rattle.rk_cluster.specs.Makes.{call_makes}
 use Rattle.rk_cluster.specs.State.{ClusterState}
+use Rattle.rk_cluster.specs.Steps.{state_of}
 use Rattle.rk_cluster.specs.declared.code.Code.TheVariants.{Busy, Limit, Unknown}
-use Rattle.rk_cluster.proofs.Calling.{call_by, call_unknown, calls_many, copied_some, tables_count}
+use Rattle.rk_cluster.proofs.Calling.{call_by, call_lawful, call_unknown, calls, calls_few, calls_many, copied_some, tables_count}
 use Rattle.rk_cluster.proofs.Worlds.{there_read}
 use Rattle.rk_cluster.proofs.cluster.Cluster.call.Goals as goal
 
@@ -63,6 +65,28 @@ pub ask_next-requires-clause-table : goal.ask_next-requires-clause-table
 ask_next-requires-clause-table g c =
     tables_count c.index-first.result.now c.rows.result.now c.args.table c.spent.result c.spent.ensures.spent c.if-spent.false c.spent.ensures.formed c.rows.ensures
     (has_told c.rows.result.now c.rows-2.result.now c.args.table c.has_table.result c.rows-2.ensures.value c.has_table.ensures ∙ c.if-not-has_table.false)
+
+pub returns-clause-ok : goal.returns-clause-ok
+returns-clause-ok g c =
+    let lanes = c.self.inside.lanes.items in
+    let now = c.self.inside.sessions.entries in
+    let first = c.index-first.result.now in
+    let there = there_read lanes 0 first (omega (arith, c.self.invariant.count)) c.index-first.ensures in
+    let found : get now c.args.client ≡ Some c.in-Some.session.now = get_tree c.self.inside.sessions c.args.client ∙ sym c.in-Some.ensures.value in
+    let has = has_told c.rows.result.now c.rows-2.result.now c.args.table c.has_table.result c.rows-2.ensures.value c.has_table.ensures ∙ c.if-not-has_table.false in
+    let waits = waits_told c.in-Some.session.now c.outstanding.result c.is_some.result c.outstanding.ensures c.is_some.ensures ∙ c.if-is_some.false in
+    let few = calls_few (sum (map (λ (entry : ℕ × Session). calls_of entry.1) now)) c.calls_asked.result c.calls_asked.ensures (omega (arith, c.if-calls_asked-ge-MOST_CALLS.false)) in
+    subst (λ (state : ClusterState g.row.R.Denot). IsCarriedOut g.R.Replica.segments state (state_of lanes c.ask_next.new.sessions.entries)
+    (λ cluster. call_code cluster c.args.client c.args.table) (λ cluster. call_makes c.args.client c.args.table c.args.key c.args.op) c.nothing_said.result.items) c.self.view_is
+    (subst (IsCarriedOut g.R.Replica.segments (state_of lanes now) (state_of lanes c.ask_next.new.sessions.entries)
+    (λ cluster. call_code cluster c.args.client c.args.table) (λ cluster. call_makes c.args.client c.args.table c.args.key c.args.op)) (sym c.nothing_said.ensures)
+    (record {
+      code = call_by g.R.Replica.segments lanes now c.args.client c.args.table first c.rows.result.now c.in-Some.session.now true false false there c.rows.ensures found has waits few;
+      acts =
+          calls g.R.Replica.segments lanes now c.args.client c.args.table c.ask_next.new.sessions.entries c.args.key c.args.op c.in_ok-ask_next.ensures.ok
+          (call_lawful g.R.Replica.segments lanes now c.args.client c.args.table c.ask_next.new.sessions.entries c.args.key c.args.op c.in_ok-ask_next.ensures.ok
+          c.self.inside.masters (c.ask_next.ensures.acts c.self.inside.masters c.self.invariant.sessions));
+    }))
 
 pub invariant_of-self : goal.invariant_of-self
 invariant_of-self g c = record {

@@ -23,4 +23,7 @@ returns-clause-ok g c =
     c.self.view_is
     (where_some (lane_of c.self.inside).running _
     (step_after g.R.Replica.segments g.R.Replica.faults c.self.inside c.args.event c.happen-answer.new.parts c.happen-answer.new.backups c.if-self.false c.self.invariant
-    c.happen-answer.result c.out_of_memory-self-inside.result c.out_of_memory-self-inside.ensures c.happen-answer.ensures.ok))
+    c.happen-answer.result c.out_of_memory-self-inside.result c.out_of_memory-self-inside.ensures
+    (may_come c.self.inside c.args.event c.if-self.false c.self.invariant
+    (subst (λ (lane : LaneState g.row.R.Denot). MayComeTo lane c.args.event) (sym c.self.view_is) c.requires))
+    c.happen-answer.ensures.ok))

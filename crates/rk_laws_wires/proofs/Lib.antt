@@ -1,0 +1,7 @@
+pub mod Sums
+pub mod Calls
+pub mod Sends
+pub mod Orders
+pub mod Answers
+pub mod Steps
+pub mod Emptied
