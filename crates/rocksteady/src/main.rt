@@ -4,6 +4,7 @@
 //! [`run::run`] is the top call, whose contract ties the bytes written to those of the script.
 #![tactic(auto)]
 
+mod hint;
 mod run;
 #[cfg(test)]
 mod tests;
@@ -16,6 +17,7 @@ ghost use Rattle.rk_outside.specs.Replicas.{new_replica};
 ghost use Rattle.rocksteady.specs.Run.{IsPlayed, Refuses, is_play};
 ghost use Rattle.rocksteady.specs.Words.{words_after};
 
+use hint::KeepingSink;
 use rk_outside::{MemoryReplica, OpenGate, Sink, Source, StdSink, StdSource};
 use rk_types::{NoMemory, Status};
 use std::alloc::Global;
@@ -90,9 +92,19 @@ fn start<X: Threads + Wait + Sync, S: Source, K: Sink>(
     )
 }
 
+// Says on standard error what the code of a refusal means. Where that cannot be said, the status and the text say enough.
+fn tell_hint<K: Sink + Drop>(rt: &HostRuntime, sink: &KeepingSink<K>) {
+    if let Some(hint) = sink.hint() {
+        let _ = rt.eprintln(hint);
+    }
+}
+
 fn main(rt: HostRuntime) -> ExitCode {
     let mut source = StdSource::new(rt.reader());
-    let mut sink = StdSink::new(io::writer(&rt));
+    let mut sink = KeepingSink::new(rt.alloc(), StdSink::new(io::writer(&rt)));
     let status = start(&rt, rt.alloc(), env::args(&rt), &mut source, &mut sink);
+    if status == Status::Refused {
+        tell_hint(&rt, &sink);
+    }
     ExitCode::from(status.number())
 }

@@ -1,5 +1,6 @@
+use crate::hint::KeepingSink;
 use crate::run::run;
-use rk_outside::{MemorySink, MemorySource, OpenGate};
+use rk_outside::{MemorySink, MemorySource, OpenGate, put_all};
 use rk_types::Status;
 use std::alloc::Global;
 use std::process::Abort;
@@ -95,4 +96,27 @@ fn wrong_words_read_nothing(rt: HostRuntime) -> Result<(), Fail> {
     let source = MemorySource::new(SCRIPT.as_bytes());
     let failing = sink(rt.alloc())?.taking_nothing(&[1]);
     check(&rt, &[], source, failing, ("", Status::WriteFault))
+}
+
+#[test]
+fn refusals_are_explained(rt: HostRuntime) -> Result<(), Fail> {
+    let cases = [
+        (
+            "reply 1 1 absent\nrefused 4 10\n",
+            "code 10: the client has an outstanding call",
+        ),
+        (
+            "refused 0 20\n",
+            "code 20: the script has more than 16,777,216 bytes",
+        ),
+        ("tablet 1 owned 1\n", ""),
+        ("refused 4 22\n", ""),
+        ("", ""),
+    ];
+    for (text, wanted) in cases {
+        let mut keeping = KeepingSink::new(rt.alloc(), sink(rt.alloc())?);
+        assert!(rt; put_all(&mut keeping, text.as_bytes()).is_ok());
+        assert_eq!(rt; keeping.hint().unwrap_or(""), wanted);
+    }
+    Ok(())
 }
