@@ -1,0 +1,11 @@
+pub mod Going
+pub mod Fitting
+pub mod Asking
+pub mod Lanes
+pub mod Adding
+pub mod Reports
+pub mod Walks
+pub mod Rows
+pub mod Noticing
+pub mod Turns
+pub mod Runs

@@ -1,0 +1,4 @@
+pub mod Added
+pub mod Owners
+pub mod Sent
+pub mod Worn
