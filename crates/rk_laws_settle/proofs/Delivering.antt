@@ -1,0 +1,165 @@
+-- A message of a lane is delivered and forgotten: it is taken off the wire, and the other lanes are as they were.
+use Rattle.std.proofs.Common.{◌≡◌, ◌<◌, ℕ, Bool, true, false, cond, List, [], ◌∷◌, length, Option, None, Some, is_some, refl, sym, ap, subst, ◌∙◌, arith}
+use Rattle.std.proofs.lemmas.Bool.{true≢false}
+use Rattle.rk_types.specs.NumberMap.{get}
+use Rattle.rk_types.specs.declared.hashing.TheConstants.{LANES}
+use Rattle.rk_types.specs.declared.node.Node.{Node}
+use Rattle.rk_types.specs.declared.node.Node.TheVariants as nodes
+use Rattle.rk_message.specs.declared.message.Message.{Message}
+use Rattle.rk_world.specs.declared.error.StepError.{StepError}
+use Rattle.rk_world.specs.declared.event.Event.TheVariants as events
+use Rattle.rk_world.specs.Backup.{Called, Gave}
+use Rattle.rk_world.specs.Calls.{accept}
+use Rattle.rk_world.specs.Cluster.{Accepts, Cluster, Happens, Occurrence, lane_at, session_at}
+use Rattle.rk_world.specs.Refusals.{refusal}
+use Rattle.rk_world.specs.Step.{step, stepped_by}
+use Rattle.rk_world.specs.World.{World}
+use Rattle.rk_cluster.specs.Acted.{acted, worn_in}
+use Rattle.rk_cluster.specs.Delivering.{is_lost_at_backup}
+use Rattle.rk_cluster.specs.Looks.{is_client}
+use Rattle.rk_cluster.specs.Makes.{deliver_in_makes, delivery, delivery_of, has_receiver}
+use Rattle.rk_settle.specs.Course.{Course, occurrence_error, occurring}
+use Rattle.rk_settle.specs.Tasks.{forgets}
+use Rattle.rk_laws_wires.specs.Emptied.{Arrival, Accepts as takes, Delivers as reaches, Loses, arrived, forgotten, taken_off}
+use Rattle.rk_laws_duties.specs.Added.{AreAdded, MayGetSession}
+use Rattle.rk_laws_duties.proofs.Adding.{added_after}
+use Rattle.rk_laws_settle.proofs.Going.{Comes, Goes, IsAt, alone_fresh, goes_on, occurs_move, still_move}
+use Rattle.rk_laws_settle.proofs.Lanes.{ChangesLane, changes_none, stepped_changes, visited_changes}
+use Rattle.rk_laws_settle.proofs.Setting.{Setting, eight}
+use Rattle.rk_laws_settle.proofs.Tasks.{Task, delivers}
+
+-- ---- what is worn does not depend on what the call of a replica comes to
+
+step_worn : (w : World) (number : ℕ) (called other : Called) → worn_in (step w (events.Deliver number) called) ≡ worn_in (step w (events.Deliver number) other)
+step_worn w number called other = go (refusal w (events.Deliver number))
+  where
+    go : (refused : Option StepError) → worn_in (stepped_by w (events.Deliver number) called refused) ≡ worn_in (stepped_by w (events.Deliver number) other refused)
+    go None = refl
+    go (Some error) = refl
+
+delivery_worn : (cluster : Cluster) (lane number : ℕ) (called other : Called) (to : Node)
+    → (acted cluster (delivery lane number called to)).worn ≡ (acted cluster (delivery lane number other to)).worn
+delivery_worn cluster lane number called other (nodes.Client client) = refl
+delivery_worn cluster lane number called other nodes.Coordinator = step_worn (lane_at cluster lane) number called other
+delivery_worn cluster lane number called other (nodes.Master master) = step_worn (lane_at cluster lane) number called other
+delivery_worn cluster lane number called other (nodes.Backup backup) = step_worn (lane_at cluster lane) number called other
+
+-- ---- what a delivery makes
+
+-- a client that has a session
+pub has_session : (cluster : Cluster) (client : ℕ) → is_client cluster client ≡ true → MayGetSession cluster client
+has_session cluster client there none = absurd (true≢false (sym there ∙ ap is_some none))
+
+-- a message of a lane has arrived, and no other lane has changed
+record HasArrived (lane number : ℕ) (w : World) (before after : Cluster) : Type 0 where
+  arrival : Arrival
+  changes : ChangesLane lane (arrived w number arrival) before after
+
+delivery_arrives : (cluster : Cluster) (lane number : ℕ) (called : Called) → lane < length cluster.lanes → (to : Node)
+    → HasArrived lane number (lane_at cluster lane) cluster (acted cluster (delivery lane number called to)).cluster
+delivery_arrives cluster lane number called within (nodes.Client client) = record {
+  arrival = takes (session_at cluster client);
+  changes = visited_changes cluster lane within client (accept (lane_at cluster lane) number (session_at cluster client));
+}
+delivery_arrives cluster lane number called within nodes.Coordinator =
+    record { arrival = reaches called; changes = stepped_changes cluster lane within (step (lane_at cluster lane) (events.Deliver number) called) }
+delivery_arrives cluster lane number called within (nodes.Master master) =
+    record { arrival = reaches called; changes = stepped_changes cluster lane within (step (lane_at cluster lane) (events.Deliver number) called) }
+delivery_arrives cluster lane number called within (nodes.Backup backup) =
+    record { arrival = reaches called; changes = stepped_changes cluster lane within (step (lane_at cluster lane) (events.Deliver number) called) }
+
+delivery_adds : (cluster : Cluster) (lane number : ℕ) (called : Called) (to : Node) → has_receiver cluster to ≡ true → AreAdded cluster
+    → AreAdded (acted cluster (delivery lane number called to)).cluster
+delivery_adds cluster lane number called (nodes.Client client) there all =
+    added_after cluster (Accepts lane number client) (has_session cluster client there) all
+delivery_adds cluster lane number called nodes.Coordinator there all = added_after cluster (Happens lane (events.Deliver number) called) tt all
+delivery_adds cluster lane number called (nodes.Master master) there all = added_after cluster (Happens lane (events.Deliver number) called) tt all
+delivery_adds cluster lane number called (nodes.Backup backup) there all = added_after cluster (Happens lane (events.Deliver number) called) tt all
+
+-- ---- moves
+
+module _ (s : Setting) (lane : ℕ) (inside : lane < LANES) (number : ℕ) (rest : List Task) where
+  -- a message has arrived, and these tasks are left
+  record Arrives (w : World) (origin : Cluster) (course : Course) : Type 0 where
+    left : course.tasks ≡ rest
+    arrives : HasArrived lane number w origin course.cluster
+
+  delivering : (before : Cluster) (course : Course) (message : Message) → Comes s before course → course.tasks ≡ delivers lane number ∷ rest
+      → get (lane_at course.cluster lane).wire.messages number ≡ Some message → Goes s before course (Arrives (lane_at course.cluster lane) course.cluster)
+  delivering before course message comes are found = go (has_receiver course.cluster message.to) refl
+    where
+      called : Called
+      called = s.answers course
+
+      failed : Bool
+      failed = is_lost_at_backup course.cluster lane number called
+
+      makes : (it : Called) (b : Bool) → has_receiver course.cluster message.to ≡ b
+          → deliver_in_makes course.cluster lane number it ≡ cond b (delivery lane number it message.to ∷ []) []
+      makes it b is =
+          ap (λ (o : Option Message). delivery_of course.cluster lane number it o) found
+          ∙ ap (λ (c : Bool). cond c (delivery lane number it message.to ∷ []) []) is
+
+      go : (b : Bool) → has_receiver course.cluster message.to ≡ b → Goes s before course (Arrives (lane_at course.cluster lane) course.cluster)
+      go true there =
+          occurs_move s before course (delivers lane number) rest (delivery lane number called message.to) failed (Arrives (lane_at course.cluster lane) course.cluster) comes are
+          (ap (λ (list : List Occurrence). occurring course list failed rest) (makes called true there))
+          (λ none.
+          delivery_worn course.cluster lane number called (Gave None) message.to
+          ∙ alone_fresh course.cluster (delivery lane number (Gave None) message.to)
+          (ap (occurrence_error course.cluster) (sym (makes (Gave None) true there)) ∙ none))
+          (delivery_adds course.cluster lane number called message.to there comes.sane.added)
+          (λ next at fresh. record {
+            left = at.tasks_are;
+            arrives =
+                subst (HasArrived lane number (lane_at course.cluster lane) course.cluster) (sym at.cluster_is)
+                (delivery_arrives course.cluster lane number called (omega (arith, inside, eight s course comes.sane)) message.to);
+          })
+      go false away =
+          still_move s before course (delivers lane number) rest rest (Arrives (lane_at course.cluster lane) course.cluster) comes are
+          (subst (λ (list : List Occurrence). IsAt course.cluster rest (occurring course list failed rest)) (sym (makes called false away))
+          (record { cluster_is = refl; tasks_are = refl }))
+          (λ next at. record {
+            left = at.tasks_are;
+            arrives = record {
+              arrival = Loses;
+              changes = subst (ChangesLane lane (lane_at course.cluster lane) course.cluster) (sym at.cluster_is) (changes_none lane course.cluster);
+            };
+          })
+
+module _ (s : Setting) (lane : ℕ) (inside : lane < LANES) (number : ℕ) (rest : List Task) where
+  -- a message was taken off the wire of a lane, no other lane has changed, and these tasks are left
+  pub record IsOff (w : World) (origin : Cluster) (course : Course) : Type 0 where
+    pub left : course.tasks ≡ rest
+    pub arrival : Arrival
+    pub changes : ChangesLane lane (taken_off w number arrival) origin course.cluster
+
+  -- it is forgotten
+  forgetting : (before : Cluster) (w : World) (origin : Cluster) (course : Course) → Comes s before course → Arrives s lane inside number (forgets lane number ∷ rest) w origin course
+      → Goes s before course (IsOff w origin)
+  forgetting before w origin course comes arrives =
+      let now : World = lane_at course.cluster lane in
+      let first = arrives.arrives.changes in
+      let then_changes = stepped_changes course.cluster lane (omega (arith, inside, eight s course comes.sane)) (step now (events.Forget number) (Gave None)) in
+      occurs_move s before course (forgets lane number) rest (Happens lane (events.Forget number) (Gave None)) false (IsOff w origin) comes arrives.left refl
+      (alone_fresh course.cluster (Happens lane (events.Forget number) (Gave None)))
+      (added_after course.cluster (Happens lane (events.Forget number) (Gave None)) tt comes.sane.added)
+      (λ next at fresh. record {
+        left = at.tasks_are;
+        arrival = arrives.arrives.arrival;
+        changes =
+            subst (ChangesLane lane (taken_off w number arrives.arrives.arrival) origin) (sym at.cluster_is)
+            (record {
+              here = then_changes.here ∙ ap (λ (v : World). forgotten v number) first.here;
+              beside = λ q apart. then_changes.beside q apart ∙ first.beside q apart;
+              count = then_changes.count ∙ first.count;
+            });
+      })
+
+  -- a message is delivered and forgotten
+  pub taking_off : (before : Cluster) (course : Course) (message : Message) → Comes s before course → course.tasks ≡ delivers lane number ∷ forgets lane number ∷ rest
+      → get (lane_at course.cluster lane).wire.messages number ≡ Some message → Goes s before course (IsOff (lane_at course.cluster lane) course.cluster)
+  taking_off before course message comes are found =
+      goes_on s before course (Arrives s lane inside number (forgets lane number ∷ rest) (lane_at course.cluster lane) course.cluster) (IsOff (lane_at course.cluster lane) course.cluster)
+      (delivering s lane inside number (forgets lane number ∷ rest) before course message comes are found)
+      (λ later comes_later arrives. forgetting before (lane_at course.cluster lane) course.cluster later comes_later arrives)
