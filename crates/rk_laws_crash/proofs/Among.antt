@@ -1,9 +1,9 @@
 -- What stands in lists that are made of others: of each element's list, and of the numbers that entries name.
 use Rattle.std.proofs.Common.{◌≡◌, ℕ, zero, suc, ◌⊎◌, Bool, true, false, ◌||◌, eqb, List, [], ◌∷◌, ◌++◌, Some, refl, sym, ap, subst, ⊎_elim, inl, inr, arith}
 use Rattle.std.specs.Prelude.{fold, slice_get}
-use Rattle.std.specs.List.{All, Contains, flat_map}
+use Rattle.std.specs.List.{Contains, flat_map}
 use Rattle.std.proofs.lemmas.Bool.{cond_both, eqb-true}
-use Rattle.std.proofs.lemmas.List.Elements.{All-append, All-head, All-nil, All-tail, Contains-append_cases, Contains-append_left, Contains-append_right, Contains-push, Contains-push_cases}
+use Rattle.std.proofs.lemmas.List.Elements.{Contains-append_cases, Contains-append_left, Contains-append_right, Contains-push, Contains-push_cases}
 use Rattle.rk_types.specs.declared.range.Range.{Range}
 use Rattle.rk_entry.specs.Lists.{is_among}
 use Rattle.rk_entry.specs.declared.entry.Entry.{Entry}
@@ -27,13 +27,6 @@ place_there (y ∷ xs) x at =
     (contains_cases y xs x at)
 
 -- ---- lists of each
-
--- what each list has, the list of all has
-pub all_flat : {X Y : Type 0} (P : X → Type 0) (f : Y → List X) (list : List Y) → All (λ entry. All P (f entry)) list → All P (flat_map f list)
-all_flat P f [] each = All-nil P
-all_flat P f (entry ∷ list) each =
-    All-append P (f entry) (flat_map f list) (All-head (λ e. All P (f e)) entry list each)
-    (all_flat P f list (All-tail (λ e. All P (f e)) entry list each))
 
 -- what stands in the lists of all stands in that of one
 pub flat_from : {X Y : Type 0} (f : X → List Y) (xs : List X) (y : Y) → Contains (flat_map f xs) y → (x : X) × Contains xs x × Contains (f x) y

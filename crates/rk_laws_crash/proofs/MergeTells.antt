@@ -30,7 +30,8 @@ use Rattle.rk_sound.specs.Rebuilds.{TellNoMore, closing_carried}
 use Rattle.rk_laws_parts.proofs.Apart.{contains_cases}
 use Rattle.rk_laws_parts.proofs.Floors.{floor_above, floor_append, floor_rises, floor_step}
 use Rattle.rk_laws_parts.proofs.Lists.{all_by}
-use Rattle.rk_laws_crash.proofs.Among.{all_flat, flat_of}
+use Rattle.rk_laws_formed.proofs.Lists.{all_flat}
+use Rattle.rk_laws_crash.proofs.Among.{flat_of}
 
 -- an entry tells nothing that these do not
 pub record IsToldBy (others : List Entry) (entry : Entry) : Type 0 where

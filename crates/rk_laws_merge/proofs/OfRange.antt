@@ -25,7 +25,7 @@ use Rattle.rk_laws_merge.specs.Small.{piece_entries}
 use Rattle.rk_laws_parts.proofs.Apart.{key_outside}
 use Rattle.rk_laws_parts.proofs.Joining.{kept_stands}
 use Rattle.rk_laws_parts.proofs.Lists.{all_by}
-use Rattle.rk_laws_crash.proofs.Among.{all_flat}
+use Rattle.rk_laws_formed.proofs.Lists.{all_flat}
 
 -- ---- an entry of a rebuild of a range
 
