@@ -21,7 +21,8 @@ pub fn runs_lead_to_one_map()
     ensures { (cluster : Cluster) → IsLedTo cluster → IsOneMap cluster }
 {}
 
-/// Where `settle` has come to its end its cluster is quiet, so that the stored logs alone give the map there.
+/// Where `settle` has come to its end its cluster is quiet. If a run has led there too, the stored logs alone give the map, by
+/// `runs_lead_to_one_map`.
 pub fn settled_clusters_are_quiet()
     ensures { (cluster : Cluster) (calls : List Called) → (moved_all (course_of cluster (settle cluster)) calls).tasks ≡ []
         → IsQuietCluster (moved_all (course_of cluster (settle cluster)) calls).cluster }

@@ -11,6 +11,10 @@ ghost use Rattle.rk_laws_settle.specs.Moves.{AllAnswered, Answers, Ends, settlin
 /// Whatever the calls of replicas come to, each by all that has occurred before it, where replicas answer as they may and no lane outgrows its
 /// limits: after finitely many moves no task is left and the cluster is at rest, or `settle` stops, since a lane is worn or replicas have
 /// failed in too many rounds.
+///
+/// `IsRun` says of a list of occurrences that each may occur when it does (`rk_world`, ClusterRuns), `AreAdded` that clients with a session
+/// were added in each lane (`rk_laws_duties`, Added), and `AllAnswered` that replicas answer what they store, or fail, and that the lane of
+/// each event has room after it (Moves here, over `rk_laws_play`, Answered).
 pub fn settle_ends()
     ensures { (masters backups : ℕ) (before : List Occurrence) (answers : Answers)
         → masters ≤ MOST_MASTERS → 1 ≤ backups → backups ≤ MOST_BACKUPS → IsRun (new_cluster masters backups) before

@@ -32,8 +32,8 @@ const DEFAULT_COUNT: u8 = 2;
 /// Plays the script that the source has, and writes its text to the sink.
 ///
 /// The replicas hold nothing; backup b of lane l has the one at place 8 * (b - 1) + l, counted from 0. Unless memory was
-/// wanting they come back in their order: they tell what the backups store at the end, and those of backups that are not there
-/// are as they were. A script that is too long is read up to one piece past the longest.
+/// wanting or the source failed, they come back in their order, and those of backups that are there tell what these store at the
+/// end. A script that is too long is read up to one piece past the longest.
 pub fn play<S: Source, K: Sink, R: Replica + Drop>(
     alloc: Global,
     source: &mut S,

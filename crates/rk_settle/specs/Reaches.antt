@@ -45,7 +45,7 @@ abbrev pub is_source_frozen : World → Row → ℕ → Bool
 is_source_frozen w row source = is_frozen_at (tablet_in w source row.tablet) row.term
 
 -- whether a migration has come to a reach: it has begun once the target's place is known, the source is frozen or not, the target is
--- granted the tablet, has pulled all or has joined, and it is finished once the row is owned again
+-- granted the tablet, has pulled all or has joined, and it is finished once the row does not move any more
 abbrev pub is_at_reach : World → Row → Phase → Reach → Bool
 is_at_reach w row (Opening source sfrom target dfrom) Begun = is_some dfrom
 is_at_reach w row (Opening source sfrom target dfrom) Frozen = is_source_frozen w row source
