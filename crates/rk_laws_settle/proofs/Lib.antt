@@ -1,3 +1,12 @@
+pub mod SameNumbers
+pub mod OwnClients
+pub mod Owning
+pub mod OwnTasks
+pub mod AddingNobody
+pub mod OwnCourses
+pub mod Joining
+pub mod Commands
+pub mod Scripts
 pub mod Turning
 pub mod Noticing
 pub mod Lanes

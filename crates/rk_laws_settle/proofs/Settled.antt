@@ -60,7 +60,7 @@ module _ (answers : Answers) (masters backups : ℕ) (cluster : Cluster) (reache
       (λ later comes follows noticed. rounds s cluster later comes noticed.0 noticed.1)
 
   -- from a cluster to which a run of a new one has led
-  reached_ends : Ends answers (settling cluster)
+  pub reached_ends : Ends answers (settling cluster)
   reached_ends = record {
     moves = goes.moves;
     over =

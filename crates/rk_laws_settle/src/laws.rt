@@ -1,11 +1,15 @@
-// The headline law of settling. The function does nothing: its contract is the law.
+// The headline laws of settling. Each function does nothing: its contract is the law.
 ghost use Rattle.std.specs.Prelude.{◌≤◌, ℕ, List};
 ghost use Rattle.rk_log.specs.declared.copied.TheConstants.{MOST_BACKUPS};
+ghost use Rattle.rk_world.specs.Backup.{Called};
 ghost use Rattle.rk_world.specs.Cluster.{Occurrence, cluster_run, new_cluster};
 ghost use Rattle.rk_world.specs.ClusterRuns.{IsRun};
 ghost use Rattle.rk_world.specs.Premises.{MOST_MASTERS};
+ghost use Rattle.rk_play.specs.Played.{played};
+ghost use Rattle.rk_play.specs.Runs.{IsLedTo};
 ghost use Rattle.rk_laws_duties.specs.Added.{AreAdded};
 ghost use Rattle.rk_laws_settle.specs.Moves.{AllAnswered, Answers, Ends, settling};
+ghost use Rattle.rk_laws_settle.specs.Scripts.{Settles};
 
 /// `settle` ends. It begins in a cluster to which a run of a new one has led, and where each client that has a session was added in each lane.
 /// Whatever the calls of replicas come to, each by all that has occurred before it, where replicas answer as they may and no lane outgrows its
@@ -20,4 +24,18 @@ pub fn settle_ends()
         → masters ≤ MOST_MASTERS → 1 ≤ backups → backups ≤ MOST_BACKUPS → IsRun (new_cluster masters backups) before
         → let cluster = cluster_run (new_cluster masters backups) before in
         AreAdded cluster → AllAnswered answers cluster → Ends answers (settling cluster) }
+{}
+
+/// `settle` ends where the run of a script has ended, whatever the script says and however its run ended: there each client that has a session
+/// was added in each lane (`added`). It is so where a run of a new cluster has led there (`led`), as `play` tells of each script, unless memory
+/// was wanting or its source or its sink failed; and one has where replicas answered as they may in the script and no lane outgrew its limits
+/// (`answered`).
+///
+/// `IsLedTo` says that a run of a new cluster has led there (`rk_play`, Runs), and `Settles` is `answered` in full (Scripts here).
+pub fn scripts_settle()
+    ensures added { (script : List ℕ) (calls : List (List Called)) → AreAdded (played script calls).cluster }
+    ensures led { (script : List ℕ) (calls : List (List Called)) (answers : Answers)
+        → let cluster = (played script calls).cluster in
+        IsLedTo cluster → AllAnswered answers cluster → Ends answers (settling cluster) }
+    ensures answered { (script : List ℕ) (calls : List (List Called)) (answers : Answers) → Settles answers (played script calls) }
 {}

@@ -1,0 +1,76 @@
+-- Maps by number that have the same numbers, whatever stands under these.
+use Rattle.std.proofs.Common.{◌≡◌, ◌&&◌, ℕ, Bool, true, List, [], ◌∷◌, T, length, Option, None, Some, refl, sym, ap, subst, ◌∙◌, ⊎_elim}
+use Rattle.std.specs.Prelude.{is_some}
+use Rattle.std.specs.List.{list_any}
+use Rattle.std.specs.Ordering.{eq_by_cmp, is_lt, nat_cmp}
+use Rattle.std.specs.FinMap.Entries.{below_all, by_order, is_some-find, is_sorted}
+use Rattle.std.specs.declared.cmp.Ordering.TheVariants.{Equal, Greater, Less}
+use Rattle.std.proofs.lemmas.Bool.{cases_eq}
+use Rattle.std.proofs.lemmas.List.{length-map}
+use Rattle.rk_types.specs.NumberMap.{IsInOrder, NumberMap, get, insert, numbers}
+use Rattle.rk_types.proofs.NumberMaps.{get_other, get_same, in_order_insert, same_map}
+
+-- a number in its place among rising ones, once
+abbrev with_number : ℕ → List ℕ → List ℕ
+with_number number [] = number ∷ []
+with_number number (first ∷ rest) =
+    by_order (nat_cmp number first) (number ∷ first ∷ rest) (first ∷ rest) (first ∷ with_number number rest)
+
+-- whether a number is below all of these
+abbrev is_below : ℕ → List ℕ → Bool
+is_below number [] = true
+is_below number (first ∷ rest) = is_lt (nat_cmp number first) && is_below number rest
+
+-- whether numbers rise
+abbrev are_rising : List ℕ → Bool
+are_rising [] = true
+are_rising (first ∷ rest) = is_below first rest && are_rising rest
+
+module _ {X : Type 0} where
+  numbers_insert : (things : NumberMap X) (number : ℕ) (thing : X) → numbers (insert things number thing) ≡ with_number number (numbers things)
+  numbers_insert [] number thing = refl
+  numbers_insert (first ∷ rest) number thing =
+      elim (nat_cmp number first.0) as (λ o. numbers (by_order o ((number, thing) ∷ first ∷ rest) ((first.0, thing) ∷ rest) (first ∷ insert rest number thing)) ≡ by_order o (number ∷ first.0 ∷ numbers rest) (first.0 ∷ numbers rest) (first.0 ∷ with_number number (numbers rest))) [
+        | Less ↦ refl
+        | Equal ↦ refl
+        | Greater ↦ ap (λ (later : List ℕ). first.0 ∷ later) (numbers_insert rest number thing)
+      ]
+
+  below_is : (number : ℕ) (things : NumberMap X) → below_all nat_cmp number things ≡ is_below number (numbers things)
+  below_is number [] = refl
+  below_is number (first ∷ rest) = ap (λ (b : Bool). is_lt (nat_cmp number first.0) && b) (below_is number rest)
+
+  rising_is : (things : NumberMap X) → is_sorted nat_cmp things ≡ are_rising (numbers things)
+  rising_is [] = refl
+  rising_is (first ∷ rest) = λ i. below_is first.0 rest i && rising_is rest i
+
+  -- another thing under a number that is there
+  pub numbers_kept : (things : NumberMap X) (number : ℕ) (thing : X) → IsInOrder things → is_some (get things number) ≡ true → numbers (insert things number thing) ≡ numbers things
+  numbers_kept things number thing order there = go (get things number) refl there
+    where
+      go : (found : Option X) → get things number ≡ found → is_some found ≡ true → numbers (insert things number thing) ≡ numbers things
+      go None is some = absurd (cc some)
+      go (Some known) is some =
+          numbers_insert things number thing ∙ sym (numbers_insert things number known)
+          ∙ ap (λ (all : NumberMap X). numbers all)
+          (same_map (insert things number known) things (in_order_insert things number known order) order
+          (λ q. ⊎_elim (λ (same : q ≡ number). get_same things number known q same ∙ sym (ap (get things) same ∙ is))
+          (λ (apart : q ≡ number → ⊥). get_other things number known q apart) (cases_eq q number)))
+
+module _ {X Y : Type 0} (things : NumberMap X) (others : NumberMap Y) (same : numbers things ≡ numbers others) where
+  -- who is in one is in the other
+  pub found_alike : (number : ℕ) → is_some (get things number) ≡ is_some (get others number)
+  found_alike number =
+      is_some-find nat_cmp number things ∙ ap (list_any (eq_by_cmp nat_cmp number)) same ∙ sym (is_some-find nat_cmp number others)
+
+  pub as_many : length things ≡ length others
+  as_many =
+      sym (length-map things (λ (entry : ℕ × X). entry.0)) ∙ ap (λ (list : List ℕ). length list) same
+      ∙ length-map others (λ (entry : ℕ × Y). entry.0)
+
+  pub in_order_alike : IsInOrder others → IsInOrder things
+  in_order_alike order = subst T (sym (rising_is things ∙ ap are_rising same ∙ sym (rising_is others))) order
+
+  pub insert_alike : (number : ℕ) (thing : X) (other : Y) → numbers (insert things number thing) ≡ numbers (insert others number other)
+  insert_alike number thing other =
+      numbers_insert things number thing ∙ ap (with_number number) same ∙ sym (numbers_insert others number other)
