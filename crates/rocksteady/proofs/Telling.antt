@@ -8,6 +8,7 @@ use Rattle.rk_world.specs.Backup.{Called}
 use Rattle.rk_laws_play.specs.Historical.{IsHistorical}
 use Rattle.rk_laws_play.proofs.Led.{one_map}
 use Rattle.rk_laws_play.proofs.Playing.{scripts_historical}
+use Rattle.rk_laws_answers.proofs.Playing.{script_answers}
 use Rattle.rk_play.specs.Played.{played}
 use Rattle.rk_play.specs.Runs.{Plays}
 use Rattle.rocksteady.specs.Run.{IsWhole, PlaysOneMap}
@@ -26,6 +27,7 @@ plays_one_map : {R : Type 0} (segments : R → Option Segments) (script : List �
     → Plays segments script status old new replicas → PlaysOneMap segments script status old new replicas
 plays_one_map segments script status old new replicas plays = record {
   plays = plays;
+  answers = script_answers script plays.calls;
   one_map = λ whole.
       one_map (played script plays.calls).cluster
       (plays.led (whole_apart status NoMemory whole (λ never. never)) (whole_apart status ReadFault whole (λ never. never)) (whole_apart status WriteFault whole (λ never. never)));

@@ -59,9 +59,9 @@ pub fn run<X: Threads + Wait + Sync, S: Source, K: Sink, R: Replica + Send + Dro
 ) -> Status
     requires { length replicas.old.items ≡ 32 }
 
-    // What the sink holds afterwards and what the replicas tell, by the status. The answers are those of one map: whatever the
-    // script, and whatever the calls of replicas came to, the journals at the end of a run that was played to its end make one
-    // lawful history that is ordered with the sessions.
+    // What the sink holds afterwards and what the replicas tell, by the status. The answers are those of one map: the replies that
+    // were written are the receipts of the sessions, client by client; and whatever the script, and whatever the calls of replicas
+    // came to, the journals at the end of a run that was played to its end make one lawful history that is ordered with the sessions.
     ensures play { is_play (map string_bytes words.now) ≡ true → AreEmpty R.segments replicas.old.items
         → IfSome (S.left source.old) (λ script.
         PlaysOneMap R.segments script result (K.written sink.old) (K.written sink.new) replicas.new.items) }

@@ -1,0 +1,6 @@
+pub mod Telling
+pub mod Receipts
+pub mod Along
+pub mod Moves
+pub mod Effects
+pub mod Playing
