@@ -109,7 +109,7 @@ hears_one cluster (Accepts lane number client) own =
   where
     go : (refused : Option StepError)
         → Hears cluster (cluster_visited cluster lane client (accept_by (lane_at cluster lane) number (session_at cluster client) refused))
-          (said_in (session_at cluster client) (accept_by (lane_at cluster lane) number (session_at cluster client) refused))
+        (said_in (session_at cluster client) (accept_by (lane_at cluster lane) number (session_at cluster client) refused))
     go None =
         let session : Session = session_at cluster client in
         let found = get (lane_at cluster lane).wire.messages number in

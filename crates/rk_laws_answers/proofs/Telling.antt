@@ -133,13 +133,13 @@ module _ (client : ℕ) (session : Session) (call : Call) (own : IsOwn client se
   -- the reply that tells a receipt, as another client hears it
   heard : (other : ℕ) (receipt : Receipt) (b : Bool) → eqb call.client other ≡ b
       → replies_to other (says.Reply call.client receipt.call.seq receipt.outcome ∷ [])
-        ≡ cond b (says.Reply call.client receipt.call.seq receipt.outcome ∷ []) []
+      ≡ cond b (says.Reply call.client receipt.call.seq receipt.outcome ∷ []) []
   heard other receipt b is =
       ap (λ (test : Bool). cond test (says.Reply call.client receipt.call.seq receipt.outcome ∷ []) []) is
 
   done_tells : (reply : Reply) (outcome : Outcome)
       → Tells client session (done session call reply outcome)
-        (reply_of call.client (last_receipt (done session call reply outcome).receipts))
+      (reply_of call.client (last_receipt (done session call reply outcome).receipts))
   done_tells reply outcome =
       let receipt : Receipt = receipt_of call reply outcome in
       subst (λ (last : Option Receipt). Tells client session (done session call reply outcome) (reply_of call.client last))
@@ -186,7 +186,7 @@ module _ (client : ℕ) (session : Session) (call : Call) (own : IsOwn client se
 module _ (w : World) (client : ℕ) (session : Session) (own : IsOwn client session) where
   of_tells : (out : Option Call) → IfSome out (λ call. call.client ≡ client) → (body : Body)
       → Tells client session (accepted_of session out body).session
-        (said_by out (accepted_of session out body).session.receipts (Some (accepted_of session out body).taken))
+      (said_by out (accepted_of session out body).session.receipts (Some (accepted_of session out body).taken))
   of_tells None of_client body = quiet_tells client session [] own (λ other. refl)
   of_tells (Some call) of_client body = by_tells client session call own of_client body
 
@@ -201,7 +201,7 @@ module _ (w : World) (client : ℕ) (session : Session) (own : IsOwn client sess
   -- a client takes what is found on the wire
   pub accepting_tells : (found : Option Message)
       → Tells client session (accepting w session found).session
-        (said_by session.outstanding (accepting w session found).session.receipts (accepting w session found).seen.taken)
+      (said_by session.outstanding (accepting w session found).session.receipts (accepting w session found).seen.taken)
   accepting_tells None = nothing_tells session.outstanding
   accepting_tells (Some message) =
       elim (is_asked_here w session) as
