@@ -148,7 +148,7 @@ module _ {R : Type 0} (segments : R → Option Segments) (lanes : List (LaneStat
           leads =
               subst (λ (found : Option Session). Leads cluster (called_by_client cluster client table key op found)) here
               (leads_by cluster (Calls client table key op)
-              (subst (λ (found : Option Session). IsLawfulCall (next_call (unwrap_or found (new_session client)) table key op)) (sym here) lawful) tt tt tt);
+              (subst (λ (found : Option Session). IsLawfulCall (next_call (unwrap_or found (new_session client)) table key op)) (sym here) lawful) tt tt);
           said = refl;
           worn = refl;
         })

@@ -197,7 +197,7 @@ module _ {R : Type 0} (segments : R → Option Segments) where
       (session_at cluster client) (session_is cluster lanes sessions place client old new session later there found order is)
       (leads_by cluster (Asks place client)
       (within_cluster cluster lanes sessions place client old new session later there found order is, after_start cluster lanes sessions place client old new session later there found order is)
-      tt tt tt)
+      tt tt)
 
   pub accepts : (lanes : List (LaneState R)) (sessions : NumberMap Session) (place number client : ℕ) (old new : LaneState R) (session later : Session) (answer : Result Seen StepError)
       → slice_get lanes place ≡ Some old → get sessions client ≡ Some session → IsInOrder sessions → VisitsLane (λ w. accept w number session) old new session later answer
@@ -205,7 +205,7 @@ module _ {R : Type 0} (segments : R → Option Segments) where
   accepts lanes sessions place number client old new session later answer there found order visits cluster is =
       accepted_by_known cluster lanes sessions place client old new session later there found order is number answer visits
       (session_at cluster client) (session_is cluster lanes sessions place client old new session later there found order is)
-      (leads_by cluster (Accepts place number client) (within_cluster cluster lanes sessions place client old new session later there found order is) tt tt tt)
+      (leads_by cluster (Accepts place number client) (within_cluster cluster lanes sessions place client old new session later there found order is) tt tt)
 
 -- who has a session keeps one
 pub has_after : (sessions : NumberMap Session) (client : ℕ) (later : Session) (other : ℕ) → HasSession sessions other → HasSession (insert sessions client later) other

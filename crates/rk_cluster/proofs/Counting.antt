@@ -1,5 +1,5 @@
 -- How many masters and backups the lanes of a cluster have, and that an event may come to one of them.
-use Rattle.std.proofs.Common.{◌≡◌, ℕ, zero, suc, List, [], ◌∷◌, All, length, replicate, refl, ap, subst, ◌∙◌, arith}
+use Rattle.std.proofs.Common.{◌≡◌, ℕ, zero, suc, List, [], ◌∷◌, All, length, replicate, refl, ap, ◌∙◌, arith}
 use Rattle.std.proofs.lemmas.List.Elements.{All-cons, All-head, All-nil, All-tail}
 use Rattle.rk_types.specs.declared.hashing.TheConstants.{LANES}
 use Rattle.rk_world.specs.Premises.{MayHappen}
@@ -8,7 +8,7 @@ use Rattle.rk_world.specs.declared.event.Event.{Event}
 use Rattle.rk_lane.specs.LaneState.{LaneState}
 use Rattle.rk_cluster.specs.Masters.{HasBackups, backup_counts, backups_in, backups_of, masters_in}
 use Rattle.rk_cluster.specs.State.{ClusterState}
-use Rattle.rk_cluster.specs.Steps.{AreLanes, IsPlain, MayComeAt, state_of}
+use Rattle.rk_cluster.specs.Steps.{AreLanes, IsPlain, MayComeAt}
 use Rattle.rk_cluster.proofs.Deeds.{may_come}
 use Rattle.rk_cluster.proofs.Worlds.{masters_at}
 

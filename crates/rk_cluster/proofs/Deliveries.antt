@@ -16,7 +16,7 @@ use Rattle.rk_world.specs.Premises.{MayCome}
 use Rattle.rk_world.specs.Step.{step}
 use Rattle.rk_world.specs.declared.event.Event.TheVariants as events
 use Rattle.rk_lane.specs.LaneState.{LaneState}
-use Rattle.rk_cluster.specs.Acted.{Acted, acted, all_acted, going_on, lost_in}
+use Rattle.rk_cluster.specs.Acted.{acted, all_acted, lost_in}
 use Rattle.rk_cluster.specs.Codes.{place_code}
 use Rattle.rk_cluster.specs.Delivering.{Delivers, IsDelivery, is_backup, is_lost_at_backup}
 use Rattle.rk_cluster.specs.Effects.{Acts, ActsBy, ActsOne, BySomeCall, EndsIn, HasCode, IsActedAs, IsCarriedOut}

@@ -8,11 +8,10 @@ use Rattle.rk_outside.specs.Segments.{Segments}
 use Rattle.rk_world.specs.Backup.{Called, Gave}
 use Rattle.rk_world.specs.Client.{Session}
 use Rattle.rk_world.specs.Cluster.{Cluster, Happens, cluster_stepped, lane_at}
-use Rattle.rk_world.specs.ClusterRuns.{HasRoomAfter, Leads}
+use Rattle.rk_world.specs.ClusterRuns.{Leads}
 use Rattle.rk_world.specs.Premises.{MayCome, MayHappen}
 use Rattle.rk_world.specs.Refusals.{comes_anyway, fault_of, refusal, worn}
 use Rattle.rk_world.specs.Replicas.{AllTell, IsTold}
-use Rattle.rk_world.specs.Room.{HasRoom}
 use Rattle.rk_world.specs.Runs.{IsCalmEvent}
 use Rattle.rk_world.specs.Step.{Stepped, step, stepped_by, told_by_replica}
 use Rattle.rk_world.specs.World.{World, new_world}
@@ -60,12 +59,11 @@ module _ (w : World) (stored : NumberMap Segments) where
 
 -- ---- an event might come to a lane
 
-pub record MightCome (w : World) (event : Event) (called : Called) (after : World) : Type 0 where
+pub record MightCome (w : World) (event : Event) (called : Called) : Type 0 where
   pub may : MayHappen w event
   pub come : MayCome called
   pub calm : IsCalmEvent w event
   pub told : AllTell w → IsTold w event called
-  pub room : HasRoom after
 
 told_so : (w : World) (event : Event) (called : Called) → IsAnswerOf (told_by_replica w event) called → IsTold w event called
 told_so w event called answers =
@@ -76,7 +74,7 @@ told_so w event called answers =
 module _ {R : Type 0} (segments : R → Option Segments) (faults : R → ℕ) where
   -- what comes of an event in a lane: it took it, and it might come there, or it refused it
   abbrev pub HasStepped : LaneState R → LaneState R → Option ℕ → World → Event → Called → Result Stepped StepError → Type 0
-  HasStepped old new broken w event called (Ok stepped) = IsWorld segments new stepped.world × (broken ≡ None) × MightCome w event called stepped.world
+  HasStepped old new broken w event called (Ok stepped) = IsWorld segments new stepped.world × (broken ≡ None) × MightCome w event called
   HasStepped old new broken w event called (Err error) = (new ≡ old) × (broken ≡ worn_by error)
 
   -- so it is in each world that a lane stands for
@@ -95,13 +93,11 @@ module _ {R : Type 0} (segments : R → Option Segments) (faults : R → ℕ) wh
       let from : IsStepFrom segments (world_with old it.before is.stored) event it.called new it.after seen = it.stepped is.stored is.told in
       let world_is : w ≡ world_with old it.before is.stored = is.is ∙ ap (λ (running : Running). world_with old running is.stored) running_is in
       let before : World = world_with old it.before is.stored in
-      let after : World = world_with new it.after from.backups in
-      let might : MightCome before event it.called after = record {
+      let might : MightCome before event it.called = record {
         may = may_happen_same (world_with old it.before []) before event refl it.comes.may;
         come = it.may;
         calm = calm_same before (length old.backups) [] event it.comes.calm;
         told = λ tell. told_so before event it.called (from.given tell);
-        room = record { number = it.room.number; bytes = it.room.bytes; masters = it.room.masters };
       } in
       subst (λ (v : World). HasStepped old new None v event it.called (step v event it.called)) (sym world_is)
       (subst (HasStepped old new None before event it.called) (sym from.stepped)
@@ -147,8 +143,7 @@ module _ {R : Type 0} (segments : R → Option Segments) (faults : R → ℕ) wh
     step_leads : (stepped : Result Stepped StepError) → step (lane_at cluster place) event called ≡ stepped → Stood stepped → Leads cluster (cluster_stepped cluster place stepped)
     step_leads (Ok stepped) stepped_is has =
         subst (λ (it : Result Stepped StepError). Leads cluster (cluster_stepped cluster place it)) stepped_is
-        (leads_by cluster (Happens place event called) (within_cluster, has.2.may, has.2.come) has.2.calm has.2.told
-        (subst HasRoomAfter (sym stepped_is) has.2.room))
+        (leads_by cluster (Happens place event called) (within_cluster, has.2.may, has.2.come) has.2.calm has.2.told)
     step_leads (Err error) stepped_is has = leads_nowhere cluster
 
     step_acted : (stepped : Result Stepped StepError) → Stood stepped → Leads cluster (cluster_stepped cluster place stepped)

@@ -123,7 +123,7 @@ module _ {R : Type 0} (segments : R → Option Segments) where
         cluster = record { lanes = is.lanes; sessions = ap (λ (known : NumberMap Session). insert known client (new_session client)) is.sessions };
         leads =
             subst (λ (found : Option Session). Leads cluster (joined_by cluster client found)) none
-            (leads_by cluster (Joins client) number tt tt tt);
+            (leads_by cluster (Joins client) number tt tt);
         said = refl;
         worn = refl;
       })

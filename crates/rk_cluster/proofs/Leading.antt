@@ -1,7 +1,7 @@
 -- Runs that lead from one cluster to another, one after the other.
 use Rattle.std.proofs.Common.{◌≡◌, List, [], ◌∷◌, ◌++◌, refl, ap, subst, sym, ◌∙◌}
 use Rattle.rk_world.specs.Cluster.{Cluster, ClusterMay, KeepsCalm, Occurrence, cluster_after, cluster_run}
-use Rattle.rk_world.specs.ClusterRuns.{IsRun, LaneHasRoom, Leads, ReplicasTell}
+use Rattle.rk_world.specs.ClusterRuns.{IsRun, Leads, ReplicasTell}
 
 -- a run goes on where the first part of it ended
 pub runs_join : (cluster : Cluster) (before after : List Occurrence) → cluster_run cluster (before ++ after) ≡ cluster_run (cluster_run cluster before) after
@@ -11,7 +11,7 @@ runs_join cluster (occurrence ∷ before) after = runs_join (cluster_after clust
 pub run_on : (cluster : Cluster) (before after : List Occurrence) → IsRun cluster before → IsRun (cluster_run cluster before) after → IsRun cluster (before ++ after)
 run_on cluster [] after first second = second
 run_on cluster (occurrence ∷ before) after first second =
-    (first.0, first.1, first.2, first.3, run_on (cluster_after cluster occurrence) before after first.4 second)
+    (first.0, first.1, first.2, run_on (cluster_after cluster occurrence) before after first.3 second)
 
 -- where nothing occurs
 pub leads_nowhere : (cluster : Cluster) → Leads cluster cluster
@@ -19,8 +19,8 @@ leads_nowhere cluster = record { occurred = []; run = tt; is = refl }
 
 -- where one thing occurs
 pub leads_by : (cluster : Cluster) (occurrence : Occurrence) → ClusterMay cluster occurrence → KeepsCalm cluster occurrence → ReplicasTell cluster occurrence
-    → LaneHasRoom cluster occurrence → Leads cluster (cluster_after cluster occurrence)
-leads_by cluster occurrence may calm tell room = record { occurred = occurrence ∷ []; run = (may, calm, tell, room, tt); is = refl }
+    → Leads cluster (cluster_after cluster occurrence)
+leads_by cluster occurrence may calm tell = record { occurred = occurrence ∷ []; run = (may, calm, tell, tt); is = refl }
 
 -- where one run follows another
 pub leads_on : (before middle after : Cluster) → Leads before middle → Leads middle after → Leads before after

@@ -1,8 +1,7 @@
 -- How a client sends its last request again: it reaches a master.
-use Rattle.std.proofs.Common.{◌≡◌, ◌<◌, ◌≤◌, ◌+◌, ℕ, zero, suc, Bool, true, false, not, List, [], ◌∷◌, ◌++◌, length, slice_get, slice_set, slice_index_or, is_none, is_some, unwrap_or, Option, Some, None, IfSome, Result, Ok, Err, refl, sym, ap, subst, ◌∙◌, arith}
+use Rattle.std.proofs.Common.{◌≡◌, ◌<◌, ◌≤◌, ◌+◌, ℕ, zero, suc, Bool, true, false, not, List, [], ◌∷◌, length, slice_get, slice_set, slice_index_or, is_none, is_some, unwrap_or, Option, Some, None, IfSome, Result, Ok, Err, refl, sym, ap, subst, ◌∙◌, arith}
 use Rattle.std.proofs.lemmas.Option.{slice_get_within}
 use Rattle.rk_types.specs.NumberMap.{NumberMap, get}
-use Rattle.rk_types.specs.declared.node.Said.{Said}
 use Rattle.rk_outside.specs.Segments.{Segments}
 use Rattle.rk_types.proofs.NumberMaps.{get_same}
 use Rattle.rk_types.specs.declared.node.Node.{Node}
@@ -21,7 +20,7 @@ use Rattle.rk_world.specs.Client.{Session, new_session}
 use Rattle.rk_world.specs.Cluster.{Cluster, Happens, Occurrence, cluster_stepped, lane_at, session_at}
 use Rattle.rk_lane.specs.LaneState.{LaneState, Running, world_with}
 use Rattle.rk_lane.specs.Requests.{AreForMasters, IsOfMaster}
-use Rattle.rk_cluster.specs.Acted.{Acted, acted, all_acted, going_on, worn_in}
+use Rattle.rk_cluster.specs.Acted.{acted, all_acted, worn_in}
 use Rattle.rk_cluster.specs.Again.{IsNextIn, IsSentAgain, again_at}
 use Rattle.rk_cluster.specs.Codes.{again_code, code_where, first_code}
 use Rattle.rk_cluster.specs.Effects.{Acts, ActsBy, ActsOne, HasCode, IsActedAs}

@@ -37,7 +37,7 @@ run_pushed cluster (first ∷ before) last = run_pushed (cluster_after cluster f
 is_run_pushed : (cluster : Cluster) (before : List Occurrence) (last : Occurrence) → IsRun cluster before → IsRun (cluster_run cluster before) (last ∷ []) → IsRun cluster (before ++ last ∷ [])
 is_run_pushed cluster [] last run one = one
 is_run_pushed cluster (first ∷ before) last run one =
-    (run.0, run.1, run.2, run.3, is_run_pushed (cluster_after cluster first) before last run.4 one)
+    (run.0, run.1, run.2, is_run_pushed (cluster_after cluster first) before last run.3 one)
 
 -- ---- each lane of a cluster stays free of dead owners
 
@@ -108,8 +108,8 @@ module _ (masters backups : ℕ) (few : masters ≤ MOST_MASTERS) (backed : 1 �
   free_later before (next ∷ later) ran run each =
       let is = run_pushed start before next in
       subst (λ (cluster : Cluster). EachLane IsFree (cluster_run cluster later)) is
-      (free_later (before ++ next ∷ []) later (is_run_pushed start before next ran (run.0, run.1, run.2, run.3, tt))
-      (subst (λ (cluster : Cluster). IsRun cluster later) (sym is) run.4)
+      (free_later (before ++ next ∷ []) later (is_run_pushed start before next ran (run.0, run.1, run.2, tt))
+      (subst (λ (cluster : Cluster). IsRun cluster later) (sym is) run.3)
       (subst (EachLane IsFree) (sym is) (free_after (cluster_run start before) (crashed_after before ran) each next)))
 
   -- no row is owned by a master that was noticed dead

@@ -124,4 +124,4 @@ module _ (Steady : World → Type 0) (masters : ℕ) where
     good_run cluster [] good run = good
     good_run cluster (occurrence ∷ later) good run =
         good_run (cluster_after cluster occurrence) later
-        (occurs Steady masters events_keep clients_keep cluster good tells occurrence run.0 run.1 run.2 run.3) run.4
+        (occurs Steady masters events_keep clients_keep cluster good tells occurrence run.0 run.1 run.2) run.3

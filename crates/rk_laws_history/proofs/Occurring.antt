@@ -1,10 +1,10 @@
 -- A good cluster stays good at all that occurs in it, where events keep lanes sound.
-use Rattle.std.proofs.Common.{◌≡◌, ℕ, ◌<◌, Bool, true, false, cond, List, Option, Some, None, length, refl, sym, ap, subst, ◌∙◌, ⊎_elim, arith, ◌≤◌}
+use Rattle.std.proofs.Common.{◌≡◌, ℕ, ◌<◌, Bool, true, false, cond, List, Option, Some, None, length, refl, sym, ap, subst, ◌∙◌, ⊎_elim, ◌≤◌}
 use Rattle.std.specs.Prelude.{IfSome, Ok, Result, not, unwrap_or}
 use Rattle.std.specs.Int.{w32}
 use Rattle.std.specs.Option.{option_map, option_or}
 use Rattle.std.proofs.lemmas.Bool.{cases_lt}
-use Rattle.std.proofs.lemmas.List.{get_or_past, length-set}
+use Rattle.std.proofs.lemmas.List.{get_or_past}
 use Rattle.std.proofs.lemmas.Option.{IfSome_then}
 use Rattle.rk_types.specs.NumberMap.{get}
 use Rattle.rk_types.specs.declared.call.Call.{Call}
@@ -20,7 +20,7 @@ use Rattle.rk_world.specs.Backup.{Called}
 use Rattle.rk_world.specs.Calls.{Visited, accept, accept_by, accepting, ask, ask_by, asked_by_session, asking, asking_by, fits_with, is_asked_here, taking, untouched}
 use Rattle.rk_world.specs.Client.{ClientTurn, Session, busy, call_lane, new_session, next_call, session_calling, session_turn, with_next_call}
 use Rattle.rk_world.specs.Cluster.{Accepts, Asks, Calls, Cluster, ClusterMay, Happens, Joins, KeepsCalm, Occurrence, called_by_client, cluster_after, cluster_stepped, cluster_visited, joined_by, lane_at, session_at, with_lane, with_session}
-use Rattle.rk_world.specs.ClusterRuns.{HasRoomAfter, LaneHasRoom, ReplicasTell}
+use Rattle.rk_world.specs.ClusterRuns.{ReplicasTell}
 use Rattle.rk_world.specs.Formed.{IsWellFormed}
 use Rattle.rk_world.specs.Ledger.{asked_by, is_added}
 use Rattle.rk_world.specs.Premises.{IsAfterStart, IsLawfulCall, MayAct, MayCome, MayHappen}
@@ -40,7 +40,7 @@ use Rattle.rk_laws_formed.proofs.Rooms.{room_accept, room_asking}
 use Rattle.rk_laws_events.proofs.Clients.{for_client, sound_accepts, sound_asks}
 use Rattle.rk_laws_history.specs.Agreement.{Agrees}
 use Rattle.rk_laws_history.proofs.Agreeing.{ChangesAt, agrees_calling, agrees_grown}
-use Rattle.rk_laws_history.proofs.Clusters.{IsGood, IsGoodLane, IsGoodSession, changes_there, each_session, lane_here, lanes_there, ledgers_of}
+use Rattle.rk_laws_history.proofs.Clusters.{IsGood, IsGoodLane, IsGoodSession, changes_there, each_session, lanes_there, ledgers_of}
 use Rattle.rk_laws_history.proofs.GoesOn.{GoesOn, event_goes_on, same_ledger}
 use Rattle.rk_laws_history.proofs.Visits.{AgreeAfter, agree_asking, agree_taking}
 
@@ -48,8 +48,8 @@ use Rattle.rk_laws_history.proofs.Visits.{AgreeAfter, agree_asking, agree_taking
 abbrev pub EventsKeep : (World → Type 0) → Type 0
 EventsKeep Steady =
     (w : World) (event : Event) (called : Called) → IsSound w → IsWellFormed w → HasRoom w → Steady w → MayHappen w event → MayCome called → IsTold w event called
-    → IsCalmEvent w event → refusal w event ≡ None → HasRoom (happened w event called).world
-    → IsSound (happened w event called).world × Steady (happened w event called).world
+    → IsCalmEvent w event → refusal w event ≡ None
+    → HasRoom (happened w event called).world × IsSound (happened w event called).world × Steady (happened w event called).world
 
 -- and what clients are to keep of it
 pub record ClientsKeep (Steady : World → Type 0) : Type 0 where
@@ -93,17 +93,17 @@ module _ (Steady : World → Type 0) (masters : ℕ) (events_keep : EventsKeep S
     on : GoesOn w new
     on = event_goes_on w event called
 
-    happens : refusal w event ≡ None → HasRoom new → IsGood Steady masters (with_lane cluster lane new)
-    happens none room =
-        let kept = events_keep w event called was.sound was.formed was.room was.steady may come told calm none room in
+    happens : refusal w event ≡ None → IsGood Steady masters (with_lane cluster lane new)
+    happens none =
+        let kept = events_keep w event called was.sound was.formed was.room was.steady may come told calm none in
         record {
           lanes =
               lanes_there cluster lane new within Steady masters good.lanes
               (record {
-                sound = kept.0;
-                formed = formed_event w event called may come calm none was.room room was.formed;
-                room = room;
-                steady = kept.1;
+                sound = kept.1;
+                formed = formed_event w event called may come calm none was.room kept.0 was.formed;
+                room = kept.0;
+                steady = kept.2;
                 lane_is = on.lane_is ∙ was.lane_is;
                 base_is = on.base_is ∙ was.base_is;
                 masters_are = on.masters_are ∙ was.masters_are;
@@ -114,9 +114,9 @@ module _ (Steady : World → Type 0) (masters : ℕ) (events_keep : EventsKeep S
           sessions = good.sessions;
         }
 
-    pub steps : (refused : Option StepError) → refusal w event ≡ refused → HasRoomAfter (stepped_by w event called refused) → IsGood Steady masters (cluster_stepped cluster lane (stepped_by w event called refused))
-    steps None none room = happens none room
-    steps (Some error) none room = good
+    pub steps : (refused : Option StepError) → refusal w event ≡ refused → IsGood Steady masters (cluster_stepped cluster lane (stepped_by w event called refused))
+    steps None none = happens none
+    steps (Some error) none = good
 
   -- ---- sessions
 
@@ -319,12 +319,12 @@ module _ (Steady : World → Type 0) (masters : ℕ) (events_keep : EventsKeep S
   abbrev pub Tells : Type 0
   Tells = (w : World) → Steady w → AllTell w
 
-  pub occurs : Tells → (occurrence : Occurrence) → ClusterMay cluster occurrence → KeepsCalm cluster occurrence → ReplicasTell cluster occurrence → LaneHasRoom cluster occurrence → IsGood Steady masters (cluster_after cluster occurrence)
-  occurs tells (Happens lane event called) may calm told room =
+  pub occurs : Tells → (occurrence : Occurrence) → ClusterMay cluster occurrence → KeepsCalm cluster occurrence → ReplicasTell cluster occurrence → IsGood Steady masters (cluster_after cluster occurrence)
+  occurs tells (Happens lane event called) may calm told =
       steps lane may.0 event called may.1 may.2 (told (tells (lane_at cluster lane) (good.lanes lane may.0).steady)) calm
-      (refusal (lane_at cluster lane) event) refl room
-  occurs tells (Joins client) may calm told room = joins client (get cluster.sessions client) refl
-  occurs tells (Calls client table key op) may calm told room = calls client table key op may (get cluster.sessions client) refl
-  occurs tells (Asks lane client) may calm told room =
+      (refusal (lane_at cluster lane) event) refl
+  occurs tells (Joins client) may calm told = joins client (get cluster.sessions client) refl
+  occurs tells (Calls client table key op) may calm told = calls client table key op may (get cluster.sessions client) refl
+  occurs tells (Asks lane client) may calm told =
       asks lane may.0 client may.1 (ask_refusal (lane_at cluster lane) (session_at cluster client)) refl
-  occurs tells (Accepts lane number client) may calm told room = accepts lane may client number
+  occurs tells (Accepts lane number client) may calm told = accepts lane may client number

@@ -11,6 +11,7 @@ use Rattle.rk_world.specs.Base.{Base, no_base}
 use Rattle.rk_world.specs.Cluster.{Cluster, HasOneHistory, IsQuietCluster, Occurrence, cluster_after, cluster_run, lane_at, new_cluster, session_at}
 use Rattle.rk_world.specs.Formed.{IsWellFormed}
 use Rattle.rk_world.specs.Premises.{MOST_MASTERS}
+use Rattle.rk_world.specs.Room.{HasRoom}
 use Rattle.rk_world.specs.Runs.{Accepts, Asks, Happens, world_stepped}
 use Rattle.rk_world.specs.Stands.{Stands}
 use Rattle.rk_world.specs.Step.{stepped_by}
@@ -19,6 +20,9 @@ use Rattle.rk_world.specs.World.{World, new_world}
 use Rattle.rk_sound.specs.Truth.{IsTruth}
 use Rattle.rk_sound.specs.View.{truths, view}
 use Rattle.rk_sound.specs.Whole.{IsSound}
+use Rattle.rk_laws_room.specs.Kept.{IsKept}
+use Rattle.rk_laws_room.proofs.Events.{kept_event, room_left}
+use Rattle.rk_laws_room.proofs.Start.{kept_accepted, kept_asked, kept_new}
 use Rattle.rk_laws_steady.proofs.Lanes.{sealed_accepted, sealed_asked, sealed_event, sealed_new, tell_accepted, tell_asked, tell_event, tell_new}
 use Rattle.rk_laws_stands.specs.Backups.{AllBackupsTell}
 use Rattle.rk_laws_stands.proofs.Standing.{quiet_stands_in_room}
@@ -34,32 +38,35 @@ use Rattle.rk_laws_history.proofs.Staying.{lanes_stay, records_stay}
 
 -- what is so of a lane from its start on, beside the invariant
 abbrev pub Lasts : World → Type 0
-Lasts w = IsSteady w × AllBackupsTell w
+Lasts w = IsSteady w × AllBackupsTell w × IsKept w
 
--- events keep lanes sound and steady
+-- events leave lanes room, and keep them sound and steady
 events_keep : EventsKeep Lasts
-events_keep w event called sound formed room (steady, all) may come told calm none fits = (
-  sound_event w event called sound
-      (record {
-        formed = formed;
-        room = room;
-        fits = fits;
-        may = may;
-        comes = come;
-        calm = calm;
-        none = none;
-        told = told;
-        steady = steady;
-      }),
-  (
-    record {
-      tell = tell_event w event called steady.tell;
-      sealed = sealed_event w event called formed steady.sealed;
-    },
-    subst (λ (refused : Option StepError). AllBackupsTell (world_stepped w (stepped_by w event called refused))) none
-        (all_after w (Happens event called) all),
-  ),
-)
+events_keep w event called sound formed room (steady, all, kept) may come told calm none =
+    let fits = room_left w event called sound formed room kept may none come calm in (
+      fits,
+      sound_event w event called sound
+          (record {
+            formed = formed;
+            room = room;
+            fits = fits;
+            may = may;
+            comes = come;
+            calm = calm;
+            none = none;
+            told = told;
+            steady = steady;
+          }),
+      (
+        record {
+          tell = tell_event w event called steady.tell;
+          sealed = sealed_event w event called formed steady.sealed;
+        },
+        subst (λ (refused : Option StepError). AllBackupsTell (world_stepped w (stepped_by w event called refused))) none
+            (all_after w (Happens event called) all),
+        kept_event w event called sound formed room kept may none,
+      ),
+    )
 
 -- and so do clients
 clients_keep : ClientsKeep Lasts
@@ -67,10 +74,12 @@ clients_keep = record {
   asks = λ w session lasts. (
     record { tell = tell_asked w session lasts.0.tell; sealed = sealed_asked w session lasts.0.sealed },
     all_after w (Asks session) lasts.1,
+    kept_asked w session lasts.2,
   );
   accepts = λ w number session lasts. (
     record { tell = tell_accepted w number session lasts.0.tell; sealed = sealed_accepted w number session lasts.0.sealed },
     all_after w (Accepts number session) lasts.1,
+    kept_accepted w number session lasts.2,
   );
 }
 
@@ -84,7 +93,11 @@ module _ (masters backups : ℕ) (few : masters ≤ MOST_MASTERS) (backed : 1 �
   start = new_cluster masters backups
 
   lasts_start : (lane : ℕ) → Lasts (new_world lane masters backups)
-  lasts_start lane = (record { tell = tell_new lane masters backups; sealed = sealed_new lane masters backups }, all_new lane masters backups)
+  lasts_start lane = (
+    record { tell = tell_new lane masters backups; sealed = sealed_new lane masters backups },
+    all_new lane masters backups,
+    kept_new lane masters backups,
+  )
 
   pub good_after : (list : List Occurrence) → IsRun start list → IsGood Lasts masters (cluster_run start list)
   good_after list run =
@@ -106,6 +119,9 @@ module _ (masters backups : ℕ) (few : masters ≤ MOST_MASTERS) (backed : 1 �
 
   pub all_formed : (list : List Occurrence) → IsRun start list → (lane : ℕ) → lane < LANES → IsWellFormed (lane_at (cluster_run start list) lane)
   all_formed list run lane inside = (lane_good list run lane inside).formed
+
+  pub all_have_room : (list : List Occurrence) → IsRun start list → (lane : ℕ) → lane < LANES → HasRoom (lane_at (cluster_run start list) lane)
+  all_have_room list run lane inside = (lane_good list run lane inside).room
 
   pub has_history : (list : List Occurrence) → IsRun start list → HasOneHistory (cluster_run start list)
   has_history list run = one_history Lasts masters (cluster_run start list) (good_after list run)

@@ -11,6 +11,7 @@ ghost use Rattle.rk_world.specs.Base.{no_base};
 ghost use Rattle.rk_world.specs.Cluster.{Cluster, HasOneHistory, IsQuietCluster, Occurrence, cluster_run, lane_at, new_cluster, session_at};
 ghost use Rattle.rk_world.specs.Formed.{IsWellFormed};
 ghost use Rattle.rk_world.specs.Premises.{MOST_MASTERS};
+ghost use Rattle.rk_world.specs.Room.{HasRoom};
 ghost use Rattle.rk_world.specs.Stands.{Stands};
 ghost use Rattle.rk_world.specs.Step.{Stepped, step};
 ghost use Rattle.rk_world.specs.declared.event.Event.{Event};
@@ -21,7 +22,7 @@ ghost use Rattle.rk_world.specs.ClusterRuns.{IsRun};
 ghost use Rattle.rk_laws_history.specs.Runs.{IsFinishedBy, IsKeptIn, RecordsStay};
 
 /// In every run of a new cluster, whatever is sent, lost, repeated or delayed and whichever masters crash while another one lives, each lane
-/// is sound and well formed. So the journals of all lanes merge into one lawful history of one map that starts empty, and that history is
+/// is sound, well formed and has room. So the journals of all lanes merge into one lawful history of one map that starts empty, and that history is
 /// ordered with the sessions: each call that was acknowledged stands in it once, in its client's order, as its receipt says. What counts of
 /// the applied logs of a row's lineage leaves just the records that the journal of its lane leaves; and where nothing is left to do, so does
 /// what is read back of what each backup stores.
@@ -32,6 +33,9 @@ pub fn clusters_have_one_history()
     ensures formed { (masters backups : ℕ) (list : List Occurrence)
         → masters ≤ MOST_MASTERS → 1 ≤ backups → backups ≤ MOST_BACKUPS → IsRun (new_cluster masters backups) list
         → (lane : ℕ) → lane < LANES → IsWellFormed (lane_at (cluster_run (new_cluster masters backups) list) lane) }
+    ensures room { (masters backups : ℕ) (list : List Occurrence)
+        → masters ≤ MOST_MASTERS → 1 ≤ backups → backups ≤ MOST_BACKUPS → IsRun (new_cluster masters backups) list
+        → (lane : ℕ) → lane < LANES → HasRoom (lane_at (cluster_run (new_cluster masters backups) list) lane) }
     ensures history { (masters backups : ℕ) (list : List Occurrence)
         → masters ≤ MOST_MASTERS → 1 ≤ backups → backups ≤ MOST_BACKUPS → IsRun (new_cluster masters backups) list
         → HasOneHistory (cluster_run (new_cluster masters backups) list) }

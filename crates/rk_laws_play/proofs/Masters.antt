@@ -24,7 +24,8 @@ use Rattle.rk_settle.specs.Lawful.{AreNamed}
 use Rattle.rk_settle.proofs.Unfolded.{NamesMasters}
 use Rattle.rk_settle.specs.Settle.{is_unnoticed, unnoticed}
 use Rattle.rk_laws_history.proofs.Clusters.{IsGoodLane, IsGoodSession}
-use Rattle.rk_laws_play.proofs.Reaching.{IsReached, Lasts, lane_good, reached_eight, reached_good}
+use Rattle.rk_laws_history.proofs.Runs.{Lasts}
+use Rattle.rk_laws_play.proofs.Reaching.{IsReached, lane_good, reached_eight, reached_good}
 
 -- ---- masters that live
 

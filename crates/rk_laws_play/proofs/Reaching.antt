@@ -6,12 +6,10 @@ use Rattle.rk_log.specs.declared.copied.TheConstants.{MOST_BACKUPS}
 use Rattle.rk_world.specs.Cluster.{Cluster, ClusterMay, KeepsCalm, Occurrence, cluster_after, cluster_run, lane_at, new_cluster}
 use Rattle.rk_world.specs.Premises.{MOST_MASTERS}
 use Rattle.rk_cluster.proofs.Leading.{run_on, runs_join}
-use Rattle.rk_world.specs.World.{World, new_world}
-use Rattle.rk_laws_stands.specs.Backups.{AllBackupsTell}
-use Rattle.rk_laws_steps.specs.Steps.{IsSteady}
+use Rattle.rk_world.specs.World.{new_world}
 use Rattle.rk_world.specs.ClusterRuns.{IsRun}
 use Rattle.rk_laws_history.proofs.Clusters.{IsGood, IsGoodLane}
-use Rattle.rk_laws_history.proofs.Runs.{good_after}
+use Rattle.rk_laws_history.proofs.Runs.{Lasts, good_after}
 use Rattle.rk_laws_history.proofs.Staying.{lanes_stay}
 use Rattle.rk_laws_play.specs.Answered.{AreAnswered, ReplicasMay}
 
@@ -19,12 +17,12 @@ use Rattle.rk_laws_play.specs.Answered.{AreAnswered, ReplicasMay}
 pub answered_before : (cluster : Cluster) (before after : List Occurrence) → AreAnswered cluster (before ++ after) → AreAnswered cluster before
 answered_before cluster [] after answered = tt
 answered_before cluster (occurrence ∷ before) after answered =
-    (answered.0, answered.1, answered.2, answered_before (cluster_after cluster occurrence) before after answered.3)
+    (answered.0, answered.1, answered_before (cluster_after cluster occurrence) before after answered.2)
 
 -- and in what follows that
 pub answered_after : (cluster : Cluster) (before after : List Occurrence) → AreAnswered cluster (before ++ after) → AreAnswered (cluster_run cluster before) after
 answered_after cluster [] after answered = answered
-answered_after cluster (occurrence ∷ before) after answered = answered_after (cluster_after cluster occurrence) before after answered.3
+answered_after cluster (occurrence ∷ before) after answered = answered_after (cluster_after cluster occurrence) before after answered.2
 
 -- a run of a new cluster has come to this one
 pub record IsReached (masters backups : ℕ) (cluster : Cluster) : Type 0 where
@@ -34,10 +32,6 @@ pub record IsReached (masters backups : ℕ) (cluster : Cluster) : Type 0 where
   pub before : List Occurrence
   pub run : IsRun (new_cluster masters backups) before
   pub is : cluster ≡ cluster_run (new_cluster masters backups) before
-
--- what is so of a lane from its start on, beside the invariant
-abbrev pub Lasts : World → Type 0
-Lasts w = IsSteady w × AllBackupsTell w
 
 module _ (masters backups : ℕ) where
   -- a new cluster is reached by a run in which nothing occurs
@@ -83,7 +77,7 @@ module _ (masters backups : ℕ) where
 
   -- ---- occurrences that go on with a run
 
-  -- occurrences go on with a run that has come to a cluster, where replicas answer as they may and all lanes have room after each
+  -- occurrences go on with a run that has come to a cluster, where replicas answer as they may
   abbrev pub GoesOn : Cluster → List Occurrence → Type 0
   GoesOn cluster list = IsReached masters backups cluster → AreAnswered cluster list → IsRun cluster list
 
@@ -96,8 +90,8 @@ module _ (masters backups : ℕ) where
       → GoesOn (cluster_after cluster occurrence) later → GoesOn cluster (occurrence ∷ later)
   one_on cluster occurrence later may rest reached answered =
       let here : ClusterMay cluster occurrence × KeepsCalm cluster occurrence = may reached answered.0 in
-      let first : IsRun cluster (occurrence ∷ []) = (here.0, here.1, answered.1, answered.2, tt) in
-      (here.0, here.1, answered.1, answered.2, rest (reached_after cluster reached (occurrence ∷ []) first) answered.3)
+      let first : IsRun cluster (occurrence ∷ []) = (here.0, here.1, answered.1, tt) in
+      (here.0, here.1, answered.1, rest (reached_after cluster reached (occurrence ∷ []) first) answered.2)
 
   -- some, and those behind them
   pub all_on : (cluster : Cluster) (before after : List Occurrence) → GoesOn cluster before → GoesOn (cluster_run cluster before) after → GoesOn cluster (before ++ after)

@@ -9,10 +9,10 @@ use Rattle.rk_world.specs.ClusterRuns.{IsRun}
 use Rattle.rk_play.specs.Played.{Played}
 use Rattle.rk_laws_play.specs.Answered.{AreAnswered}
 
--- a script that was played began in a new cluster, and its cluster is what the occurrences made of that. Where replicas answer as they may
--- and no lane outgrows its limits these are a run: each may occur when it does, and each crash leaves another master alive. So the journals
--- at its end make one lawful history of one map, which is ordered with the sessions; and where nothing is left to do, what each backup
--- stores of each tablet has just the records of that history
+-- a script that was played began in a new cluster, and its cluster is what the occurrences made of that. Where replicas answer as they may,
+-- and what they store, these are a run: each may occur when it does, each crash leaves another master alive, and lanes have room. So the
+-- journals at its end make one lawful history of one map, which is ordered with the sessions; and where nothing is left to do, what each
+-- backup stores of each tablet has just the records of that history
 pub record IsHistorical (played : Played) : Type 0 where
   pub masters : ℕ
   pub backups : ℕ

@@ -10,8 +10,8 @@ ghost use Rattle.rk_play.specs.Played.{played};
 ghost use Rattle.rk_play.specs.Runs.{IsLedTo};
 
 /// Whatever a script says and whatever the calls of replicas come to, the cluster that it leaves is what its occurrences make of a new one.
-/// Where replicas answer as they may, and no lane outgrows its limits, these are a run: each may occur when it does, and a master crashes only
-/// while another one lives. So the journals make one lawful history of one map that is ordered with the sessions.
+/// Where replicas answer as they may, and what they store, these are a run: each may occur when it does, a master crashes only while another
+/// one lives, and lanes have room. So the journals make one lawful history of one map that is ordered with the sessions.
 pub fn scripts_are_historical()
     ensures { (script : List ℕ) (calls : List (List Called)) → IsHistorical (played script calls) }
 {}

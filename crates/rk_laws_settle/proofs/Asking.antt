@@ -20,9 +20,10 @@ use Rattle.rk_cluster.specs.Turns.{clients_in, is_call_in}
 use Rattle.rk_settle.specs.Course.{Course, occurrence_error, occurring}
 use Rattle.rk_settle.specs.Tasks.{asks}
 use Rattle.rk_laws_formed.proofs.Maps.{All_pairs}
+use Rattle.rk_laws_history.proofs.Runs.{Lasts}
 use Rattle.rk_laws_duties.proofs.Adding.{added_after}
 use Rattle.rk_laws_duties.proofs.Asking.{client_sends, client_worn}
-use Rattle.rk_laws_play.proofs.Reaching.{Lasts, reached_good}
+use Rattle.rk_laws_play.proofs.Reaching.{reached_good}
 use Rattle.rk_laws_settle.proofs.Delivering.{has_session}
 use Rattle.rk_laws_settle.proofs.Following.{follows_itself}
 use Rattle.rk_laws_settle.proofs.Going.{Comes, Goes, alone_fresh, goes_here, goes_then, occurs_move}

@@ -20,7 +20,7 @@ after_moves answers (suc moves) course = after_moves answers moves (moved course
 abbrev pub settling : Cluster → Course
 settling cluster = course_of cluster (settle cluster)
 
--- however many moves are made, replicas have answered as they may, and what they store, and the lane of each event has room after it
+-- however many moves are made, replicas have answered as they may, and what they store
 abbrev pub AllAnswered : Answers → Cluster → Type 0
 AllAnswered answers cluster = (moves : ℕ) → AreAnswered cluster (after_moves answers moves (settling cluster)).occurred
 

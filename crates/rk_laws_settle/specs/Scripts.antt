@@ -7,8 +7,8 @@ use Rattle.rk_play.specs.Played.{Played}
 use Rattle.rk_laws_play.specs.Answered.{AreAnswered}
 use Rattle.rk_laws_settle.specs.Moves.{AllAnswered, Answers, Ends, settling}
 
--- a script played began in a new cluster. Where replicas answered as they may in it and answer so after it, and no lane outgrows its limits,
--- `settle` ends in the cluster that it left
+-- a script played began in a new cluster. Where replicas answered as they may in it and answer so after it, `settle` ends in the cluster that
+-- it left
 pub record Settles (answers : Answers) (played : Played) : Type 0 where
   pub masters : ℕ
   pub backups : ℕ

@@ -12,13 +12,13 @@ ghost use Rattle.rk_laws_settle.specs.Moves.{AllAnswered, Answers, Ends, settlin
 ghost use Rattle.rk_laws_settle.specs.Scripts.{Settles};
 
 /// `settle` ends. It begins in a cluster to which a run of a new one has led, and where each client that has a session was added in each lane.
-/// Whatever the calls of replicas come to, each by all that has occurred before it, where replicas answer as they may and no lane outgrows its
-/// limits: after finitely many moves no task is left and the cluster is at rest, or `settle` stops, since a lane is worn or replicas have
-/// failed in too many rounds.
+/// Whatever the calls of replicas come to, each by all that has occurred before it, where replicas answer as they may, and what they store:
+/// after finitely many moves no task is left and the cluster is at rest, or `settle` stops, since a lane is worn or replicas have failed in
+/// too many rounds.
 ///
 /// `IsRun` says of a list of occurrences that each may occur when it does (`rk_world`, ClusterRuns), `AreAdded` that clients with a session
-/// were added in each lane (`rk_laws_duties`, Added), and `AllAnswered` that replicas answer what they store, or fail, and that the lane of
-/// each event has room after it (Moves here, over `rk_laws_play`, Answered).
+/// were added in each lane (`rk_laws_duties`, Added), and `AllAnswered` that replicas answer what they store, or fail (Moves here, over
+/// `rk_laws_play`, Answered).
 pub fn settle_ends()
     ensures { (masters backups : ℕ) (before : List Occurrence) (answers : Answers)
         → masters ≤ MOST_MASTERS → 1 ≤ backups → backups ≤ MOST_BACKUPS → IsRun (new_cluster masters backups) before
@@ -28,8 +28,7 @@ pub fn settle_ends()
 
 /// `settle` ends where the run of a script has ended, whatever the script says and however its run ended: there each client that has a session
 /// was added in each lane (`added`). It is so where a run of a new cluster has led there (`led`), as `play` tells of each script, unless memory
-/// was wanting or its source or its sink failed; and one has where replicas answered as they may in the script and no lane outgrew its limits
-/// (`answered`).
+/// was wanting or its source or its sink failed; and one has where replicas answered as they may in the script (`answered`).
 ///
 /// `IsLedTo` says that a run of a new cluster has led there (`rk_play`, Runs), and `Settles` is `answered` in full (Scripts here).
 pub fn scripts_settle()

@@ -17,6 +17,4 @@ mod laws;
 mod lines;
 mod records;
 mod tablets;
-#[cfg(test)]
-mod tests;
 mod words;

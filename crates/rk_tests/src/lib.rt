@@ -15,6 +15,8 @@ mod entry;
 mod history;
 pub mod items;
 #[cfg(test)]
+mod lines;
+#[cfg(test)]
 mod log;
 #[cfg(test)]
 mod message;

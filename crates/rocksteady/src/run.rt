@@ -69,7 +69,7 @@ pub fn run<X: Threads + Wait + Sync, S: Source, K: Sink, R: Replica + Send + Dro
         Refuses result (K.written sink.old) (K.written sink.new) }
 
     // So it is with any answers of replicas that may come: the cluster that a script leaves is what its occurrences make of a new
-    // one, and where replicas answer what they store and no lane outgrows its limits, these are a run.
+    // one, and where replicas answer what they store these are a run.
     ensures history { IfSome (S.left source.old) (λ script. (calls : List (List Called)) → IsHistorical (played script calls)) }
 
     // What is gone from the source.

@@ -1,0 +1,17 @@
+pub mod Sums
+pub mod Replays
+pub mod Pulled
+pub mod CopiesWritten
+pub mod Copied
+pub mod Records
+pub mod RecordSteps
+pub mod Logging
+pub mod RecordLanes
+pub mod Short
+pub mod SealedFew
+pub mod Fitting
+pub mod FittingPulls
+pub mod FittingSteps
+pub mod FittingLanes
+pub mod Start
+pub mod Events
