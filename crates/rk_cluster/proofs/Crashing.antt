@@ -22,6 +22,7 @@ use Rattle.rk_cluster.specs.Acted.{worn_by, worn_in}
 use Rattle.rk_cluster.specs.Codes.{code_where, crash_code, first_code}
 use Rattle.rk_cluster.specs.Crashing.{IsSameBeside, crashes}
 use Rattle.rk_cluster.specs.Effects.{ActsOne, HasCode, IsActedAs}
+use Rattle.rk_cluster.specs.Faults.{LanesGoOn}
 use Rattle.rk_cluster.specs.Looks.{is_dead, is_master, is_other_alive}
 use Rattle.rk_cluster.specs.Masters.{backup_counts}
 use Rattle.rk_cluster.specs.State.{AreWorlds}
@@ -30,6 +31,7 @@ use Rattle.rk_cluster.specs.Tests.{HoldsIn}
 use Rattle.rk_cluster.specs.declared.code.Code.TheVariants.{Crashed, LastMaster, Unknown}
 use Rattle.rk_cluster.specs.declared.steps.Deed.{Deed}
 use Rattle.rk_cluster.proofs.Carrying.{carries_all, carries_one}
+use Rattle.rk_cluster.proofs.Faults.{lanes_same, lanes_then}
 use Rattle.rk_cluster.proofs.Noticing.{count_is, dead_is}
 use Rattle.rk_cluster.proofs.Worlds.{all_at, masters_at}
 
@@ -73,19 +75,21 @@ module _ {R : Type 0} (segments : R → Option Segments) where
   crashes_from master lane = map (λ lane. record { lane = lane; event = events.Crash master }) (range_with_len lane (LANES - lane))
 
   -- a master has crashed in the lanes before one
-  pub record IsCrashing (old now : List (LaneState R)) (masters master lane : ℕ) : Type 0 where
+  pub record IsCrashing (faults : R → ℕ) (old now : List (LaneState R)) (masters master lane : ℕ) : Type 0 where
     pub carries : CarriesSteps segments old now (crashes master) (crashes_from master lane)
     pub lanes : AreLanes masters 0 now
     pub count : length now ≡ length old
     pub backups : backup_counts now ≡ backup_counts old
+    pub counts : LanesGoOn faults 0 old now
     pub rest : (place : ℕ) → lane ≤ place → slice_get now place ≡ slice_get old place
 
-  pub crashing_none : (lanes : List (LaneState R)) (masters master : ℕ) → AreLanes masters 0 lanes → IsCrashing lanes lanes masters master 0
-  crashing_none lanes masters master are = record {
+  pub crashing_none : (faults : R → ℕ) (lanes : List (LaneState R)) (masters master : ℕ) → AreLanes masters 0 lanes → IsCrashing faults lanes lanes masters master 0
+  crashing_none faults lanes masters master are = record {
     carries = λ sessions. carries_all segments (state_of lanes sessions) (occurrences (crashes master));
     lanes = are;
     count = refl;
     backups = refl;
+    counts = lanes_same faults lanes;
     rest = λ place past. refl;
   }
 
@@ -94,29 +98,30 @@ module _ {R : Type 0} (segments : R → Option Segments) where
       let left : LANES - lane ≡ suc (LANES - (lane + 1)) = omega (arith, within) in
       ap (λ (count : ℕ). map (λ (n : ℕ). record { lane = n; event = events.Crash master }) (range_with_len lane count)) left
 
-  pub crashing_one : (old now next : List (LaneState R)) (masters master lane : ℕ) → lane < LANES → IsHappening segments now next lane (events.Crash master) None
+  pub crashing_one : (faults : R → ℕ) (old now next : List (LaneState R)) (masters master lane : ℕ) → lane < LANES → IsHappening segments now next lane (events.Crash master) None
       → IsSameBeside lane now next → ((count : ℕ) → AreLanes count 0 now → AreLanes count 0 next) → length next ≡ length now → backup_counts next ≡ backup_counts now
-      → IsCrashing old now masters master lane → IsCrashing old next masters master (lane + 1)
-  crashing_one old now next masters master lane within happening beside keeps same backed before = record {
+      → LanesGoOn faults 0 now next → IsCrashing faults old now masters master lane → IsCrashing faults old next masters master (lane + 1)
+  crashing_one faults old now next masters master lane within happening beside keeps same backed on before = record {
     carries = λ sessions. carries_one segments (state_of old sessions) (state_of now sessions) (state_of next sessions) (occurrences (crashes master))
         (occurrences (crashes_from master (lane + 1))) (Happens lane (events.Crash master) (Gave None)) (happens_crash now next lane master happening sessions)
         (subst (CarriesSteps segments old now (crashes master)) (next_crash master lane within) before.carries sessions);
     lanes = keeps masters before.lanes;
     count = same ∙ before.count;
     backups = backed ∙ before.backups;
+    counts = lanes_then faults old now next before.counts on;
     rest = λ place past. beside place (λ is. absurd (omega (arith, past, is))) ∙ before.rest place (omega (arith, past));
   }
 
-  pub crashing_all : (old now : List (LaneState R)) (masters master lane : ℕ) → LANES ≤ lane → IsCrashing old now masters master lane → CarriesSteps segments old now (crashes master) []
-  crashing_all old now masters master lane past before =
+  pub crashing_all : (faults : R → ℕ) (old now : List (LaneState R)) (masters master lane : ℕ) → LANES ≤ lane → IsCrashing faults old now masters master lane → CarriesSteps segments old now (crashes master) []
+  crashing_all faults old now masters master lane past before =
       let none : LANES - lane ≡ 0 = omega (arith, past) in
       subst (λ (count : ℕ). CarriesSteps segments old now (crashes master) (map (λ (n : ℕ). record { lane = n; event = events.Crash master }) (range_with_len lane count))) none
       before.carries
 
   -- where another master lives a crash may come
-  pub crash_may : (old now : List (LaneState R)) (masters master lane : ℕ) → IsMaster masters master → All (HoldsIn (λ w. lives_another w master)) old
-      → IsCrashing old now masters master lane → MayComeAt now lane (events.Crash master)
-  crash_may old now masters master lane there calm before it is = record {
+  pub crash_may : (faults : R → ℕ) (old now : List (LaneState R)) (masters master lane : ℕ) → IsMaster masters master → All (HoldsIn (λ w. lives_another w master)) old
+      → IsCrashing faults old now masters master lane → MayComeAt now lane (events.Crash master)
+  crash_may faults old now masters master lane there calm before it is = record {
     may = subst (λ (count : ℕ). IsMaster count master) (sym (masters_at masters 0 now lane it is before.lanes)) there;
     calm = all_at (HoldsIn (λ w. lives_another w master)) old lane it (sym (before.rest lane (omega arith)) ∙ is) calm;
   }

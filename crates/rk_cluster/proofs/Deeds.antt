@@ -18,10 +18,12 @@ use Rattle.rk_lane.specs.Events.{MayComeTo}
 use Rattle.rk_lane.specs.LaneState.{LaneState}
 use Rattle.rk_cluster.specs.Acted.{worn_in}
 use Rattle.rk_cluster.specs.Effects.{Acts, ActsOne, IsActedAs}
+use Rattle.rk_cluster.specs.Faults.{LanesGoOn}
 use Rattle.rk_cluster.specs.Masters.{backup_counts}
 use Rattle.rk_cluster.specs.Steps.{AreLanes, CarriesSteps, IsDeed, IsHappening, IsPlain, MayComeAt, occurrences, state_of}
 use Rattle.rk_cluster.specs.declared.steps.Deed.{Deed}
 use Rattle.rk_cluster.proofs.Carrying.{carries_all, carries_one, carries_worn}
+use Rattle.rk_cluster.proofs.Faults.{lanes_same, lanes_then}
 use Rattle.rk_cluster.proofs.Worlds.{drop_next, drop_past, masters_at}
 
 -- ---- a plain event
@@ -71,18 +73,20 @@ module _ {R : Type 0} (segments : R → Option Segments) where
 
   -- ---- some of the deeds are done
 
-  pub record IsActing (old now : List (LaneState R)) (masters : ℕ) (deeds : List Deed) (index : ℕ) : Type 0 where
+  pub record IsActing (faults : R → ℕ) (old now : List (LaneState R)) (masters : ℕ) (deeds : List Deed) (index : ℕ) : Type 0 where
     pub carries : CarriesSteps segments old now deeds (drop index deeds)
     pub lanes : AreLanes masters 0 now
     pub count : length now ≡ length old
     pub backups : backup_counts now ≡ backup_counts old
+    pub counts : LanesGoOn faults 0 old now
 
-  pub acting_none : (lanes : List (LaneState R)) (masters : ℕ) (deeds : List Deed) → AreLanes masters 0 lanes → IsActing lanes lanes masters deeds 0
-  acting_none lanes masters deeds are = record {
+  pub acting_none : (faults : R → ℕ) (lanes : List (LaneState R)) (masters : ℕ) (deeds : List Deed) → AreLanes masters 0 lanes → IsActing faults lanes lanes masters deeds 0
+  acting_none faults lanes masters deeds are = record {
     carries = λ sessions. carries_all segments (state_of lanes sessions) (occurrences deeds);
     lanes = are;
     count = refl;
     backups = refl;
+    counts = lanes_same faults lanes;
   }
 
   -- the next one comes of what is left
@@ -91,34 +95,35 @@ module _ {R : Type 0} (segments : R → Option Segments) where
   carries_next old now deeds index deed d within there carries =
       subst (CarriesSteps segments old now deeds) (drop_next deeds index d within ∙ ap (λ (it : Deed). it ∷ drop (index + 1) deeds) (sym there)) carries
 
-  pub acting_one : (old now next : List (LaneState R)) (masters : ℕ) (deeds : List Deed) (index : ℕ) (deed d : Deed) → index < length deeds → deed ≡ slice_index_or deeds index d
+  pub acting_one : (faults : R → ℕ) (old now next : List (LaneState R)) (masters : ℕ) (deeds : List Deed) (index : ℕ) (deed d : Deed) → index < length deeds → deed ≡ slice_index_or deeds index d
       → IsDeed (length old) masters deed → IsHappening segments now next deed.lane deed.event None
       → ((count : ℕ) → AreLanes count 0 now → AreLanes count 0 next) → length next ≡ length now → backup_counts next ≡ backup_counts now
-      → IsActing old now masters deeds index → IsActing old next masters deeds (index + 1)
-  acting_one old now next masters deeds index deed d within there may happening keeps same backed before = record {
+      → LanesGoOn faults 0 now next → IsActing faults old now masters deeds index → IsActing faults old next masters deeds (index + 1)
+  acting_one faults old now next masters deeds index deed d within there may happening keeps same backed on before = record {
     carries = λ sessions. carries_one segments (state_of old sessions) (state_of now sessions) (state_of next sessions) (occurrences deeds) (occurrences (drop (index + 1) deeds))
         (Happens deed.lane deed.event (Gave None)) (happens_plain now next deed.lane deed.event None may.plain happening sessions)
         (carries_next old now deeds index deed d within there before.carries sessions);
     lanes = keeps masters before.lanes;
     count = same ∙ before.count;
     backups = backed ∙ before.backups;
+    counts = lanes_then faults old now next before.counts on;
   }
 
-  pub acting_worn : (old now next : List (LaneState R)) (masters : ℕ) (deeds : List Deed) (index : ℕ) (deed d : Deed) (number : ℕ) → index < length deeds → deed ≡ slice_index_or deeds index d
-      → IsDeed (length old) masters deed → IsHappening segments now next deed.lane deed.event (Some number) → IsActing old now masters deeds index
+  pub acting_worn : (faults : R → ℕ) (old now next : List (LaneState R)) (masters : ℕ) (deeds : List Deed) (index : ℕ) (deed d : Deed) (number : ℕ) → index < length deeds → deed ≡ slice_index_or deeds index d
+      → IsDeed (length old) masters deed → IsHappening segments now next deed.lane deed.event (Some number) → IsActing faults old now masters deeds index
       → (sessions : NumberMap Session) (more : List Occurrence)
       → Acts segments (state_of old sessions) (state_of next sessions) (occurrences deeds ++ more) [] (Some number)
-  acting_worn old now next masters deeds index deed d number within there may happening before sessions =
+  acting_worn faults old now next masters deeds index deed d number within there may happening before sessions =
       carries_worn segments (state_of old sessions) (state_of now sessions) (state_of next sessions) (occurrences deeds) (occurrences (drop (index + 1) deeds))
       (Happens deed.lane deed.event (Gave None)) number (happens_plain now next deed.lane deed.event (Some number) may.plain happening sessions)
       (carries_next old now deeds index deed d within there before.carries sessions)
 
   -- all are done
-  pub acting_all : (old now : List (LaneState R)) (masters : ℕ) (deeds : List Deed) (index : ℕ) → length deeds ≤ index → IsActing old now masters deeds index
+  pub acting_all : (faults : R → ℕ) (old now : List (LaneState R)) (masters : ℕ) (deeds : List Deed) (index : ℕ) → length deeds ≤ index → IsActing faults old now masters deeds index
       → CarriesSteps segments old now deeds []
-  acting_all old now masters deeds index past before = subst (CarriesSteps segments old now deeds) (drop_past deeds index past) before.carries
+  acting_all faults old now masters deeds index past before = subst (CarriesSteps segments old now deeds) (drop_past deeds index past) before.carries
 
-  pub may_come_at : (old now : List (LaneState R)) (masters : ℕ) (deeds : List Deed) (index : ℕ) (deed : Deed) → IsDeed (length old) masters deed → IsActing old now masters deeds index
+  pub may_come_at : (faults : R → ℕ) (old now : List (LaneState R)) (masters : ℕ) (deeds : List Deed) (index : ℕ) (deed : Deed) → IsDeed (length old) masters deed → IsActing faults old now masters deeds index
       → MayComeAt now deed.lane deed.event
-  may_come_at old now masters deeds index deed may before lane there =
+  may_come_at faults old now masters deeds index deed may before lane there =
       may_come lane masters deed.event may.plain may.may (masters_at masters 0 now deed.lane lane there before.lanes)

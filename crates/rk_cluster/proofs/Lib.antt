@@ -1,5 +1,7 @@
 pub mod Worlds
 pub mod Leading
+pub mod Faults
+pub mod Failing
 pub mod Happenings
 pub mod Heard
 pub mod Carrying
@@ -22,4 +24,5 @@ pub mod Resting
 pub mod Eighths
 pub mod NewLanes
 pub mod Gathers
+pub mod Order
 pub mod Resending

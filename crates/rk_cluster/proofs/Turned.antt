@@ -12,6 +12,7 @@ use Rattle.rk_world.specs.declared.event.Event.TheVariants as events
 use Rattle.rk_lane.specs.LaneState.{LaneState, Running, world_with}
 use Rattle.rk_cluster.specs.Acted.{all_acted}
 use Rattle.rk_cluster.specs.Effects.{Acts, ActsBy, ActsOne, Carries, IsActedAs}
+use Rattle.rk_cluster.specs.Faults.{CountsGoOn}
 use Rattle.rk_cluster.specs.Makes.{asks_in, in_lane, turn_makes}
 use Rattle.rk_cluster.specs.Masters.{backup_counts}
 use Rattle.rk_cluster.specs.State.{ClusterState, IsOf, IsWorld}
@@ -20,6 +21,7 @@ use Rattle.rk_cluster.specs.Turns.{clients_in, live_in, turns_of}
 use Rattle.rk_cluster.specs.Visits.{HasSession, all_ask}
 use Rattle.rk_cluster.specs.declared.steps.Deed.{Deed}
 use Rattle.rk_cluster.proofs.Carrying.{carries_all, carries_one, carries_worn, none_acts}
+use Rattle.rk_cluster.proofs.Faults.{lanes_same, lanes_then}
 use Rattle.rk_cluster.proofs.Takers.{all_ask_is, turns_are}
 use Rattle.rk_cluster.proofs.Worlds.{drop_next, drop_past, world_at}
 
@@ -30,21 +32,23 @@ nodes_make lane w = in_lane lane (events.Turn nodes.Coordinator) ∷ map (λ ent
 module _ {R : Type 0} (segments : R → Option Segments) where
   -- ---- clients, some of which have taken their turns
 
-  pub record IsAsking (start now : ClusterState R) (masters lane : ℕ) (clients : List ℕ) (index : ℕ) : Type 0 where
+  pub record IsAsking (faults : R → ℕ) (start now : ClusterState R) (masters lane : ℕ) (clients : List ℕ) (index : ℕ) : Type 0 where
     pub carries : Carries segments start now (all_ask lane clients) (all_ask lane (drop index clients))
     pub lanes : AreLanes masters 0 now.lanes
     pub count : length now.lanes ≡ length start.lanes
     pub backups : backup_counts now.lanes ≡ backup_counts start.lanes
+    pub counts : CountsGoOn faults 0 start now
     pub acts : MayAllAct masters now.sessions
     pub have : All (HasSession now.sessions) clients
 
-  pub asking_none : (start : ClusterState R) (masters lane : ℕ) (clients : List ℕ) → AreLanes masters 0 start.lanes → MayAllAct masters start.sessions
-      → All (HasSession start.sessions) clients → IsAsking start start masters lane clients 0
-  asking_none start masters lane clients are act has = record {
+  pub asking_none : (faults : R → ℕ) (start : ClusterState R) (masters lane : ℕ) (clients : List ℕ) → AreLanes masters 0 start.lanes → MayAllAct masters start.sessions
+      → All (HasSession start.sessions) clients → IsAsking faults start start masters lane clients 0
+  asking_none faults start masters lane clients are act has = record {
     carries = carries_all segments start (all_ask lane clients);
     lanes = are;
     count = refl;
     backups = refl;
+    counts = lanes_same faults start.lanes;
     acts = act;
     have = has;
   }
@@ -57,32 +61,33 @@ module _ {R : Type 0} (segments : R → Option Segments) where
       subst (λ (left : List ℕ). Carries segments start now (all_ask lane clients) (all_ask lane left))
       (drop_next clients index d within ∙ ap (λ (it : ℕ). it ∷ drop (index + 1) clients) (sym there)) carries
 
-  pub asking_one : (start now next : ClusterState R) (masters lane : ℕ) (clients : List ℕ) (index client d : ℕ) → index < length clients → client ≡ slice_index_or clients index d
+  pub asking_one : (faults : R → ℕ) (start now next : ClusterState R) (masters lane : ℕ) (clients : List ℕ) (index client d : ℕ) → index < length clients → client ≡ slice_index_or clients index d
       → ActsOne segments now next (Asks lane client) [] None → AreLanes masters 0 next.lanes → length next.lanes ≡ length now.lanes
-      → backup_counts next.lanes ≡ backup_counts now.lanes → MayAllAct masters next.sessions
+      → backup_counts next.lanes ≡ backup_counts now.lanes → CountsGoOn faults 0 now next → MayAllAct masters next.sessions
       → ((other : ℕ) → HasSession now.sessions other → HasSession next.sessions other)
-      → IsAsking start now masters lane clients index → IsAsking start next masters lane clients (index + 1)
-  asking_one start now next masters lane clients index client d within there one are same backed act keeps before = record {
+      → IsAsking faults start now masters lane clients index → IsAsking faults start next masters lane clients (index + 1)
+  asking_one faults start now next masters lane clients index client d within there one are same backed on act keeps before = record {
     carries = carries_one segments start now next (all_ask lane clients) (all_ask lane (drop (index + 1) clients)) (Asks lane client) one
         (asks_next start now lane clients index client d within there before.carries);
     lanes = are;
     count = same ∙ before.count;
     backups = backed ∙ before.backups;
+    counts = lanes_then faults start.lanes now.lanes next.lanes before.counts on;
     acts = act;
     have = All-weaker (HasSession now.sessions) (HasSession next.sessions) keeps clients before.have;
   }
 
-  pub asking_worn : (start now next : ClusterState R) (masters lane : ℕ) (clients : List ℕ) (index client d : ℕ) (number : ℕ) → index < length clients
-      → client ≡ slice_index_or clients index d → ActsOne segments now next (Asks lane client) [] (Some number) → IsAsking start now masters lane clients index
+  pub asking_worn : (faults : R → ℕ) (start now next : ClusterState R) (masters lane : ℕ) (clients : List ℕ) (index client d : ℕ) (number : ℕ) → index < length clients
+      → client ≡ slice_index_or clients index d → ActsOne segments now next (Asks lane client) [] (Some number) → IsAsking faults start now masters lane clients index
       → EndsWorn segments start next (all_ask lane clients) number
-  asking_worn start now next masters lane clients index client d number within there one before =
+  asking_worn faults start now next masters lane clients index client d number within there one before =
       carries_worn segments start now next (all_ask lane clients) (all_ask lane (drop (index + 1) clients)) (Asks lane client) number one
       (asks_next start now lane clients index client d within there before.carries)
 
   -- all have
-  pub asking_all : (start now : ClusterState R) (masters lane : ℕ) (clients : List ℕ) (index : ℕ) → length clients ≤ index → IsAsking start now masters lane clients index
+  pub asking_all : (faults : R → ℕ) (start now : ClusterState R) (masters lane : ℕ) (clients : List ℕ) (index : ℕ) → length clients ≤ index → IsAsking faults start now masters lane clients index
       → Carries segments start now (all_ask lane clients) []
-  asking_all start now masters lane clients index past before =
+  asking_all faults start now masters lane clients index past before =
       subst (λ (left : List ℕ). Carries segments start now (all_ask lane clients) (all_ask lane left)) (drop_past clients index past) before.carries
 
   -- ---- clients, and the nodes after them

@@ -1,5 +1,5 @@
 -- What the delivery of a message makes of a cluster in code.
-use Rattle.std.specs.Prelude.{◌≡◌, ℕ, Bool, true, false, ◌&&◌, List, Option, Some, None}
+use Rattle.std.specs.Prelude.{◌≡◌, ℕ, Bool, true, false, ◌&&◌, List, Option, Some, None, IfSome, slice_get}
 use Rattle.std.specs.Option.{option_to_list}
 use Rattle.rk_types.specs.declared.node.Node.{Node}
 use Rattle.rk_types.specs.declared.node.Node.TheVariants as nodes
@@ -9,7 +9,9 @@ use Rattle.rk_message.specs.Wire.{receiver_of}
 use Rattle.rk_world.specs.Backup.{Called}
 use Rattle.rk_world.specs.Cluster.{Cluster, lane_at}
 use Rattle.rk_world.specs.Step.{step}
+use Rattle.rk_world.specs.declared.event.Event.{Event}
 use Rattle.rk_world.specs.declared.event.Event.TheVariants as events
+use Rattle.rk_lane.specs.LaneState.{LaneState}
 use Rattle.rk_cluster.specs.Acted.{lost_in}
 use Rattle.rk_cluster.specs.Effects.{ActsBy, BySomeCall}
 use Rattle.rk_cluster.specs.Makes.{deliver_in_makes}
@@ -20,6 +22,13 @@ use Rattle.rk_cluster.specs.declared.delivering.Delivered.{Delivered}
 abbrev pub is_backup : Option Node → Bool
 is_backup (Some (nodes.Backup backup)) = true
 is_backup receiver = false
+
+-- an event delivers a message to a backup, in the lane at a place
+abbrev pub IsForBackup : {R : Type 0} → List (LaneState R) → ℕ → Event → Type 0
+IsForBackup {R} lanes place (events.Deliver number) =
+    (lane : LaneState R) → slice_get lanes place ≡ Some lane
+    → IfSome lane.running (λ running. is_backup (receiver_of number running.wire) ≡ true)
+IsForBackup lanes place event = ⊥
 
 -- whether the message of a number is for a backup, and lost where it is delivered, since the backup's replica failed
 abbrev pub is_lost_at_backup : Cluster → ℕ → ℕ → Called → Bool

@@ -9,6 +9,7 @@ pub mod Steps
 pub mod Inside
 pub mod Visits
 pub mod Masters
+pub mod Faults
 pub mod Turns
 pub mod Told
 pub mod Quiet

@@ -1,4 +1,4 @@
-ghost use Rattle.std.specs.Prelude.{◌≡◌, ◌≤◌, ◌<◌, [], All, length, None, Some, IfOk, IfErr, IfSome, OnOk};
+ghost use Rattle.std.specs.Prelude.{◌≡◌, ◌≤◌, ◌<◌, [], true, All, length, None, Some, IfOk, IfErr, IfSome, OnOk};
 ghost use Rattle.std.specs.Option.{option_copied};
 ghost use Rattle.rk_types.specs.NumberMap.{get};
 ghost use Rattle.rk_types.specs.declared.hashing.TheConstants.{LANES};
@@ -7,6 +7,7 @@ ghost use Rattle.rk_world.specs.Premises.{IsMaster, MayAct, MOST_MASTERS};
 ghost use Rattle.rk_cluster.specs.Codes.{client_code, notice_code, place_code};
 ghost use Rattle.rk_cluster.specs.Delivering.{Delivers, IsDelivery};
 ghost use Rattle.rk_cluster.specs.Effects.{ActsOne, BySomeCall, EndsIn, IsCarriedOut};
+ghost use Rattle.rk_cluster.specs.Faults.{CountsGoOn};
 ghost use Rattle.rk_cluster.specs.Makes.{client_makes, deliver_makes, forget_makes, notice_makes};
 ghost use Rattle.rk_cluster.specs.Masters.{HasBackups, backups_of, masters_of};
 ghost use Rattle.rk_cluster.specs.State.{has_spent};
@@ -110,6 +111,7 @@ impl<R: Replica + Drop> Cluster<R> {
         ensures err { IfErr result (EndsIn R.segments self.old self.new (λ cluster. client_code cluster client)
             (λ cluster. client_makes cluster client)) }
         ensures backups { backups_of self.new ≡ backups_of self.old }
+        ensures counts { CountsGoOn R.faults 0 self.old self.new }
     {
         if has_session(&self.sessions, client) {
             return Err(ClusterError::Code(Code::Taken));
@@ -141,6 +143,7 @@ impl<R: Replica + Drop> Cluster<R> {
         ensures err { IfErr result (WhereWorn (λ number. ActsOne R.segments self.old self.new (Asks lane client) [] (Some number))) }
         ensures masters { masters_of self.new ≡ masters_of self.old }
         ensures backups { backups_of self.new ≡ backups_of self.old }
+        ensures counts { CountsGoOn R.faults 0 self.old self.new }
     {
         ask_in(
             &mut self.lanes,
@@ -158,6 +161,7 @@ impl<R: Replica + Drop> Cluster<R> {
         ensures err { IfErr result (EndsIn R.segments self.old self.new (λ cluster. notice_code cluster master)
             (λ cluster. notice_makes cluster master)) }
         ensures backups { backups_of self.new ≡ backups_of self.old }
+        ensures counts { CountsGoOn R.faults 0 self.old self.new }
     {
         let alloc = self.alloc();
         let first = &self.lanes[0];
@@ -184,6 +188,8 @@ impl<R: Replica + Drop> Cluster<R> {
         ensures err { IfErr result (WhereWorn (λ worn. Delivers R.segments self.old self.new lane number [] (Some worn))) }
         ensures masters { masters_of self.new ≡ masters_of self.old }
         ensures backups { backups_of self.new ≡ backups_of self.old }
+        ensures counts { CountsGoOn R.faults 0 self.old self.new }
+        ensures failed { IfOk result (λ delivered. delivered.failed ≡ true → CountsGoOn R.faults 1 self.old self.new) }
     {
         deliver_in(
             &mut self.lanes,
@@ -203,6 +209,7 @@ impl<R: Replica + Drop> Cluster<R> {
         ensures err { IfErr result (λ e. BySomeCall (λ called. EndsIn R.segments self.old self.new
             (λ cluster. place_code cluster lane place) (λ cluster. deliver_makes cluster lane place called) e)) }
         ensures backups { backups_of self.new ≡ backups_of self.old }
+        ensures counts { CountsGoOn R.faults 0 self.old self.new }
     {
         let alloc = self.alloc();
         let Some(number) = self.lanes[lane as usize].wire().at(place) else {
@@ -221,6 +228,7 @@ impl<R: Replica + Drop> Cluster<R> {
         ensures err { IfErr result (EndsIn R.segments self.old self.new (λ cluster. place_code cluster lane place)
             (λ cluster. forget_makes cluster lane place)) }
         ensures backups { backups_of self.new ≡ backups_of self.old }
+        ensures counts { CountsGoOn R.faults 0 self.old self.new }
     {
         let alloc = self.alloc();
         let Some(number) = self.lanes[lane as usize].wire().at(place) else {

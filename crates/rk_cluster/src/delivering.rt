@@ -1,8 +1,9 @@
 // How the messages of a lane's wire reach their receivers.
-ghost use Rattle.std.specs.Prelude.{◌≡◌, ◌<◌, ◌&&◌, [], false, length, Some, None, IfErr, IfOk};
+ghost use Rattle.std.specs.Prelude.{◌≡◌, ◌<◌, ◌&&◌, [], false, true, length, Some, None, IfErr, IfOk};
 ghost use Rattle.std.specs.Option.{option_to_list};
 ghost use Rattle.rk_cluster.specs.Delivering.{Delivers, IsDelivery, is_backup};
 ghost use Rattle.rk_cluster.specs.Effects.{BySomeCall};
+ghost use Rattle.rk_cluster.specs.Faults.{LanesGoOn};
 ghost use Rattle.rk_cluster.specs.Masters.{backup_counts};
 ghost use Rattle.rk_cluster.specs.Steps.{AreLanes, MayAllAct, WhereWorn, state_of};
 
@@ -46,6 +47,8 @@ pub(crate) fn deliver_in<R: Replica + Drop>(
     ensures lanes { AreLanes masters 0 lanes.new.items }
     ensures count { length lanes.new.items ≡ length lanes.old.items }
     ensures backups { backup_counts lanes.new.items ≡ backup_counts lanes.old.items }
+    ensures counts { LanesGoOn R.faults 0 lanes.old.items lanes.new.items }
+    ensures failed { IfOk result (λ delivered. delivered.failed ≡ true → LanesGoOn R.faults 1 lanes.old.items lanes.new.items) }
     ensures acts { MayAllAct masters sessions.new.entries }
 {
     let Ok(to) = lanes[lane as usize].wire().address(number) else {

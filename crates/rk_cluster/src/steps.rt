@@ -1,7 +1,9 @@
 // How events come to the lanes of a cluster.
-ghost use Rattle.std.specs.Prelude.{◌≡◌, ◌<◌, [], ℕ, All, length, map, Some, None, IfErr, IfOk, OnOk};
+ghost use Rattle.std.specs.Prelude.{◌≡◌, ◌<◌, [], ℕ, true, All, length, map, Some, None, IfErr, IfOk, OnOk};
 ghost use Rattle.std.specs.List.{range_with_len};
 ghost use Rattle.rk_types.specs.declared.hashing.TheConstants.{LANES};
+ghost use Rattle.rk_cluster.specs.Delivering.{IsForBackup};
+ghost use Rattle.rk_cluster.specs.Faults.{LanesGoOn};
 ghost use Rattle.rk_cluster.specs.Masters.{backup_counts};
 ghost use Rattle.rk_cluster.specs.Steps.{AreLanes, CarriesSteps, IsDeed, IsHappening, IsLosing, MayComeAt, StepsEndWorn, WhereWorn, failure_of, lost_by};
 
@@ -32,6 +34,7 @@ pub(crate) fn act<R: Replica + Drop>(
     ensures lanes { (masters : ℕ) → AreLanes masters 0 lanes.old.items → AreLanes masters 0 lanes.new.items }
     ensures count { length lanes.new.items ≡ length lanes.old.items }
     ensures backups { backup_counts lanes.new.items ≡ backup_counts lanes.old.items }
+    ensures counts { LanesGoOn R.faults 0 lanes.old.items lanes.new.items }
 {
     act_told(lanes, lane, event)?;
     Ok(())
@@ -50,6 +53,8 @@ pub(crate) fn act_told<R: Replica + Drop>(
     ensures lanes { (masters : ℕ) → AreLanes masters 0 lanes.old.items → AreLanes masters 0 lanes.new.items }
     ensures count { length lanes.new.items ≡ length lanes.old.items }
     ensures backups { backup_counts lanes.new.items ≡ backup_counts lanes.old.items }
+    ensures counts { LanesGoOn R.faults 0 lanes.old.items lanes.new.items }
+    ensures failed { IfOk result (λ lost. IsForBackup lanes.old.items lane event → lost ≡ true → LanesGoOn R.faults 1 lanes.old.items lanes.new.items) }
 {
     let answer = lanes[lane as usize].step(event);
     heard(&answer)?;
@@ -91,6 +96,7 @@ pub(crate) fn act_all<R: Replica + Drop>(
     ensures lanes { AreLanes masters 0 lanes.new.items }
     ensures count { length lanes.new.items ≡ length lanes.old.items }
     ensures backups { backup_counts lanes.new.items ≡ backup_counts lanes.old.items }
+    ensures counts { LanesGoOn R.faults 0 lanes.old.items lanes.new.items }
 {
     for deed in deeds {
         act(lanes, deed.lane, deed.event)?;

@@ -2,6 +2,7 @@
 ghost use Rattle.std.specs.Prelude.{◌≡◌, ◌<◌, ◌++◌, ◌∷◌, [], All, if◌then◌else◌, length, IfErr, IfOk, IfSome, OnOk};
 ghost use Rattle.rk_world.specs.Premises.{IsMaster};
 ghost use Rattle.rk_cluster.specs.Effects.{Carries};
+ghost use Rattle.rk_cluster.specs.Faults.{LanesGoOn};
 ghost use Rattle.rk_cluster.specs.Masters.{backup_counts};
 ghost use Rattle.rk_cluster.specs.Steps.{AreLanes, EndsWorn, MayAllAct, WhereWorn, state_of};
 ghost use Rattle.rk_cluster.specs.Turns.{clients_in as clients_in_lem, is_call_in, live_in as live_in_lem, turn_of as turn_of_lem, turns_of as turns_of_lem};
@@ -72,6 +73,7 @@ pub(crate) fn ask_all<R: Replica + Drop>(
     ensures lanes { AreLanes masters 0 lanes.new.items }
     ensures count { length lanes.new.items ≡ length lanes.old.items }
     ensures backups { backup_counts lanes.new.items ≡ backup_counts lanes.old.items }
+    ensures counts { LanesGoOn R.faults 0 lanes.old.items lanes.new.items }
     ensures acts { MayAllAct masters sessions.new.entries }
 {
     for client in clients {

@@ -3,6 +3,7 @@ ghost use Rattle.std.specs.Prelude.{◌≡◌, ◌<◌, [], ℕ, length, Some, N
 ghost use Rattle.std.specs.Option.{option_to_list};
 ghost use Rattle.rk_world.specs.Cluster.{Accepts, Asks};
 ghost use Rattle.rk_cluster.specs.Effects.{ActsOne};
+ghost use Rattle.rk_cluster.specs.Faults.{LanesGoOn};
 ghost use Rattle.rk_cluster.specs.Masters.{backup_counts};
 ghost use Rattle.rk_cluster.specs.Steps.{AreLanes, MayAllAct, WhereWorn, state_of};
 ghost use Rattle.rk_cluster.specs.Visits.{HasSession};
@@ -36,6 +37,7 @@ pub(crate) fn ask_in<R: Replica + Drop>(
     ensures lanes { AreLanes masters 0 lanes.new.items }
     ensures count { length lanes.new.items ≡ length lanes.old.items }
     ensures backups { backup_counts lanes.new.items ≡ backup_counts lanes.old.items }
+    ensures counts { LanesGoOn R.faults 0 lanes.old.items lanes.new.items }
     ensures acts { MayAllAct masters sessions.new.entries }
     ensures clients { (other : ℕ) → HasSession sessions.old.entries other → HasSession sessions.new.entries other }
 {
@@ -67,6 +69,7 @@ pub(crate) fn accept_in<R: Replica + Drop>(
     ensures lanes { AreLanes masters 0 lanes.new.items }
     ensures count { length lanes.new.items ≡ length lanes.old.items }
     ensures backups { backup_counts lanes.new.items ≡ backup_counts lanes.old.items }
+    ensures counts { LanesGoOn R.faults 0 lanes.old.items lanes.new.items }
     ensures acts { MayAllAct masters sessions.new.entries }
     ensures clients { (other : ℕ) → HasSession sessions.old.entries other → HasSession sessions.new.entries other }
 {

@@ -5,6 +5,7 @@ ghost use Rattle.rk_cluster.specs.Again.{IsNextAt, IsSentAgain};
 ghost use Rattle.rk_cluster.specs.Codes.{again_code};
 ghost use Rattle.rk_cluster.specs.Effects.{EndsIn, IsCarriedOut};
 ghost use Rattle.rk_cluster.specs.Makes.{again_makes, request_lane as request_lane_lem};
+ghost use Rattle.rk_cluster.specs.Faults.{CountsGoOn, LanesGoOn};
 ghost use Rattle.rk_cluster.specs.Masters.{backup_counts, backups_of};
 ghost use Rattle.rk_cluster.specs.Steps.{AreLanes, WhereWorn};
 
@@ -27,6 +28,7 @@ impl<R: Replica + Drop> Cluster<R> {
         ensures err { IfErr result (EndsIn R.segments self.old self.new (λ cluster. again_code cluster client)
             (λ cluster. again_makes cluster client)) }
         ensures backups { backups_of self.new ≡ backups_of self.old }
+        ensures counts { CountsGoOn R.faults 0 self.old self.new }
     {
         let alloc = self.alloc();
         let Some(session) = self.sessions.get(&client) else {
@@ -71,6 +73,7 @@ fn again_in<R: Replica + Drop>(
     ensures lanes { (masters : ℕ) → AreLanes masters 0 lanes.old.items → AreLanes masters 0 lanes.new.items }
     ensures count { length lanes.new.items ≡ length lanes.old.items }
     ensures backups { backup_counts lanes.new.items ≡ backup_counts lanes.old.items }
+    ensures counts { LanesGoOn R.faults 0 lanes.old.items lanes.new.items }
 {
     act(lanes, lane, Event::Again(client))?;
     act(lanes, lane, Event::Deliver(number))?;

@@ -7,6 +7,7 @@ ghost use Rattle.rk_world.specs.Premises.{MayAct};
 ghost use Rattle.rk_cluster.specs.Calling.{IsAsked};
 ghost use Rattle.rk_cluster.specs.Codes.{call_code};
 ghost use Rattle.rk_cluster.specs.Effects.{EndsIn, IsCarriedOut};
+ghost use Rattle.rk_cluster.specs.Faults.{CountsGoOn};
 ghost use Rattle.rk_cluster.specs.Makes.{call_makes};
 ghost use Rattle.rk_cluster.specs.Masters.{backups_of};
 ghost use Rattle.rk_cluster.specs.Steps.{MayAllAct};
@@ -39,6 +40,7 @@ impl<R: Replica + Drop> Cluster<R> {
         ensures err { IfErr result (EndsIn R.segments self.old self.new (λ cluster. call_code cluster client table)
             (λ cluster. call_makes client table key op)) }
         ensures backups { backups_of self.new ≡ backups_of self.old }
+        ensures counts { CountsGoOn R.faults 0 self.old self.new }
     {
         let alloc = self.alloc();
         let first = &self.lanes[0];

@@ -10,6 +10,7 @@ ghost use Rattle.rk_cluster.specs.Codes.{crash_code};
 ghost use Rattle.rk_cluster.specs.Crashing.{IsOfCode, IsSameBeside, crashes};
 ghost use Rattle.rk_cluster.specs.Effects.{EndsIn, IsCarriedOut};
 ghost use Rattle.rk_cluster.specs.Makes.{crash_makes};
+ghost use Rattle.rk_cluster.specs.Faults.{CountsGoOn, LanesGoOn};
 ghost use Rattle.rk_cluster.specs.Masters.{backup_counts, backups_of};
 ghost use Rattle.rk_cluster.specs.State.{AreWorlds};
 ghost use Rattle.rk_cluster.specs.Steps.{AreLanes, CarriesSteps, IsHappening, MayComeAt};
@@ -33,6 +34,7 @@ impl<R: Replica + Drop> Cluster<R> {
             (λ cluster. crash_makes cluster master)) }
         ensures code { IfErr result IsOfCode }
         ensures backups { backups_of self.new ≡ backups_of self.old }
+        ensures counts { CountsGoOn R.faults 0 self.old self.new }
     {
         let alloc = self.alloc();
         let first = &self.lanes[0];
@@ -75,6 +77,7 @@ fn crash_in<R: Replica + Drop>(lanes: &mut Vec<Lane<R>>, lane: u8, master: u8)
     ensures lanes { (masters : ℕ) → AreLanes masters 0 lanes.old.items → AreLanes masters 0 lanes.new.items }
     ensures count { length lanes.new.items ≡ length lanes.old.items }
     ensures backups { backup_counts lanes.new.items ≡ backup_counts lanes.old.items }
+    ensures counts { LanesGoOn R.faults 0 lanes.old.items lanes.new.items }
 {
     // The one refusal is that the master has crashed already, and then nothing happens.
     let _ = lanes[lane as usize].step(Event::Crash(master));
@@ -90,6 +93,7 @@ fn crash_all<R: Replica + Drop>(lanes: &mut Vec<Lane<R>>, masters: u8, master: u
     ensures lanes { AreLanes masters 0 lanes.new.items }
     ensures count { length lanes.new.items ≡ length lanes.old.items }
     ensures backups { backup_counts lanes.new.items ≡ backup_counts lanes.old.items }
+    ensures counts { LanesGoOn R.faults 0 lanes.old.items lanes.new.items }
 {
     for lane in 0..LANES {
         crash_in(lanes, lane, master);

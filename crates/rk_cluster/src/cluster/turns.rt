@@ -9,6 +9,7 @@ ghost use Rattle.rk_cluster.specs.State.{IsOf};
 ghost use Rattle.rk_cluster.specs.Turns.{clients_in as clients_in_lem};
 ghost use Rattle.rk_world.specs.Premises.{IsMaster, MOST_MASTERS};
 ghost use Rattle.rk_cluster.specs.Effects.{ActsOne, EndsIn, IsCarriedOut};
+ghost use Rattle.rk_cluster.specs.Faults.{CountsGoOn};
 ghost use Rattle.rk_cluster.specs.Makes.{turn_makes};
 ghost use Rattle.rk_cluster.specs.Masters.{HasBackups, MayComeIn, backups_of, masters_of};
 ghost use Rattle.rk_cluster.specs.Steps.{AreLanes, IsPlain, WhereWorn};
@@ -53,6 +54,7 @@ impl<R: Replica + Drop> Cluster<R> {
             (Happens lane event (Gave None)) [] (Some number))) }
         ensures masters { masters_of self.new ≡ masters_of self.old }
         ensures backups { backups_of self.new ≡ backups_of self.old }
+        ensures counts { CountsGoOn R.faults 0 self.old self.new }
     {
         act(&mut self.lanes, lane, event)
     }
@@ -86,6 +88,7 @@ impl<R: Replica + Drop> Cluster<R> {
             (λ cluster. turn_makes cluster lane)) }
         ensures masters { masters_of self.new ≡ masters_of self.old }
         ensures backups { backups_of self.new ≡ backups_of self.old }
+        ensures counts { CountsGoOn R.faults 0 self.old self.new }
     {
         let alloc = self.alloc();
         // Who takes a turn is settled before the first one does.

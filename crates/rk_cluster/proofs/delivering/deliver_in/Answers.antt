@@ -1,13 +1,16 @@
 use Rattle.std.proofs.Common.{Bool, [], None, Some, sym, ap, subst, ◌∙◌}
+use Rattle.std.proofs.lemmas.Bool.{and_parts}
 use Rattle.std.proofs.lemmas.Result.{err_from_is_err_and}
 use Rattle.rk_world.specs.declared.event.Event.TheVariants as events
-use Rattle.rk_cluster.specs.Delivering.{Delivers, IsDelivery}
+use Rattle.rk_cluster.specs.Delivering.{Delivers, IsDelivery, is_backup}
 use Rattle.rk_cluster.specs.Effects.{BySomeCall}
 use Rattle.rk_cluster.specs.Steps.{IsHappening, state_of}
 use Rattle.rk_cluster.specs.declared.delivering.Delivered.{Delivered}
 use Rattle.rk_cluster.proofs.Deliveries.{delivers_node, delivery_client, delivery_node, delivery_nothing, delivery_stranger, no_receiver}
+use Rattle.rk_cluster.proofs.Failing.{for_backup}
 use Rattle.rk_cluster.proofs.Heard.{worn_weaker}
 use Rattle.rk_cluster.proofs.Worlds.{there_read}
+use Rattle.rk_cluster.proofs.Faults.{lanes_same}
 use Rattle.rk_cluster.proofs.delivering.deliver_in.Goals as goal
 
 pub returns-in_default-clause-ok : goal.returns-in_default-clause-ok
@@ -31,6 +34,8 @@ returns-in_err-lost g c =
       lanes = c.in_err-lost.ensures.lanes c.args.masters c.requires.lanes;
       count = c.in_err-lost.ensures.count;
       backups = c.in_err-lost.ensures.backups;
+      counts = c.in_err-lost.ensures.counts;
+      failed = tt;
       acts = c.requires.acts;
     })
 
@@ -45,6 +50,11 @@ returns-in_default-to g c =
       lanes = c.in_ok-lost.ensures.lanes c.args.masters c.requires.lanes;
       count = c.in_ok-lost.ensures.count;
       backups = c.in_ok-lost.ensures.backups;
+      counts = c.in_ok-lost.ensures.counts;
+      failed = λ failed.
+          let both = and_parts (is_backup (Some c.in-Ok.to)) c.in_ok-lost.lost (sym c.is_lost_at_backup.ensures ∙ failed) in
+          c.in_ok-lost.ensures.failed
+          (for_backup c.args.lanes.now.items c.args.lane c.args.number c.index.result.now c.wire.result.now c.in-Ok.to there c.wire.ensures c.in-Ok.ensures.ok both.0) both.1;
       acts = c.requires.acts;
     }
 
@@ -62,3 +72,9 @@ returns-clause-ok g c =
     delivery_client g.R.Replica.segments c.args.lanes.now.items c.args.sessions.now.entries c.args.lane c.args.number c.index.result.now c.wire.result.now there c.wire.ensures
     (state_of c.accept_in.new.lanes.items c.accept_in.new.sessions.entries) c.in-Client.client c.in_ok-said.said (c.in-Ok.ensures.ok ∙ ap Some c.in-Client.is)
     (sym c.has_session.ensures ∙ c.if-not-has_session.false) c.in_ok-said.ensures.ok
+
+pub returns-in_default-clause-counts : goal.returns-in_default-clause-counts
+returns-in_default-clause-counts g c = lanes_same g.R.Replica.faults c.args.lanes.now.items
+
+pub returns-then-not-has_session-clause-counts : goal.returns-then-not-has_session-clause-counts
+returns-then-not-has_session-clause-counts g c = lanes_same g.R.Replica.faults c.args.lanes.now.items

@@ -1,9 +1,10 @@
-use Rattle.std.proofs.Common.{ℕ, Bool, Option, None, Some, slice_set, sym, subst}
+use Rattle.std.proofs.Common.{ℕ, Bool, Option, None, Some, slice_set, sym, subst, ◌∙◌}
 use Rattle.std.proofs.lemmas.Result.{err_from_is_err_and}
 use Rattle.rk_cluster.specs.Steps.{IsHappening, IsLosing, lost_by}
 use Rattle.rk_cluster.proofs.Happenings.{happened}
 use Rattle.rk_cluster.proofs.Heard.{heard_ends, heard_well}
 use Rattle.rk_cluster.proofs.Worlds.{counts_set, lane_set, there_read}
+use Rattle.rk_cluster.proofs.Failing.{lanes_failed, lanes_stepped}
 use Rattle.rk_cluster.proofs.steps.act_told.Goals as goal
 
 pub returns-clause-ok : goal.returns-clause-ok
@@ -46,3 +47,20 @@ pub returns-clause-backups : goal.returns-clause-backups
 returns-clause-backups g c =
     counts_set c.args.lanes.now.items c.args.lane c.index_mut.result.now c.step-answer.new.self
     (there_read c.args.lanes.now.items c.args.lane c.index_mut.result.now c.requires.there c.index_mut.ensures.value) c.step-answer.ensures.lane
+
+pub returns-in_err-heard-clause-counts : goal.returns-in_err-heard-clause-counts
+returns-in_err-heard-clause-counts g c =
+    lanes_stepped g.R.Replica.faults g.R.Replica.segments c.args.lanes.now.items c.args.lane c.args.event c.index_mut.result.now c.step-answer.new.self c.step-answer.result
+    (there_read c.args.lanes.now.items c.args.lane c.index_mut.result.now c.requires.there c.index_mut.ensures.value) c.step-answer.ensures.ok c.step-answer.ensures.refused c.step-answer.ensures.spent
+
+pub returns-clause-counts : goal.returns-clause-counts
+returns-clause-counts g c =
+    lanes_stepped g.R.Replica.faults g.R.Replica.segments c.args.lanes.now.items c.args.lane c.args.event c.index_mut.result.now c.step-answer.new.self c.step-answer.result
+    (there_read c.args.lanes.now.items c.args.lane c.index_mut.result.now c.requires.there c.index_mut.ensures.value) c.step-answer.ensures.ok c.step-answer.ensures.refused c.step-answer.ensures.spent
+
+pub returns-clause-failed : goal.returns-clause-failed
+returns-clause-failed g c =
+    λ is_for lost.
+    lanes_failed g.R.Replica.faults g.R.Replica.segments c.args.lanes.now.items c.args.lane c.args.event c.index_mut.result.now c.step-answer.new.self c.step-answer.result
+    (there_read c.args.lanes.now.items c.args.lane c.index_mut.result.now c.requires.there c.index_mut.ensures.value) c.step-answer.ensures.ok c.step-answer.ensures.never
+    is_for (sym c.has_lost.ensures ∙ lost)

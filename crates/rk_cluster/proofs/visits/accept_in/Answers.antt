@@ -15,6 +15,8 @@ use Rattle.rk_cluster.specs.Visits.{HasSession}
 use Rattle.rk_cluster.proofs.Coming.{accepts, accepts_lane, has_after}
 use Rattle.rk_cluster.proofs.Heard.{heard_well}
 use Rattle.rk_cluster.proofs.Worlds.{counts_set, lane_set, masters_at, there_read}
+use Rattle.rk_world.specs.Calls as calls
+use Rattle.rk_cluster.proofs.Failing.{lanes_visited}
 use Rattle.rk_cluster.proofs.visits.accept_in.Goals as goal
 
 pub accept-answer-requires : goal.accept-answer-requires
@@ -76,3 +78,8 @@ returns-clause-clients g c =
     let written = c.get_mut.follows.holds later in
     let put = insert_tree c.args.sessions.now (c.get_mut.follows.lender later) c.args.client later c.in-Some.ensures.ordered written.4 (written.3 (subst IsSome c.in-Some.ensures.value refl)) in
     λ other has. subst (λ (sessions : NumberMap Session). HasSession sessions other) (sym put) (has_after c.args.sessions.now.entries c.args.client later other has)
+
+pub returns-clause-counts : goal.returns-clause-counts
+returns-clause-counts g c =
+    lanes_visited g.R.Replica.faults (λ w. calls.accept w c.args.number c.in-Some.session.now) c.args.lanes.now.items c.args.lane c.index_mut-at.result.now c.accept-answer.new.self c.accept-answer.new.session c.accept-answer.result
+    (there_read c.args.lanes.now.items c.args.lane c.index_mut-at.result.now c.requires.there c.index_mut-at.ensures.value) c.accept-answer.ensures.ok c.accept-answer.ensures.kept

@@ -15,6 +15,7 @@ use Rattle.rk_cluster.specs.declared.code.Code.TheVariants.{Limit, Taken}
 use Rattle.rk_world.specs.Cluster.{Joins}
 use Rattle.std.proofs.Common.{[], ◌∷◌}
 use Rattle.rk_cluster.proofs.Joining.{absent_none, all_worn, client_acts, client_free, client_full, client_taken, deeds_in, ends_in, few, many, new_acts}
+use Rattle.rk_cluster.proofs.Faults.{counts_same}
 use Rattle.rk_cluster.proofs.cluster.Cluster.add_client.Goals as goal
 
 pub returns-then-has_session-clause-err : goal.returns-then-has_session-clause-err
@@ -84,3 +85,9 @@ returns-clause-ok g c =
           (absent_none (get now c.args.client) (sym c.has_session.ensures ∙ c.if-has_session.false)) (c.in_ok-put_session.ensures.ok ∙ ap (insert now c.args.client) c.new.ensures)
           (rw c.in_all_lanes-deeds.ensures at c.in_ok-act_all.ensures.ok);
     }))
+
+pub returns-then-has_session-clause-counts : goal.returns-then-has_session-clause-counts
+returns-then-has_session-clause-counts g c = counts_same g.R.Replica.faults c.args.self.now
+
+pub returns-then-count-ge-MOST_CLIENTS-clause-counts : goal.returns-then-count-ge-MOST_CLIENTS-clause-counts
+returns-then-count-ge-MOST_CLIENTS-clause-counts g c = counts_same g.R.Replica.faults c.args.self.now

@@ -12,6 +12,7 @@ use Rattle.rk_cluster.specs.Steps.{state_of}
 use Rattle.rk_cluster.specs.declared.code.Code.{Code}
 use Rattle.rk_cluster.proofs.Joining.{deeds_in}
 use Rattle.rk_cluster.proofs.Making.{carried_out, numbered_made, refused, stopped, told_of}
+use Rattle.rk_cluster.proofs.Faults.{counts_same}
 use Rattle.rk_cluster.proofs.cluster.Cluster.add_table.Goals as goal
 
 abbrev code_of : ℕ → ℕ → Cluster → Option Code
@@ -62,3 +63,6 @@ returns-clause-ok g c =
     (carried_out g.R.Replica.segments lanes new now (code_of c.args.table c.args.master) (makes_of c.args.table c.args.master) (deeds_in (event_of c.args.table c.args.master c.in_ok-tablet.tablet)) code
     (numbered_made g.R.Replica.segments lanes now (event_of c.args.table c.args.master) c.in_ok-tablet.tablet c.self.invariant.count told)
     (rw c.in_all_lanes-deeds.ensures at c.in_ok-act_all.ensures.ok)))
+
+pub returns-in_err-tablet-clause-counts : goal.returns-in_err-tablet-clause-counts
+returns-in_err-tablet-clause-counts g c = counts_same g.R.Replica.faults c.args.self.now

@@ -12,6 +12,7 @@ use Rattle.rk_cluster.specs.declared.code.Code.TheVariants.{NothingSent, Unknown
 use Rattle.rk_cluster.proofs.Joining.{ends_in}
 use Rattle.rk_cluster.proofs.Resending.{again_acts, again_code_by, again_unknown, few_sent, next_in}
 use Rattle.rk_cluster.proofs.Worlds.{there_read}
+use Rattle.rk_cluster.proofs.Faults.{counts_same}
 use Rattle.rk_cluster.proofs.cluster.Cluster.again.Goals as goal
 
 pub returns-in_default-clause-err : goal.returns-in_default-clause-err
@@ -88,3 +89,12 @@ returns-clause-ok g c =
       acts = again_acts g.R.Replica.segments lanes now c.args.client c.in-Some.session.now c.in-Some-last_request.request.now lane (c.sent-next.result + 1) its new None found asked
           (sym c.request_lane-lane.ensures.lane) here next c.in_ok-again_in.ensures.ok;
     }))
+
+pub returns-in_default-clause-counts : goal.returns-in_default-clause-counts
+returns-in_default-clause-counts g c = counts_same g.R.Replica.faults c.args.self.now
+
+pub returns-in_default-last_request-clause-counts : goal.returns-in_default-last_request-clause-counts
+returns-in_default-last_request-clause-counts g c = counts_same g.R.Replica.faults c.args.self.now
+
+pub returns-then-spent-clause-counts : goal.returns-then-spent-clause-counts
+returns-then-spent-clause-counts g c = counts_same g.R.Replica.faults c.args.self.now

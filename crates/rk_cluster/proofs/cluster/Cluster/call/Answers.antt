@@ -14,6 +14,8 @@ use Rattle.rk_cluster.specs.Steps.{state_of}
 use Rattle.rk_cluster.specs.declared.code.Code.TheVariants.{Busy, Limit, Unknown}
 use Rattle.rk_cluster.proofs.Calling.{call_by, call_lawful, call_unknown, calls, calls_few, calls_many, copied_some, tables_count}
 use Rattle.rk_cluster.proofs.Worlds.{there_read}
+use Rattle.rk_cluster.specs.Inside.{cluster_of}
+use Rattle.rk_cluster.proofs.Faults.{counts_from, counts_same, lanes_same}
 use Rattle.rk_cluster.proofs.cluster.Cluster.call.Goals as goal
 
 -- what was told of tables and calls
@@ -105,3 +107,26 @@ invariant_of-self-2 g c = record {
   backups = c.self.invariant.backups;
   sessions = c.ask_next.ensures.acts c.self.inside.masters c.self.invariant.sessions;
 }
+
+pub returns-then-spent-clause-counts : goal.returns-then-spent-clause-counts
+returns-then-spent-clause-counts g c = counts_same g.R.Replica.faults c.args.self.now
+
+pub returns-in_default-clause-counts : goal.returns-in_default-clause-counts
+returns-in_default-clause-counts g c = counts_same g.R.Replica.faults c.args.self.now
+
+pub returns-then-not-has_table-clause-counts : goal.returns-then-not-has_table-clause-counts
+returns-then-not-has_table-clause-counts g c = counts_same g.R.Replica.faults c.args.self.now
+
+pub returns-then-is_some-clause-counts : goal.returns-then-is_some-clause-counts
+returns-then-is_some-clause-counts g c = counts_same g.R.Replica.faults c.args.self.now
+
+pub returns-then-calls_asked-ge-MOST_CALLS-clause-counts : goal.returns-then-calls_asked-ge-MOST_CALLS-clause-counts
+returns-then-calls_asked-ge-MOST_CALLS-clause-counts g c = counts_same g.R.Replica.faults c.args.self.now
+
+pub returns-in_err-ask_next-clause-counts : goal.returns-in_err-ask_next-clause-counts
+returns-in_err-ask_next-clause-counts g c =
+    counts_from g.R.Replica.faults 0 (cluster_of c.self.inside) c.args.self.now c.self.inside.lanes.items c.self.view_is (lanes_same g.R.Replica.faults c.self.inside.lanes.items)
+
+pub returns-clause-counts : goal.returns-clause-counts
+returns-clause-counts g c =
+    counts_from g.R.Replica.faults 0 (cluster_of c.self.inside) c.args.self.now c.self.inside.lanes.items c.self.view_is (lanes_same g.R.Replica.faults c.self.inside.lanes.items)

@@ -9,6 +9,7 @@ use Rattle.rk_cluster.specs.Steps.{state_of}
 use Rattle.rk_cluster.proofs.Crashing.{crash_by}
 use Rattle.rk_cluster.proofs.Noticing.{all_act, is_within}
 use Rattle.rk_cluster.proofs.Worlds.{masters_at, there_read}
+use Rattle.rk_cluster.proofs.Faults.{counts_same}
 use Rattle.rk_cluster.proofs.cluster.Cluster.crash.Goals as goal
 
 pub returns-clause-ok : goal.returns-clause-ok
@@ -30,3 +31,12 @@ returns-clause-ok g c =
           (subst (λ (list : List (LaneState g.row.R.Denot)). AreWorlds g.R.Replica.segments list worlds) (sym c.deref.ensures.value) are));
       acts = all_act g.R.Replica.segments lanes now new (events.Crash c.args.master) c.self.invariant.count c.crash_all.ensures.acts;
     }))
+
+pub returns-then-master-lt1-clause-counts : goal.returns-then-master-lt1-clause-counts
+returns-then-master-lt1-clause-counts g c = counts_same g.R.Replica.faults c.args.self.now
+
+pub returns-then-crashed-clause-counts : goal.returns-then-crashed-clause-counts
+returns-then-crashed-clause-counts g c = counts_same g.R.Replica.faults c.args.self.now
+
+pub returns-then-not-lives_another-clause-counts : goal.returns-then-not-lives_another-clause-counts
+returns-then-not-lives_another-clause-counts g c = counts_same g.R.Replica.faults c.args.self.now

@@ -14,6 +14,7 @@ use Rattle.rk_cluster.specs.declared.code.Code.TheVariants.{NoPlace}
 use Rattle.rk_cluster.proofs.Deliveries.{carried_out, ends}
 use Rattle.rk_cluster.proofs.Forgetting.{place_by}
 use Rattle.rk_cluster.proofs.Worlds.{there_read}
+use Rattle.rk_cluster.proofs.Faults.{counts_same}
 use Rattle.rk_cluster.proofs.cluster.Cluster.deliver.Goals as goal
 
 pub returns-in_default-clause-err : goal.returns-in_default-clause-err
@@ -58,3 +59,6 @@ returns-clause-ok g c =
     (carried_out g.R.Replica.segments lanes now c.args.lane c.in-Some.number c.index.result.now c.wire.result.now there c.wire.ensures c.args.place c.deliver_in.new.self found c.in_ok-delivered.delivered
     (subst (λ (state : ClusterState g.row.R.Denot). BySomeCall (IsDelivery g.R.Replica.segments state c.deliver_in.new.self c.args.lane c.in-Some.number c.in_ok-delivered.delivered))
     (sym c.self.view_is) c.in_ok-delivered.ensures.ok)))
+
+pub returns-in_default-clause-counts : goal.returns-in_default-clause-counts
+returns-in_default-clause-counts g c = counts_same g.R.Replica.faults c.args.self.now

@@ -11,6 +11,7 @@ use Rattle.rk_cluster.specs.declared.code.Code.TheVariants.{NoPlace}
 use Rattle.rk_cluster.proofs.Forgetting.{forgets, forgets_worn, place_by}
 use Rattle.rk_cluster.proofs.Joining.{ends_in}
 use Rattle.rk_cluster.proofs.Worlds.{there_read}
+use Rattle.rk_cluster.proofs.Faults.{counts_same}
 use Rattle.rk_cluster.proofs.cluster.Cluster.forget.Goals as goal
 
 pub returns-in_default-clause-err : goal.returns-in_default-clause-err
@@ -54,3 +55,6 @@ returns-clause-ok g c =
       code = place_by g.R.Replica.segments lanes now c.args.lane c.index.result.now c.wire.result.now there c.wire.ensures c.args.place (Some c.in-Some.number) found;
       acts = forgets g.R.Replica.segments lanes now c.args.lane c.index.result.now c.wire.result.now there c.wire.ensures c.args.place new c.in-Some.number found c.in_ok-act.ensures.ok;
     }))
+
+pub returns-in_default-clause-counts : goal.returns-in_default-clause-counts
+returns-in_default-clause-counts g c = counts_same g.R.Replica.faults c.args.self.now

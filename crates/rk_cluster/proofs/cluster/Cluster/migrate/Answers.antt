@@ -13,6 +13,7 @@ use Rattle.rk_cluster.specs.Told.{LanesTell}
 use Rattle.rk_cluster.specs.declared.code.Code.{Code}
 use Rattle.rk_cluster.specs.declared.steps.Deed.{Deed}
 use Rattle.rk_cluster.proofs.Making.{carried_out, deeds_may, deeds_of, found_made, refused, stopped, told_of}
+use Rattle.rk_cluster.proofs.Faults.{counts_same}
 use Rattle.rk_cluster.proofs.cluster.Cluster.migrate.Goals as goal
 
 abbrev code_of : ℕ → ℕ → Cluster → Option Code
@@ -77,3 +78,9 @@ returns-clause-ok g c =
     (carried_out g.R.Replica.segments lanes new now (code_of c.args.tablet c.args.to) (makes_of c.args.tablet c.args.to) (deeds_of event found) (code now)
     (found_made g.R.Replica.segments lanes now event (concerned_of c.args.tablet c.args.to) found told)
     (subst (λ (those : List Deed). CarriesSteps g.R.Replica.segments lanes new those []) deeds c.in_ok-act_all.ensures.ok)))
+
+pub returns-in_err-concerned-clause-counts : goal.returns-in_err-concerned-clause-counts
+returns-in_err-concerned-clause-counts g c = counts_same g.R.Replica.faults c.args.self.now
+
+pub returns-in_err-deeds-clause-counts : goal.returns-in_err-deeds-clause-counts
+returns-in_err-deeds-clause-counts g c = counts_same g.R.Replica.faults c.args.self.now

@@ -9,6 +9,7 @@ use Rattle.rk_cluster.specs.Steps.{StepsEndWorn, state_of}
 use Rattle.rk_cluster.proofs.Joining.{deeds_in, ends_in}
 use Rattle.rk_cluster.proofs.Noticing.{all_act, all_stop, is_within, notice_by}
 use Rattle.rk_cluster.proofs.Worlds.{masters_at, there_read}
+use Rattle.rk_cluster.proofs.Faults.{counts_same}
 use Rattle.rk_cluster.proofs.cluster.Cluster.notice.Goals as goal
 
 pub returns-in_err-act_all-clause-err : goal.returns-in_err-act_all-clause-err
@@ -48,3 +49,9 @@ returns-clause-ok g c =
       acts = all_act g.R.Replica.segments lanes now new (events.Notice c.args.master) c.self.invariant.count
           (rw c.in_all_lanes-deeds.ensures at c.in_ok-act_all.ensures.ok);
     }))
+
+pub returns-then-master-lt1-clause-counts : goal.returns-then-master-lt1-clause-counts
+returns-then-master-lt1-clause-counts g c = counts_same g.R.Replica.faults c.args.self.now
+
+pub returns-then-not-crashed-clause-counts : goal.returns-then-not-crashed-clause-counts
+returns-then-not-crashed-clause-counts g c = counts_same g.R.Replica.faults c.args.self.now

@@ -13,6 +13,7 @@ use Rattle.rk_cluster.specs.Told.{LanesTell}
 use Rattle.rk_cluster.specs.declared.code.Code.{Code}
 use Rattle.rk_cluster.proofs.Joining.{deeds_in}
 use Rattle.rk_cluster.proofs.Making.{carried_out, numbered_made, refused, stopped, told_of}
+use Rattle.rk_cluster.proofs.Faults.{counts_same}
 use Rattle.rk_cluster.proofs.cluster.Cluster.split.Goals as goal
 
 abbrev code_of : ℕ → ℕ → Cluster → Option Code
@@ -63,3 +64,6 @@ returns-clause-ok g c =
     (carried_out g.R.Replica.segments lanes new now (code_of c.args.tablet c.args.at) (makes_of c.args.tablet c.args.at) (deeds_in (event_of c.args.tablet c.args.at c.in_ok-new.new)) (code now)
     (numbered_made g.R.Replica.segments lanes now (event_of c.args.tablet c.args.at) c.in_ok-new.new c.self.invariant.count told)
     (rw c.in_all_lanes-deeds.ensures at c.in_ok-act_all.ensures.ok)))
+
+pub returns-in_err-new-clause-counts : goal.returns-in_err-new-clause-counts
+returns-in_err-new-clause-counts g c = counts_same g.R.Replica.faults c.args.self.now

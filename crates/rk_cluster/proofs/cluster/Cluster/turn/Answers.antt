@@ -11,6 +11,8 @@ use Rattle.rk_cluster.proofs.Joining.{ends_in}
 use Rattle.rk_cluster.proofs.Takers.{clients_have, turns_fit}
 use Rattle.rk_cluster.proofs.Turned.{asking_stops, turn_done, turns_stop}
 use Rattle.rk_cluster.proofs.Worlds.{masters_at, there_read}
+use Rattle.rk_cluster.specs.Inside.{cluster_of}
+use Rattle.rk_cluster.proofs.Faults.{counts_from, counts_same, lanes_then}
 use Rattle.rk_cluster.proofs.cluster.Cluster.turn.Goals as goal
 
 pub live_in-requires : goal.live_in-requires
@@ -95,3 +97,22 @@ returns-clause-ok g c =
           (c.deref-2.ensures.value ∙ c.in_ok-clients.ensures) (c.deref-3.ensures.value ∙ c.in_ok-turns.ensures ∙ ap (turns_of c.args.lane) c.deref.ensures.value)
           c.in_ok-ask_all.ensures.ok c.in_ok-act_all.ensures.ok;
     }))
+
+pub returns-in_err-clients-clause-counts : goal.returns-in_err-clients-clause-counts
+returns-in_err-clients-clause-counts g c = counts_same g.R.Replica.faults c.args.self.now
+
+pub returns-in_err-live-clause-counts : goal.returns-in_err-live-clause-counts
+returns-in_err-live-clause-counts g c = counts_same g.R.Replica.faults c.args.self.now
+
+pub returns-in_err-turns-clause-counts : goal.returns-in_err-turns-clause-counts
+returns-in_err-turns-clause-counts g c = counts_same g.R.Replica.faults c.args.self.now
+
+pub returns-in_err-act_all-clause-counts : goal.returns-in_err-act_all-clause-counts
+returns-in_err-act_all-clause-counts g c =
+    counts_from g.R.Replica.faults 0 (cluster_of c.self.inside) c.args.self.now c.act_all.new.lanes.items c.self.view_is
+    (lanes_then g.R.Replica.faults c.self.inside.lanes.items c.ask_all.new.lanes.items c.act_all.new.lanes.items c.ask_all.ensures.counts c.act_all.ensures.counts)
+
+pub returns-clause-counts : goal.returns-clause-counts
+returns-clause-counts g c =
+    counts_from g.R.Replica.faults 0 (cluster_of c.self.inside) c.args.self.now c.act_all.new.lanes.items c.self.view_is
+    (lanes_then g.R.Replica.faults c.self.inside.lanes.items c.ask_all.new.lanes.items c.act_all.new.lanes.items c.ask_all.ensures.counts c.act_all.ensures.counts)

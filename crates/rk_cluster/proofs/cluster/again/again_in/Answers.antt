@@ -6,6 +6,7 @@ use Rattle.rk_cluster.specs.Steps.{IsHappening}
 use Rattle.rk_cluster.proofs.Heard.{worn_weaker}
 use Rattle.rk_cluster.proofs.Resending.{to_end, undelivered, unsent}
 use Rattle.rk_cluster.proofs.Worlds.{something_within}
+use Rattle.rk_cluster.proofs.Faults.{lanes_then}
 use Rattle.rk_cluster.proofs.cluster.again.again_in.Goals as goal
 
 pub returns-in_err-act-clause-err : goal.returns-in_err-act-clause-err
@@ -52,3 +53,14 @@ returns-clause-err g c =
     (λ broken. to_end g.R.Replica.segments old c.act.new.lanes.items later new c.args.lane c.args.client c.args.number its.0 its.1 (c.requires.next its.0 its.1)
     c.in_ok-act.ensures.ok c.in_ok-act-2.ensures.ok (Some broken)))
     c.act-3.ensures.err
+
+pub returns-in_err-act-2-clause-counts : goal.returns-in_err-act-2-clause-counts
+returns-in_err-act-2-clause-counts g c =
+    lanes_then g.R.Replica.faults c.args.lanes.now.items c.act.new.lanes.items c.act-2.new.lanes.items c.act.ensures.counts c.act-2.ensures.counts
+
+pub returns-clause-counts : goal.returns-clause-counts
+returns-clause-counts g c =
+    let old = c.args.lanes.now.items in
+    let first = c.act.new.lanes.items in
+    let second = c.act-2.new.lanes.items in
+    lanes_then g.R.Replica.faults old second c.act-3.new.lanes.items (lanes_then g.R.Replica.faults old first second c.act.ensures.counts c.act-2.ensures.counts) c.act-3.ensures.counts

@@ -4,6 +4,7 @@ use Rattle.rk_cluster.specs.Steps.{IsHappening}
 use Rattle.rk_cluster.proofs.Crashing.{crash_well}
 use Rattle.rk_cluster.proofs.Happenings.{happened}
 use Rattle.rk_cluster.proofs.Worlds.{counts_set, lane_set, set_beside, there_read}
+use Rattle.rk_cluster.proofs.Failing.{lanes_stepped}
 use Rattle.rk_cluster.proofs.cluster.crashing.crash_in.Goals as goal
 
 pub returns-clause-happens : goal.returns-clause-happens
@@ -29,3 +30,8 @@ pub returns-clause-backups : goal.returns-clause-backups
 returns-clause-backups g c =
     counts_set c.args.lanes.now.items c.args.lane c.index_mut.result.now c.step.new.self
     (there_read c.args.lanes.now.items c.args.lane c.index_mut.result.now c.requires.there c.index_mut.ensures.value) c.step.ensures.lane
+
+pub returns-clause-counts : goal.returns-clause-counts
+returns-clause-counts g c =
+    lanes_stepped g.R.Replica.faults g.R.Replica.segments c.args.lanes.now.items c.args.lane (events.Crash c.args.master) c.index_mut.result.now c.step.new.self c.step.result
+    (there_read c.args.lanes.now.items c.args.lane c.index_mut.result.now c.requires.there c.index_mut.ensures.value) c.step.ensures.ok c.step.ensures.refused c.step.ensures.spent
