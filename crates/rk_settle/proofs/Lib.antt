@@ -1,4 +1,5 @@
 pub mod Courses
+pub mod Failing
 pub mod Moving
 pub mod Ending
 pub mod Following

@@ -4,9 +4,11 @@ use Rattle.std.proofs.lemmas.Bool.{le-leb, lt-leb}
 use Rattle.std.proofs.lemmas.List.Sums.{fold-append}
 use Rattle.rk_outside.specs.Segments.{Segments}
 use Rattle.rk_world.specs.Backup.{Gave}
+use Rattle.rk_cluster.specs.Faults.{CountsGoOn}
 use Rattle.rk_cluster.specs.Masters.{backups_of, masters_of}
 use Rattle.rk_cluster.specs.State.{ClusterState}
 use Rattle.rk_settle.specs.Course.{Course, MOST_FAULTS, error_by, moved, moved_all, moved_by, round_over, with_tasks}
+use Rattle.rk_settle.specs.Faults.{failed_rounds}
 use Rattle.rk_settle.specs.Lawful.{AreTasks}
 use Rattle.rk_settle.specs.States.{ClusterTells, IsCourse, Moves, MovesAll, Stops, StopsIn}
 use Rattle.rk_settle.specs.Unfolding.{unfolded}
@@ -137,11 +139,12 @@ module _ {R : Type 0} (segments : R → Option Segments) where
   stops_in begun now next first left was is (errors.Replica rounds) all stops =
       record { calls = all.calls; stopped = λ start course stands. stops start (moved_all course all.calls) (all.moves start course stands) }
 
--- how far a run has come: what has moved, the tasks that are left are lawful, a fault counts for a move at most, and each lane has as many
--- masters and backups
-pub record IsRunning {R : Type 0} (segments : R → Option Segments) (start now : ClusterState R) (first left : List Task) (was is : Progress) (count : ℕ) : Type 0 where
+-- how far a run has come: what has moved, the tasks that are left are lawful, a fault counts for a move at most, each lane has as many
+-- masters and backups, and replicas failed as often as there were rounds in which one failed
+pub record IsRunning {R : Type 0} (segments : R → Option Segments) (faults : R → ℕ) (start now : ClusterState R) (first left : List Task) (was is : Progress) (count : ℕ) : Type 0 where
   pub moves : MovesAll segments start now first left was is
   pub lawful : AreTasks (masters_of start) left
-  pub faults : is.faults ≤ count
+  pub few : is.faults ≤ count
   pub masters : masters_of now ≡ masters_of start
   pub backups : backups_of now ≡ backups_of start
+  pub counts : CountsGoOn faults (failed_rounds is) start now

@@ -11,6 +11,7 @@ pub mod Reaches
 pub mod Advance
 pub mod Unfolding
 pub mod Course
+pub mod Faults
 pub mod Told
 pub mod Codes
 pub mod Outcomes

@@ -3,8 +3,10 @@ ghost use Rattle.std.specs.Prelude.{◌≡◌, ◌++◌, List, map, IfErr, IfOk,
 ghost use Rattle.std.specs.List.{range_with_len};
 ghost use Rattle.rk_types.specs.declared.hashing.TheConstants.{LANES};
 ghost use Rattle.rk_world.specs.Cluster.{Cluster as Lanes};
+ghost use Rattle.rk_cluster.specs.Faults.{CountsGoOn};
 ghost use Rattle.rk_cluster.specs.Masters.{backups_of, masters_of};
 ghost use Rattle.rk_settle.specs.Advance.{advance as advance_lem};
+ghost use Rattle.rk_settle.specs.Faults.{HasFaults};
 ghost use Rattle.rk_settle.specs.Lawful.{AreTasks};
 ghost use Rattle.rk_settle.specs.Outcomes.{Ends, Fails};
 ghost use Rattle.rk_settle.specs.Priority.{priority as priority_lem};
@@ -35,6 +37,8 @@ pub fn settle<R: Replica + Drop>(
     ensures err { IfErr result (Fails R.segments cluster.old cluster.new settle_lem) }
     ensures masters { masters_of cluster.new ≡ masters_of cluster.old }
     ensures backups { backups_of cluster.new ≡ backups_of cluster.old }
+    ensures counts { CountsGoOn R.faults 0 cluster.old cluster.new }
+    ensures cause { IfErr result (HasFaults R.faults cluster.old cluster.new) }
 {
     let mut tasks = Tasks::new(alloc);
     tasks.push(Task::Settles)?;
@@ -54,6 +58,8 @@ pub fn serve<R: Replica + Drop>(
     ensures err { IfErr result (Fails R.segments cluster.old cluster.new (λ c. serve_lem c client)) }
     ensures masters { masters_of cluster.new ≡ masters_of cluster.old }
     ensures backups { backups_of cluster.new ≡ backups_of cluster.old }
+    ensures counts { CountsGoOn R.faults 0 cluster.old cluster.new }
+    ensures cause { IfErr result (HasFaults R.faults cluster.old cluster.new) }
 {
     let mut tasks = Tasks::new(alloc);
     push_serve(&mut tasks, cluster, client)?;
@@ -70,6 +76,8 @@ pub fn priority<R: Replica + Drop>(
     ensures err { IfErr result (Fails R.segments cluster.old cluster.new (λ c. priority_lem c tablet)) }
     ensures masters { masters_of cluster.new ≡ masters_of cluster.old }
     ensures backups { backups_of cluster.new ≡ backups_of cluster.old }
+    ensures counts { CountsGoOn R.faults 0 cluster.old cluster.new }
+    ensures cause { IfErr result (HasFaults R.faults cluster.old cluster.new) }
 {
     let mut tasks = Tasks::new(alloc);
     tasks.push_all(&hastenings(tablet))?;
@@ -87,6 +95,8 @@ pub fn advance<R: Replica + Drop>(
     ensures err { IfErr result (Fails R.segments cluster.old cluster.new (λ c. advance_lem c tablet reach)) }
     ensures masters { masters_of cluster.new ≡ masters_of cluster.old }
     ensures backups { backups_of cluster.new ≡ backups_of cluster.old }
+    ensures counts { CountsGoOn R.faults 0 cluster.old cluster.new }
+    ensures cause { IfErr result (HasFaults R.faults cluster.old cluster.new) }
 {
     let mut tasks = Tasks::new(alloc);
     tasks.push_all(&advances(tablet, reach))?;
@@ -106,6 +116,8 @@ fn follow<R: Replica + Drop>(
         → IfErr result (Fails R.segments cluster.old cluster.new command) }
     ensures masters { masters_of cluster.new ≡ masters_of cluster.old }
     ensures backups { backups_of cluster.new ≡ backups_of cluster.old }
+    ensures counts { CountsGoOn R.faults 0 cluster.old cluster.new }
+    ensures cause { IfErr result (HasFaults R.faults cluster.old cluster.new) }
 {
     // Asked how many masters there are, a cluster tells that it has eight lanes.
     let _masters = cluster.masters();

@@ -2,9 +2,11 @@
 ghost use Rattle.std.specs.Prelude.{◌≡◌, ◌+◌, ◌-◌, ◌^◌, ◌<◌, ◌≤◌, ◌∷◌, ◌++◌, [], false, if◌then◌else◌, List, IfErr, OnOk};
 ghost use Rattle.std.specs.Option.{option_to_list};
 ghost use Rattle.rk_types.specs.declared.hashing.TheConstants.{LANES};
+ghost use Rattle.rk_cluster.specs.Faults.{CountsGoOn};
 ghost use Rattle.rk_cluster.specs.Masters.{backups_of, masters_of};
 ghost use Rattle.rk_settle.specs.Lawful.{AreTasks, IsAct, IsTask};
 ghost use Rattle.rk_settle.specs.Course.{MOST_FAULTS as most_faults};
+ghost use Rattle.rk_settle.specs.Faults.{HasFaults, IsOfReplicas, KeepsUp};
 ghost use Rattle.rk_settle.specs.States.{Moves, MovesAll, Stops, StopsIn};
 ghost use Rattle.rk_settle.specs.declared.course.Progress.{Progress as Came};
 ghost use Rattle.rk_settle.specs.declared.error.SettleError.TheVariants as errors;
@@ -55,11 +57,14 @@ pub(crate) fn run<R: Replica + Drop>(
 ) -> Result<(), SettleError>
     requires tasks { AreTasks (masters_of cluster.old) tasks.old }
     requires faults { progress.old.faults ≡ 0 }
+    requires failing { progress.old.failing ≡ false }
     ensures done { OnOk result (tasks.new ≡ []) }
     ensures ok { OnOk result (MovesAll R.segments cluster.old cluster.new tasks.old tasks.new progress.old progress.new) }
     ensures err { IfErr result (StopsIn R.segments cluster.old cluster.new tasks.old progress.old) }
     ensures masters { masters_of cluster.new ≡ masters_of cluster.old }
     ensures backups { backups_of cluster.new ≡ backups_of cluster.old }
+    ensures counts { CountsGoOn R.faults 0 cluster.old cluster.new }
+    ensures cause { IfErr result (HasFaults R.faults cluster.old cluster.new) }
 {
     for _ in 0..u64::MAX {
         let Some(task) = tasks.pop() else {
@@ -86,6 +91,9 @@ fn make_move<R: Replica + Drop>(
     ensures faults { progress.new.faults ≤ progress.old.faults + 1 }
     ensures masters { masters_of cluster.new ≡ masters_of cluster.old }
     ensures backups { backups_of cluster.new ≡ backups_of cluster.old }
+    ensures counts { CountsGoOn R.faults 0 cluster.old cluster.new }
+    ensures failed { OnOk result (KeepsUp R.faults cluster.old cluster.new progress.old progress.new) }
+    ensures cause { IfErr result (λ e. IsOfReplicas e → most_faults ≤ progress.old.faults) }
 {
     match task {
         Task::Occurs { lane, act } => occur(cluster, lane, act),
@@ -109,6 +117,8 @@ fn occur<R: Replica + Drop>(cluster: &mut Cluster<R>, lane: u8, act: Act) -> Res
         (made.Occurs lane act ∷ rest) progress e) }
     ensures masters { masters_of cluster.new ≡ masters_of cluster.old }
     ensures backups { backups_of cluster.new ≡ backups_of cluster.old }
+    ensures counts { CountsGoOn R.faults 0 cluster.old cluster.new }
+    ensures cause { IfErr result (λ e. IsOfReplicas e → ⊥) }
 {
     match act {
         Act::Happens(event) => cluster.happen(lane, event)?,
@@ -136,6 +146,9 @@ fn deliver<R: Replica + Drop>(
     ensures faults { progress.new.faults ≡ progress.old.faults }
     ensures masters { masters_of cluster.new ≡ masters_of cluster.old }
     ensures backups { backups_of cluster.new ≡ backups_of cluster.old }
+    ensures counts { CountsGoOn R.faults 0 cluster.old cluster.new }
+    ensures failed { OnOk result (KeepsUp R.faults cluster.old cluster.new progress.old progress.new) }
+    ensures cause { IfErr result (λ e. IsOfReplicas e → ⊥) }
 {
     let Delivered { said, failed } = cluster.deliver_in(lane, number)?;
     tell(&mut progress.said, said)?;

@@ -3,6 +3,7 @@ use Rattle.rk_settle.specs.Advance.{advance}
 use Rattle.rk_settle.specs.declared.task.Task.{Task}
 use Rattle.rk_settle.specs.declared.task.Task.TheVariants.{Advances}
 use Rattle.rk_settle.proofs.Ending.{each_tells}
+use Rattle.rk_cluster.proofs.Faults.{counts_same}
 use Rattle.rk_settle.proofs.commands.advance.Goals as goal
 
 pub returns-clause-ok : goal.returns-clause-ok
@@ -20,3 +21,6 @@ returns-clause-err g c =
     sym (append-nil (advance cluster c.args.tablet c.args.reach))
     ∙ each_tells g.R.Replica.segments c.args.cluster.now (λ lane. Advances lane c.args.tablet c.args.reach) [] c.advances.result c.push_all.new.self c.advances.ensures
     (c.in_ok-push_all.ensures ∙ ap (λ (more : List Task). c.advances.result ++ more) c.new-tasks.ensures) cluster stands eight)
+
+pub returns-in_err-push_all-clause-counts : goal.returns-in_err-push_all-clause-counts
+returns-in_err-push_all-clause-counts g c = counts_same g.R.Replica.faults c.args.cluster.now

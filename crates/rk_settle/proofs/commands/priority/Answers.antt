@@ -3,6 +3,7 @@ use Rattle.rk_settle.specs.Priority.{priority}
 use Rattle.rk_settle.specs.declared.task.Task.{Task}
 use Rattle.rk_settle.specs.declared.task.Task.TheVariants.{Hastens}
 use Rattle.rk_settle.proofs.Ending.{each_tells}
+use Rattle.rk_cluster.proofs.Faults.{counts_same}
 use Rattle.rk_settle.proofs.commands.priority.Goals as goal
 
 pub returns-clause-ok : goal.returns-clause-ok
@@ -20,3 +21,6 @@ returns-clause-err g c =
     sym (append-nil (priority cluster c.args.tablet))
     ∙ each_tells g.R.Replica.segments c.args.cluster.now (λ lane. Hastens lane c.args.tablet) [] c.hastenings.result c.push_all.new.self c.hastenings.ensures
     (c.in_ok-push_all.ensures ∙ ap (λ (more : List Task). c.hastenings.result ++ more) c.new-tasks.ensures) cluster stands eight)
+
+pub returns-in_err-push_all-clause-counts : goal.returns-in_err-push_all-clause-counts
+returns-in_err-push_all-clause-counts g c = counts_same g.R.Replica.faults c.args.cluster.now

@@ -2,6 +2,7 @@ use Rattle.std.proofs.Common.{List, ◌++◌, append-nil, ap, sym, ◌∙◌}
 use Rattle.rk_settle.specs.Serve.{serve}
 use Rattle.rk_settle.specs.declared.task.Task.{Task}
 use Rattle.rk_settle.proofs.Ending.{tells_anyway}
+use Rattle.rk_cluster.proofs.Faults.{counts_same}
 use Rattle.rk_settle.proofs.commands.serve.Goals as goal
 
 pub returns-clause-ok : goal.returns-clause-ok
@@ -19,3 +20,6 @@ returns-clause-err g c =
     (λ cluster stands.
     sym (append-nil (serve cluster c.args.client)) ∙ ap (λ (none : List Task). serve cluster c.args.client ++ none) (sym c.new-tasks.ensures)
     ∙ c.in_ok-push_serve.ensures.pushed cluster stands))
+
+pub returns-in_err-push_serve-clause-counts : goal.returns-in_err-push_serve-clause-counts
+returns-in_err-push_serve-clause-counts g c = counts_same g.R.Replica.faults c.args.cluster.now

@@ -3,6 +3,7 @@ use Rattle.rk_settle.specs.Settle.{settle}
 use Rattle.rk_settle.specs.declared.task.Task.{Task}
 use Rattle.rk_settle.specs.declared.task.Task.TheVariants.{Notices, Settles}
 use Rattle.rk_settle.proofs.Ending.{each_tells}
+use Rattle.rk_cluster.proofs.Faults.{counts_same}
 use Rattle.rk_settle.proofs.commands.settle.Goals as goal
 
 pub returns-clause-ok : goal.returns-clause-ok
@@ -16,3 +17,9 @@ returns-clause-err g c =
     c.follow.ensures.err settle
     (each_tells g.R.Replica.segments c.args.cluster.now Notices (Settles ∷ []) c.notices.result c.push_all.new.self c.notices.ensures
     (c.in_ok-push_all.ensures ∙ ap (λ (more : List Task). c.notices.result ++ more) (c.in_ok-push.ensures ∙ ap (λ (none : List Task). Settles ∷ none) c.new-tasks.ensures)))
+
+pub returns-in_err-push-clause-counts : goal.returns-in_err-push-clause-counts
+returns-in_err-push-clause-counts g c = counts_same g.R.Replica.faults c.args.cluster.now
+
+pub returns-in_err-push_all-clause-counts : goal.returns-in_err-push_all-clause-counts
+returns-in_err-push_all-clause-counts g c = counts_same g.R.Replica.faults c.args.cluster.now

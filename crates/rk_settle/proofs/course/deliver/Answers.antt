@@ -1,6 +1,7 @@
 use Rattle.std.proofs.Common.{◌||◌, refl}
 use Rattle.rk_settle.specs.declared.course.Progress.{Progress}
 use Rattle.rk_settle.proofs.Courses.{delivers_moves}
+use Rattle.rk_settle.proofs.Failing.{keeps_up_once}
 use Rattle.rk_settle.proofs.course.deliver.Goals as goal
 
 -- what its receiver said is told, and whether the call of a replica failed
@@ -9,3 +10,9 @@ returns-clause-ok g c =
     let is : Progress = record c.args.progress.now { said = c.tell.new.into; failing = c.args.progress.now.failing || c.in_ok-said.field-0.failed } in
     λ rest. delivers_moves g.R.Replica.segments c.args.cluster.now c.deliver_in.new.self c.args.lane c.args.number c.in_ok-said.field-0 c.args.progress.now is
     c.in_ok-said.ensures.ok c.in_ok-tell.ensures refl refl rest
+
+pub returns-clause-failed : goal.returns-clause-failed
+returns-clause-failed g c =
+    let is : Progress = record c.args.progress.now { said = c.tell.new.into; failing = c.args.progress.now.failing || c.in_ok-said.field-0.failed } in
+    keeps_up_once g.R.Replica.faults c.in_ok-said.field-0.failed c.args.cluster.now c.deliver_in.new.self c.args.progress.now is refl refl c.in_ok-said.ensures.counts
+    c.in_ok-said.ensures.failed

@@ -1,6 +1,8 @@
 use Rattle.std.proofs.Common.{refl, arith}
 use Rattle.std.proofs.lemmas.Result.{IfErr-weaker, on_ok_weaker}
+use Rattle.rk_cluster.proofs.Faults.{counts_same}
 use Rattle.rk_settle.proofs.Moving.{begins_moves, begins_stops, ends_moves, unfolds_moves}
+use Rattle.rk_settle.proofs.Failing.{keeps_up}
 use Rattle.rk_settle.proofs.course.make_move.Goals as goal
 
 pub returns-in-Begins-clause-ok : goal.returns-in-Begins-clause-ok
@@ -29,4 +31,21 @@ returns-in_ok-unfold-in_default g c = record {
   faults = omega arith;
   masters = refl;
   backups = refl;
+  counts = counts_same g.R.Replica.faults c.args.cluster.now;
+  failed = λ start before. before;
+  cause = tt;
 }
+
+pub returns-in_err-unfold-in_default-clause-counts : goal.returns-in_err-unfold-in_default-clause-counts
+returns-in_err-unfold-in_default-clause-counts g c = counts_same g.R.Replica.faults c.args.cluster.now
+
+pub returns-in-Begins-clause-counts : goal.returns-in-Begins-clause-counts
+returns-in-Begins-clause-counts g c = counts_same g.R.Replica.faults c.args.cluster.now
+
+pub returns-in-Ends-clause-counts : goal.returns-in-Ends-clause-counts
+returns-in-Ends-clause-counts g c = counts_same g.R.Replica.faults c.args.cluster.now
+
+pub returns-in-Occurs-clause-failed : goal.returns-in-Occurs-clause-failed
+returns-in-Occurs-clause-failed g c =
+    on_ok_weaker c.occur.result (λ moves. keeps_up g.R.Replica.faults c.args.cluster.now c.occur.new.cluster c.args.progress.now c.args.progress.now refl c.occur.ensures.counts)
+    c.occur.ensures.ok

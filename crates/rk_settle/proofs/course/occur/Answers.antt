@@ -1,6 +1,7 @@
 use Rattle.std.proofs.Common.{rules}
 use Rattle.std.proofs.lemmas.Result.{err_from_is_err_and}
 use Rattle.rk_settle.proofs.Courses.{asks_moves, asks_stops, happens_moves, happens_stops, nobody_moves}
+use Rattle.rk_cluster.proofs.Faults.{counts_same}
 use Rattle.rk_settle.proofs.course.occur.Goals as goal
 
 pub returns-in_err-happen-in-Happens-clause-err : goal.returns-in_err-happen-in-Happens-clause-err
@@ -25,3 +26,6 @@ returns-in_ok-ask_in-in-Asks-clause-ok g c =
 
 pub returns-else-is_some-clause-ok : goal.returns-else-is_some-clause-ok
 returns-else-is_some-clause-ok g c = nobody_moves g.R.Replica.segments c.args.cluster.now c.args.cluster.now c.args.lane c.args.act c.in-Asks.client c.in-Asks.is (search rules)
+
+pub returns-else-is_some-clause-counts : goal.returns-else-is_some-clause-counts
+returns-else-is_some-clause-counts g c = counts_same g.R.Replica.faults c.args.cluster.now

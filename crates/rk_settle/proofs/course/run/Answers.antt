@@ -1,10 +1,14 @@
-use Rattle.std.proofs.Common.{ℕ, List, sym, subst, ◌∙◌, refl, arith}
+use Rattle.std.proofs.Common.{◌+◌, ℕ, List, if◌then◌else◌, sym, subst, ◌∙◌, refl, arith}
 use Rattle.std.proofs.lemmas.List.Elements.{All-head, All-tail}
 use Rattle.std.proofs.lemmas.Result.{err_from_is_err_and}
+use Rattle.rk_cluster.specs.Faults.{CountsGoOn}
 use Rattle.rk_cluster.specs.Masters.{masters_of}
+use Rattle.rk_cluster.proofs.Faults.{counts_less, counts_same, counts_then}
+use Rattle.rk_settle.specs.Faults.{failed_rounds}
 use Rattle.rk_settle.specs.Lawful.{AreTasks, IsTask}
 use Rattle.rk_settle.specs.States.{Moves, MovesAll, Stops}
 use Rattle.rk_settle.specs.declared.task.Task.{Task}
+use Rattle.rk_settle.proofs.Failing.{failed_often}
 use Rattle.rk_settle.proofs.Moving.{none_moved, one_more, stops_in}
 use Rattle.rk_settle.proofs.course.run.Goals as goal
 
@@ -12,9 +16,11 @@ pub loop-init : goal.loop-init
 loop-init g c = record {
   moves = none_moved g.R.Replica.segments c.args.cluster.now c.args.tasks.now c.args.progress.now;
   lawful = c.requires.tasks;
-  faults = omega (arith, c.requires.faults);
+  few = omega (arith, c.requires.faults);
   masters = refl;
   backups = refl;
+  counts = subst (λ (count : ℕ). CountsGoOn g.R.Replica.faults count c.args.cluster.now c.args.cluster.now)
+      (λ i. (sym c.requires.faults i) + (if (sym c.requires.failing i) then 1 else 0)) (counts_same g.R.Replica.faults c.args.cluster.now);
 }
 
 pub returns-in_default-clause-ok : goal.returns-in_default-clause-ok
@@ -27,6 +33,10 @@ returns-in_default-clause-masters g c = c.loop.invariant.masters
 
 pub returns-in_default-clause-backups : goal.returns-in_default-clause-backups
 returns-in_default-clause-backups g c = c.loop.invariant.backups
+
+pub returns-in_default-clause-counts : goal.returns-in_default-clause-counts
+returns-in_default-clause-counts g c =
+    counts_less g.R.Replica.faults 0 (failed_rounds c.loop.progress) c.args.cluster.now c.loop.cluster (omega arith) c.loop.invariant.counts
 
 pub make_move-requires-clause-task : goal.make_move-requires-clause-task
 make_move-requires-clause-task g c =
@@ -41,7 +51,7 @@ make_move-requires-clause-left g c =
     (subst (AreTasks (masters_of c.args.cluster.now)) c.in-Some.ensures.some c.loop.invariant.lawful))
 
 pub make_move-requires-clause-faults : goal.make_move-requires-clause-faults
-make_move-requires-clause-faults g c = omega (arith, c.loop.invariant.faults, c.loop-test.true)
+make_move-requires-clause-faults g c = omega (arith, c.loop.invariant.few, c.loop-test.true)
 
 pub returns-in_err-make_move-clause-err : goal.returns-in_err-make_move-clause-err
 returns-in_err-make_move-clause-err g c =
@@ -57,6 +67,20 @@ returns-in_err-make_move-clause-masters g c = c.make_move.ensures.masters ∙ c.
 pub returns-in_err-make_move-clause-backups : goal.returns-in_err-make_move-clause-backups
 returns-in_err-make_move-clause-backups g c = c.make_move.ensures.backups ∙ c.loop.invariant.backups
 
+pub returns-in_err-make_move-clause-counts : goal.returns-in_err-make_move-clause-counts
+returns-in_err-make_move-clause-counts g c =
+    counts_then g.R.Replica.faults 0 0 c.args.cluster.now c.loop.cluster c.make_move.new.cluster
+    (counts_less g.R.Replica.faults 0 (failed_rounds c.loop.progress) c.args.cluster.now c.loop.cluster (omega arith) c.loop.invariant.counts)
+    c.make_move.ensures.counts
+
+pub returns-in_err-make_move-clause-cause : goal.returns-in_err-make_move-clause-cause
+returns-in_err-make_move-clause-cause g c =
+    let lost = err_from_is_err_and c.from_residual.result c.from_residual.ensures.1 in
+    rw (lost.1, lost.2)
+    (λ of_replicas.
+    failed_often g.R.Replica.faults c.args.cluster.now c.loop.cluster c.make_move.new.cluster c.loop.progress (c.in_err-make_move.ensures.cause of_replicas) c.loop.invariant.counts
+    c.make_move.ensures.counts)
+
 pub loop-preserved : goal.loop-preserved
 loop-preserved g c = record {
   moves = one_more g.R.Replica.segments c.args.cluster.now c.loop.cluster c.make_move.new.cluster c.args.tasks.now c.loop.tasks c.make_move.new.tasks c.args.progress.now c.loop.progress
@@ -64,9 +88,10 @@ loop-preserved g c = record {
       (subst (λ (left : List Task). Moves g.R.Replica.segments c.loop.cluster c.make_move.new.cluster left c.make_move.new.tasks c.loop.progress c.make_move.new.progress)
       (sym c.in-Some.ensures.some) c.in_ok-make_move.ensures.ok);
   lawful = subst (λ (masters : ℕ). AreTasks masters c.make_move.new.tasks) (c.make_move.ensures.masters ∙ c.loop.invariant.masters) c.in_ok-make_move.ensures.lawful;
-  faults = omega (arith, c.make_move.ensures.faults, c.loop.invariant.faults);
+  few = omega (arith, c.make_move.ensures.faults, c.loop.invariant.few);
   masters = c.make_move.ensures.masters ∙ c.loop.invariant.masters;
   backups = c.make_move.ensures.backups ∙ c.loop.invariant.backups;
+  counts = c.in_ok-make_move.ensures.failed c.args.cluster.now c.loop.invariant.counts;
 }
 
 pub returns-clause-masters : goal.returns-clause-masters
@@ -74,3 +99,7 @@ returns-clause-masters g c = c.loop.invariant.masters
 
 pub returns-clause-backups : goal.returns-clause-backups
 returns-clause-backups g c = c.loop.invariant.backups
+
+pub returns-clause-counts : goal.returns-clause-counts
+returns-clause-counts g c =
+    counts_less g.R.Replica.faults 0 (failed_rounds c.loop.progress) c.args.cluster.now c.loop.cluster (omega arith) c.loop.invariant.counts
