@@ -12,3 +12,5 @@ pub mod Stores
 pub mod Concluding
 pub mod Leaving
 pub mod Telling
+pub mod Failing
+pub mod Rising

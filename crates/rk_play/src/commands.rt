@@ -1,8 +1,10 @@
 // What a command of a script does in a cluster, and writes.
 ghost use Rattle.std.specs.Prelude.{◌≡◌, ◌≢◌, ◌++◌, IfErr, IsErrAnd, IsOkAnd, OnOk};
 ghost use Rattle.rk_lines.specs.Lines.{said_lines};
+ghost use Rattle.rk_cluster.specs.Faults.{CountsGoOn};
 ghost use Rattle.rk_play.specs.Came.{Ran, Stopped};
 ghost use Rattle.rk_play.specs.Effects.{effect, effect_within};
+ghost use Rattle.rk_play.specs.Faults.{HasFaults};
 ghost use Rattle.rk_play.specs.Stops.{error_by_cluster};
 ghost use Rattle.rk_play.specs.declared.error.PlayError.TheVariants.{NoMemory as no_memory};
 ghost use Rattle.rk_script.specs.Lawful.{IsLawfulCommand};
@@ -30,6 +32,8 @@ pub(crate) fn run_within<R: Replica + Drop>(
     ensures ok { OnOk result (Ran R.segments cluster.old cluster.new (λ c calls. effect_within c command calls) text.old.items text.new.items) }
     ensures err { IfErr result (Stopped R.segments cluster.old cluster.new (λ c calls. effect_within c command calls)) }
     ensures kept { IfErr result (λ e. e ≢ no_memory → text.new.items ≡ text.old.items) }
+    ensures counts { CountsGoOn R.faults 0 cluster.old cluster.new }
+    ensures cause { IfErr result (HasFaults R.faults cluster.old cluster.new) }
 {
     if is_full(cluster) {
         return Err(PlayError::Refused(Code::Limit));
@@ -48,6 +52,8 @@ fn run_command<R: Replica + Drop>(
     ensures ok { OnOk result (Ran R.segments cluster.old cluster.new (λ c calls. effect c command calls) text.old.items text.new.items) }
     ensures err { IfErr result (Stopped R.segments cluster.old cluster.new (λ c calls. effect c command calls)) }
     ensures kept { IfErr result (λ e. e ≢ no_memory → text.new.items ≡ text.old.items) }
+    ensures counts { CountsGoOn R.faults 0 cluster.old cluster.new }
+    ensures cause { IfErr result (HasFaults R.faults cluster.old cluster.new) }
 {
     match command {
         Command::Masters(_) | Command::Backups(_) => Err(PlayError::Refused(Code::TooLate)),

@@ -1,9 +1,11 @@
 // A script read, played and written.
-ghost use Rattle.std.specs.Prelude.{◌≡◌, ◌+◌, All, [], length, IfSome};
+ghost use Rattle.std.specs.Prelude.{◌≡◌, ◌+◌, All, [], length, map, IfSome};
 ghost use Rattle.std.specs.Io.KnownBytes.{IsAtEnd};
 ghost use Rattle.rk_outside.specs.Parts.{ConsumesBetween};
 ghost use Rattle.rk_world.specs.Cluster.{Cluster as Whole};
+ghost use Rattle.rk_cluster.specs.Faults.{GoOn};
 ghost use Rattle.rk_cluster.specs.Fresh.{AreEmpty};
+ghost use Rattle.rk_settle.specs.Course.{MOST_FAULTS};
 ghost use Rattle.rk_script.specs.Lawful.{IsLawful};
 ghost use Rattle.rk_script.specs.Script.{script_of};
 ghost use Rattle.rk_play.specs.Concluded.{Concludes, ConcludesBy, IsWritten, MayComeTo, PlaysBy};
@@ -51,6 +53,7 @@ pub fn play<S: Source, K: Sink, R: Replica + Drop>(
     ensures most_read { ConsumesBetween (S.left source.old) (S.left source.new) 0 (LONGEST_SCRIPT + PIECE) }
     ensures read_cause { HasStatusCause Status.ReadFault result (S.faults source.old) (S.faults source.new) }
     ensures write_cause { HasStatusCause Status.WriteFault result (K.faults sink.old) (K.faults sink.new) }
+    ensures replica_cause { result ≡ Status.ReplicaFault → GoOn MOST_FAULTS (map R.faults replicas.old.items) (map R.faults replicas.new.items) }
 {
     match read_all(alloc, LONGEST_SCRIPT, source) {
         Ok(script) => play_script(alloc, script.as_slice(), sink, replicas),
@@ -73,6 +76,7 @@ fn play_script<K: Sink, R: Replica + Drop>(
     ensures count { (result ≡ Status.NoMemory → ⊥) → length replicas.new.items ≡ 32 }
     ensures status { MayComeTo result }
     ensures cause { HasStatusCause Status.WriteFault result (K.faults sink.old) (K.faults sink.new) }
+    ensures replica_cause { result ≡ Status.ReplicaFault → GoOn MOST_FAULTS (map R.faults replicas.old.items) (map R.faults replicas.new.items) }
 {
     match parse(alloc, script) {
         Ok(commands) => play_commands(alloc, commands, sink, replicas),
@@ -95,6 +99,7 @@ fn play_commands<K: Sink, R: Replica + Drop>(
     ensures count { (result ≡ Status.NoMemory → ⊥) → length replicas.new.items ≡ 32 }
     ensures status { MayComeTo result }
     ensures cause { HasStatusCause Status.WriteFault result (K.faults sink.old) (K.faults sink.new) }
+    ensures replica_cause { result ≡ Status.ReplicaFault → GoOn MOST_FAULTS (map R.faults replicas.old.items) (map R.faults replicas.new.items) }
 {
     let mut commands = commands;
     let opening = match read_opening(commands.as_slice()) {
@@ -123,6 +128,7 @@ fn play_opened<K: Sink, R: Replica + Drop>(
     ensures count { (result ≡ Status.NoMemory → ⊥) → length replicas.new.items ≡ 32 }
     ensures status { MayComeTo result }
     ensures cause { HasStatusCause Status.WriteFault result (K.faults sink.old) (K.faults sink.new) }
+    ensures replica_cause { result ≡ Status.ReplicaFault → GoOn MOST_FAULTS (map R.faults replicas.old.items) (map R.faults replicas.new.items) }
 {
     let masters = opening.masters.unwrap_or(DEFAULT_COUNT);
     let backups = opening.backups.unwrap_or(DEFAULT_COUNT);

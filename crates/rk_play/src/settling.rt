@@ -1,7 +1,9 @@
 // What the settling commands do.
 ghost use Rattle.std.specs.Prelude.{◌≡◌, ◌≢◌, IfErr, OnOk};
+ghost use Rattle.rk_cluster.specs.Faults.{CountsGoOn};
 ghost use Rattle.rk_play.specs.Came.{Ran, Stopped};
 ghost use Rattle.rk_play.specs.Effects.{effect, reach_of as reach_of_lem};
+ghost use Rattle.rk_play.specs.Faults.{HasFaults};
 ghost use Rattle.rk_play.specs.declared.error.PlayError.TheVariants.{NoMemory as no_memory};
 ghost use Rattle.rk_script.specs.declared.command.Command.TheVariants as commands;
 
@@ -22,6 +24,8 @@ pub(crate) fn settle_all<R: Replica + Drop>(
     ensures ok { OnOk result (Ran R.segments cluster.old cluster.new (λ c calls. effect c commands.Settle calls) text.old.items text.new.items) }
     ensures err { IfErr result (Stopped R.segments cluster.old cluster.new (λ c calls. effect c commands.Settle calls)) }
     ensures kept { IfErr result (λ e. e ≢ no_memory → text.new.items ≡ text.old.items) }
+    ensures counts { CountsGoOn R.faults 0 cluster.old cluster.new }
+    ensures cause { IfErr result (HasFaults R.faults cluster.old cluster.new) }
 {
     let said = settle(alloc, cluster)?;
     push_all_said(text, said.as_slice())?;
@@ -38,6 +42,8 @@ pub(crate) fn serve_call<R: Replica + Drop>(
     ensures ok { OnOk result (Ran R.segments cluster.old cluster.new (λ c calls. effect c (commands.Serve client) calls) text.old.items text.new.items) }
     ensures err { IfErr result (Stopped R.segments cluster.old cluster.new (λ c calls. effect c (commands.Serve client) calls)) }
     ensures kept { IfErr result (λ e. e ≢ no_memory → text.new.items ≡ text.old.items) }
+    ensures counts { CountsGoOn R.faults 0 cluster.old cluster.new }
+    ensures cause { IfErr result (HasFaults R.faults cluster.old cluster.new) }
 {
     if let Some(code) = serve_code(cluster, client) {
         return Err(PlayError::Refused(code));
@@ -58,6 +64,8 @@ pub(crate) fn advance_tablet<R: Replica + Drop>(
     ensures ok { OnOk result (Ran R.segments cluster.old cluster.new (λ c calls. effect c (commands.Advance tablet wanted) calls) text.old.items text.new.items) }
     ensures err { IfErr result (Stopped R.segments cluster.old cluster.new (λ c calls. effect c (commands.Advance tablet wanted) calls)) }
     ensures kept { IfErr result (λ e. e ≢ no_memory → text.new.items ≡ text.old.items) }
+    ensures counts { CountsGoOn R.faults 0 cluster.old cluster.new }
+    ensures cause { IfErr result (HasFaults R.faults cluster.old cluster.new) }
 {
     let reach = reach_of(wanted);
     if let Some(code) = advance_code(cluster, tablet, reach) {
@@ -78,6 +86,8 @@ pub(crate) fn hasten<R: Replica + Drop>(
     ensures ok { OnOk result (Ran R.segments cluster.old cluster.new (λ c calls. effect c (commands.Priority tablet) calls) text.old.items text.new.items) }
     ensures err { IfErr result (Stopped R.segments cluster.old cluster.new (λ c calls. effect c (commands.Priority tablet) calls)) }
     ensures kept { IfErr result (λ e. e ≢ no_memory → text.new.items ≡ text.old.items) }
+    ensures counts { CountsGoOn R.faults 0 cluster.old cluster.new }
+    ensures cause { IfErr result (HasFaults R.faults cluster.old cluster.new) }
 {
     if let Some(code) = priority_code(cluster, tablet) {
         return Err(PlayError::Refused(code));

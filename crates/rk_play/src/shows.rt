@@ -8,6 +8,7 @@ ghost use Rattle.rk_cluster.specs.Told.{LaneTells, LanesTell, Tells};
 ghost use Rattle.rk_cluster.specs.declared.code.Code.TheVariants.{NotOwned as not_owned};
 ghost use Rattle.rk_play.specs.Came.{Ran, Stopped, WhereRefused};
 ghost use Rattle.rk_play.specs.Effects.{is_full as is_full_lem, journal_bytes as journal_bytes_lem, shown, wire_bytes as wire_bytes_lem};
+ghost use Rattle.rk_play.specs.Faults.{IsOfReplicas};
 ghost use Rattle.rk_play.specs.Shows as shows;
 
 use crate::error::PlayError;
@@ -64,6 +65,7 @@ pub(crate) fn show_tablet<R: Replica + Drop>(
     ensures ok { OnOk result (Ran R.segments cluster.now cluster.now (λ c calls. shown c (shows.where_code c tablet) (shows.where_text c tablet)) text.old.items text.new.items) }
     ensures err { IfErr result (Stopped R.segments cluster.now cluster.now (λ c calls. shown c (shows.where_code c tablet) (shows.where_text c tablet))) }
     ensures kept { IfErr result (λ e. e ≢ PlayError.NoMemory → text.new.items ≡ text.old.items) }
+    ensures cause { IfErr result (λ e. IsOfReplicas e → ⊥) }
 {
     if !is_tablet(cluster, tablet) {
         return Err(PlayError::Refused(Code::Unknown));
@@ -101,6 +103,7 @@ pub(crate) fn show_records<R: Replica + Drop>(
     ensures ok { OnOk result (Ran R.segments cluster.now cluster.now (λ c calls. shown c (shows.dump_code c tablet) (shows.dump_text c tablet)) text.old.items text.new.items) }
     ensures err { IfErr result (Stopped R.segments cluster.now cluster.now (λ c calls. shown c (shows.dump_code c tablet) (shows.dump_text c tablet))) }
     ensures kept { IfErr result (λ e. e ≢ PlayError.NoMemory → text.new.items ≡ text.old.items) }
+    ensures cause { IfErr result (λ e. IsOfReplicas e → ⊥) }
 {
     if !is_tablet(cluster, tablet) {
         return Err(PlayError::Refused(Code::Unknown));
@@ -159,6 +162,7 @@ pub(crate) fn show_history<R: Replica + Drop>(
     ensures ok { OnOk result (Ran R.segments cluster.now cluster.now (λ c calls. shown c None (shows.history_text c)) text.old.items text.new.items) }
     ensures err { IfErr result (Stopped R.segments cluster.now cluster.now (λ c calls. shown c None (shows.history_text c))) }
     ensures kept { IfErr result (λ e. e ≢ PlayError.NoMemory → text.new.items ≡ text.old.items) }
+    ensures cause { IfErr result (λ e. IsOfReplicas e → ⊥) }
 {
     // Asked how many masters there are, a cluster tells that it has eight lanes.
     let _masters = cluster.masters();

@@ -1,5 +1,6 @@
 ghost use Rattle.std.specs.Prelude.{◌≡◌, ◌+◌, List, map, length, true, false, IfSome, string_bytes};
 ghost use Rattle.std.specs.Io.KnownBytes.{IsAtEnd};
+ghost use Rattle.rk_cluster.specs.Faults.{GoOn};
 ghost use Rattle.rk_cluster.specs.Fresh.{AreEmpty};
 ghost use Rattle.rk_outside.specs.Parts.{ConsumesBetween};
 ghost use Rattle.rk_world.specs.Backup.{Called};
@@ -44,9 +45,9 @@ fn write_usage<K: Sink>(sink: &mut K) -> Status
 /// its text to the sink; with any other words nothing is read, and the forms of the program are written.
 ///
 /// The replicas hold nothing; backup b of lane l has the one at place 8 * (b - 1) + l, counted from 0. Of the script played and
-/// what the sink and the replicas tell, the clause `play` says what each status means. A fault of the source or the sink comes
-/// only where its count rose in this call, and `Done` only once the source has given its end. A script that is too long is read
-/// up to one piece past the longest.
+/// what the sink and the replicas tell, the clause `play` says what each status means. A fault of the source, the sink or the
+/// replicas comes only where a count of theirs rose in this call, and `Done` only once the source has given its end. A script
+/// that is too long is read up to one piece past the longest.
 #[tactic(auto, using(crate::proofs::Telling::history_told, crate::proofs::Telling::one_map_told))]
 pub fn run<X: Threads + Wait + Sync, S: Source, K: Sink, R: Replica + Send + Drop, G: Gate + Sync>(
     _rt: &X,
@@ -84,6 +85,9 @@ pub fn run<X: Threads + Wait + Sync, S: Source, K: Sink, R: Replica + Send + Dro
     ensures no_audit { result ≡ Status.Audit → ⊥ }
     ensures read_cause { HasStatusCause Status.ReadFault result (S.faults source.old) (S.faults source.new) }
     ensures write_cause { HasStatusCause Status.WriteFault result (K.faults sink.old) (K.faults sink.new) }
+
+    // Replicas failed too often only where their counts of faults rose by a hundred in all, or one is as great as a count can be.
+    ensures replica_cause { result ≡ Status.ReplicaFault → GoOn 100 (map R.faults replicas.old.items) (map R.faults replicas.new.items) }
 
     // The replicas that come back.
     ensures untouched { is_play (map string_bytes words.now) ≡ false → replicas.new.items ≡ replicas.old.items }

@@ -7,6 +7,7 @@ use Rattle.rk_script.specs.declared.script.TheConstants.{LONGEST_SCRIPT}
 use Rattle.rk_play.specs.Concluded.{MayComeTo}
 use Rattle.rk_play.specs.Played.{cluster_by, played, refused_at, unset}
 use Rattle.rk_play.proofs.Concluding.{concluded_apart, concluded_comes}
+use Rattle.rk_play.proofs.Failing.{refused_fault}
 use Rattle.rk_play.proofs.Telling.{refused_plays, too_long, unset_may, wanting_told}
 use Rattle.rk_play.proofs.playing.play.Goals as goal
 
@@ -55,6 +56,11 @@ returns-in-Err-TooLong-clause-read_cause g c =
       kept = λ _. c.in-Err-TooLong.ensures.kept (λ failed. absurd (cc (sym (ap Err c.in-Err-TooLong.field-0-is) ∙ failed)));
       rose = λ is. absurd (subst MayComeTo is comes);
     }
+
+pub returns-in-Err-TooLong-clause-replica_cause : goal.returns-in-Err-TooLong-clause-replica_cause
+returns-in-Err-TooLong-clause-replica_cause g c = λ fault.
+    absurd
+    (refused_fault 0 c.number.result c.refuse.result (g.K.Sink.written c.args.sink.now) (g.K.Sink.written c.refuse.new.sink) c.refuse.ensures.concludes fault)
 
 -- memory was wanting
 pub returns-in-Err-NoMemory-clause-plays : goal.returns-in-Err-NoMemory-clause-plays

@@ -5,6 +5,7 @@ use Rattle.rk_play.specs.Concluded.{Concludes}
 use Rattle.rk_play.specs.Played.{cluster_by, played_from, refused_at, unset}
 use Rattle.rk_play.specs.Settings.{IsRefusedEarly}
 use Rattle.rk_play.proofs.Concluding.{concluded_comes}
+use Rattle.rk_play.proofs.Failing.{refused_fault}
 use Rattle.rk_play.proofs.Telling.{refused_plays}
 use Rattle.rk_play.proofs.playing.play_commands.Goals as goal
 
@@ -23,3 +24,8 @@ returns-in-Err-clause-status g c =
     let cluster = cluster_by unset in
     concluded_comes (refused_at c.in-Err.line c.number.result cluster) [] c.refuse.result (g.K.Sink.written c.args.sink.now) (g.K.Sink.written c.refuse.new.sink)
     (c.refuse.ensures.concludes cluster) tt
+
+pub returns-in-Err-clause-replica_cause : goal.returns-in-Err-clause-replica_cause
+returns-in-Err-clause-replica_cause g c = λ fault.
+    absurd
+    (refused_fault c.in-Err.line c.number.result c.refuse.result (g.K.Sink.written c.args.sink.now) (g.K.Sink.written c.refuse.new.sink) c.refuse.ensures.concludes fault)

@@ -1,13 +1,16 @@
 -- The run is played to its end in the cluster that was asked for, and the replicas come back.
-use Rattle.std.proofs.Common.{◌≡◌, ℕ, ◌*◌, subst, sym}
+use Rattle.std.proofs.Common.{◌≡◌, ℕ, ◌*◌, subst, sym, arith}
 use Rattle.std.specs.Prelude.{All}
 use Rattle.rk_types.specs.declared.hashing.TheConstants.{LANES}
 use Rattle.rk_lane.specs.LaneState.{LaneState}
 use Rattle.rk_cluster.specs.Masters.{HasBackups}
+use Rattle.rk_settle.specs.Course.{MOST_FAULTS}
 use Rattle.rk_play.specs.Played.{cluster_by, played_in}
 use Rattle.rk_play.specs.Settings.{setting_of}
 use Rattle.rk_play.proofs.Concluding.{ended_cause, ended_comes}
+use Rattle.rk_play.proofs.Failing.{ended_fault}
 use Rattle.rk_play.proofs.Leaving.{counted, played_out}
+use Rattle.rk_play.proofs.Rising.{lent_go_on}
 use Rattle.rk_play.proofs.Telling.{ended_plays, halted_plays, opened, wanting_plays}
 use Rattle.rk_play.proofs.playing.play_opened.Goals as goal
 
@@ -73,4 +76,16 @@ returns g c = record {
       ended_cause c.run_all-end.result c.run_all-end.new.held.items c.conclude.result (g.K.Sink.written c.run_all-end.new.sink) (g.K.Sink.written c.conclude.new.sink)
       (g.K.Sink.faults c.args.sink.now) (g.K.Sink.faults c.run_all-end.new.sink) (g.K.Sink.faults c.conclude.new.sink) c.run_all-end.ensures.cause c.conclude.ensures.cause
       c.conclude.ensures.kept c.conclude.ensures.concludes;
+  replica_cause = λ fault.
+      let old = c.in-Ok-with_replicas.cluster in
+      let now = c.run_all-end.new.cluster in
+      let its =
+      counted g.R.Replica.segments old now c.args.commands.items (g.K.Sink.written c.args.sink.now) (g.K.Sink.written c.run_all-end.new.sink) c.run_all-end.new.held.items c.run_all-end.result
+      c.unwrap_or-masters.result c.unwrap_or-backups.result c.in-Ok-with_replicas.ensures.lanes c.in-Ok-with_replicas.ensures.each c.in_default-end.not-NoMemory c.run_all-end.ensures.ends
+      in
+      lent_go_on g.R.Replica.faults MOST_FAULTS old now c.unwrap_or-backups.result c.args.replicas.now c.lend.new.replicas c.in-Ok.its c.give_back.new.replicas c.in-Ok.room
+      c.requires.count c.in-Ok.ensures c.give_back.ensures c.in-Ok-with_replicas.ensures.lanes its.count c.in-Ok-with_replicas.ensures.replicas
+      (c.run_all-end.ensures.replica_cause
+      (ended_fault c.run_all-end.result c.run_all-end.new.held.items c.conclude.result (g.K.Sink.written c.run_all-end.new.sink) (g.K.Sink.written c.conclude.new.sink)
+      c.conclude.ensures.concludes fault));
 }

@@ -7,6 +7,7 @@ use Rattle.rk_script.specs.declared.script.ParseError.{ParseError}
 use Rattle.rk_script.specs.declared.script.ParseError.TheVariants.{Refused}
 use Rattle.rk_play.specs.Played.{cluster_by, played_of, refused_at, unset}
 use Rattle.rk_play.proofs.Concluding.{concluded_comes}
+use Rattle.rk_play.proofs.Failing.{refused_fault}
 use Rattle.rk_play.proofs.Telling.{refused_plays, unset_may, wanting_plays}
 use Rattle.rk_play.proofs.playing.play_script.Goals as goal
 
@@ -26,6 +27,12 @@ returns-in-Err-Refused-clause-status g c =
     let cluster = cluster_by unset in
     concluded_comes (refused_at c.in-Err-Refused.line c.number.result cluster) [] c.refuse.result (g.K.Sink.written c.args.sink.now) (g.K.Sink.written c.refuse.new.sink)
     (c.refuse.ensures.concludes cluster) tt
+
+pub returns-in-Err-Refused-clause-replica_cause : goal.returns-in-Err-Refused-clause-replica_cause
+returns-in-Err-Refused-clause-replica_cause g c = λ fault.
+    absurd
+    (refused_fault c.in-Err-Refused.line c.number.result c.refuse.result (g.K.Sink.written c.args.sink.now) (g.K.Sink.written c.refuse.new.sink) c.refuse.ensures.concludes
+    fault)
 
 -- memory was wanting
 pub returns-in-Err-NoMemory-clause-plays : goal.returns-in-Err-NoMemory-clause-plays

@@ -4,9 +4,11 @@ use Rattle.std.proofs.lemmas.List.{nil_from_length}
 use Rattle.std.proofs.lemmas.List.Elements.{All-tail}
 use Rattle.std.specs.Vec.Iter.{into_iter_items}
 use Rattle.rk_outside.specs.declared.reading.TheConstants.{PIECE}
+use Rattle.rk_cluster.proofs.Faults.{counts_same, counts_then}
 use Rattle.rk_script.specs.Lawful.{IsLawful}
 use Rattle.rk_play.specs.Ended.{EndsBy}
 use Rattle.rk_play.specs.declared.end.End.{End}
+use Rattle.rk_play.proofs.Failing.{ended_often}
 use Rattle.rk_play.proofs.Reaching.{end_apart, on_ended, on_failed, on_spilled, on_start, on_step}
 use Rattle.rk_play.proofs.Sending.{where_err, where_ok}
 use Rattle.rk_play.proofs.run.run_all.Goals as goal
@@ -18,6 +20,7 @@ commands-init g c = record {
       rw c.into_iter-numbered-iterator.ensures.into_iter_gives.0
       (on_start g.R.Replica.segments c.args.cluster.now c.args.commands.items (g.K.Sink.written c.args.sink.now) c.args.held.now.items c.requires.empty);
   kept = refl;
+  counts = counts_same g.R.Replica.faults c.args.cluster.now;
 }
 
 pub returns-then-is_err-clause-ends : goal.returns-then-is_err-clause-ends
@@ -39,6 +42,7 @@ commands-preserved g c =
           (rw c.in-Some.ensures.steps.0 at c.commands.invariant.on) (where_ok c.spill.result _ c.spill.ensures.ok fine))
           c.run_within.new.text.items c.in-Ok.ensures.ok;
       kept = where_ok c.spill.result _ c.spill.ensures.cause.kept fine ∙ c.commands.invariant.kept;
+      counts = counts_then g.R.Replica.faults 0 0 c.args.cluster.now c.commands.cluster c.run_within.new.cluster c.commands.invariant.counts c.run_within.ensures.counts;
     }
 
 pub returns-in-Err-clause-ends : goal.returns-in-Err-clause-ends
@@ -63,3 +67,12 @@ returns-in-Err-clause-cause g c =
       kept = λ _. kept;
       rose = λ failed. absurd (end_apart c.in-Some.numbered.line c.in-Err.error (sym c.end_at.ensures ∙ failed));
     }
+
+pub returns-in-Err-clause-counts : goal.returns-in-Err-clause-counts
+returns-in-Err-clause-counts g c =
+    counts_then g.R.Replica.faults 0 0 c.args.cluster.now c.commands.cluster c.run_within.new.cluster c.commands.invariant.counts c.run_within.ensures.counts
+
+pub returns-in-Err-clause-replica_cause : goal.returns-in-Err-clause-replica_cause
+returns-in-Err-clause-replica_cause g c =
+    ended_often g.R.Replica.faults c.args.cluster.now c.commands.cluster c.run_within.new.cluster c.in-Some.numbered.line c.in-Err.error c.end_at.result c.end_at.ensures
+    c.commands.invariant.counts c.in-Err.ensures.cause

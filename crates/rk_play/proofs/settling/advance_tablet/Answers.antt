@@ -3,6 +3,7 @@ use Rattle.std.proofs.lemmas.Result.{err_from_is_err_and}
 use Rattle.rk_types.specs.declared.node.Said.{Said}
 use Rattle.rk_lines.specs.Lines.{said_lines}
 use Rattle.rk_cluster.specs.declared.code.Code.{Code}
+use Rattle.rk_cluster.proofs.Faults.{counts_same}
 use Rattle.rk_settle.specs.Course.{course_of, moved_all}
 use Rattle.rk_settle.specs.Codes.{advance_code}
 use Rattle.rk_settle.specs.Advance.{advance}
@@ -13,6 +14,7 @@ use Rattle.rk_play.specs.Effects.{effect, settled}
 use Rattle.rk_play.specs.Stops.{error_by_settling}
 use Rattle.rk_play.proofs.Settled.{settled_ran, settled_stopped}
 use Rattle.rk_play.proofs.Shown.{came_refused}
+use Rattle.rk_play.proofs.Failing.{of_settling_replicas}
 use Rattle.rk_play.proofs.settling.advance_tablet.Goals as goal
 
 pub returns-in_err-said-clause-err : goal.returns-in_err-said-clause-err
@@ -26,6 +28,11 @@ returns-in_err-said-clause-err g c =
     (settled_stopped g.R.Replica.segments c.args.cluster.now c.advance.new.cluster (λ cluster. advance_code cluster c.args.tablet c.reach_of-reach.result)
     (λ cluster. advance cluster c.args.tablet c.reach_of-reach.result) (λ cluster is. c.advance_code.ensures cluster is ∙ c.in_default.is)
     c.in_err-said.field-0.0 c.in_err-said.ensures.err))
+
+pub returns-in_err-said-clause-cause : goal.returns-in_err-said-clause-cause
+returns-in_err-said-clause-cause g c =
+    let lost = err_from_is_err_and c.from_residual.result c.from_residual.ensures.1 in
+    rw (lost.1, lost.2) (λ is. c.in_err-said.ensures.cause (of_settling_replicas c.in_err-said.field-0.0 is))
 
 pub returns-clause-ok : goal.returns-clause-ok
 returns-clause-ok g c =
@@ -44,3 +51,6 @@ returns-in-Some-clause-err g c =
     (λ cluster is.
     ap (λ (reach : Reach). settled cluster (advance_code cluster c.args.tablet reach) (course_of cluster (advance cluster c.args.tablet reach))) (sym c.reach_of-reach.ensures)
     ∙ ap (λ (code : Option Code). settled cluster code (course_of cluster (advance cluster c.args.tablet c.reach_of-reach.result))) (c.advance_code.ensures cluster is ∙ c.in-Some.is))
+
+pub returns-in-Some-clause-counts : goal.returns-in-Some-clause-counts
+returns-in-Some-clause-counts g c = counts_same g.R.Replica.faults c.args.cluster.now

@@ -3,6 +3,7 @@ use Rattle.std.proofs.lemmas.Result.{err_from_is_err_and}
 use Rattle.rk_types.specs.declared.node.Said.{Said}
 use Rattle.rk_lines.specs.Lines.{said_lines}
 use Rattle.rk_cluster.specs.declared.code.Code.{Code}
+use Rattle.rk_cluster.proofs.Faults.{counts_same}
 use Rattle.rk_settle.specs.Course.{course_of}
 use Rattle.rk_settle.specs.Codes.{priority_code}
 use Rattle.rk_settle.specs.Priority.{priority}
@@ -10,6 +11,7 @@ use Rattle.rk_script.specs.declared.command.Command.TheVariants.{Priority}
 use Rattle.rk_play.specs.Effects.{effect, settled}
 use Rattle.rk_play.proofs.Settled.{settled_ran, settled_stopped}
 use Rattle.rk_play.proofs.Shown.{came_refused}
+use Rattle.rk_play.proofs.Failing.{of_settling_replicas}
 use Rattle.rk_play.proofs.settling.hasten.Goals as goal
 
 pub returns-in_err-said-clause-err : goal.returns-in_err-said-clause-err
@@ -17,6 +19,11 @@ returns-in_err-said-clause-err g c =
     let lost = err_from_is_err_and c.from_residual.result c.from_residual.ensures.1 in
     rw (lost.1, lost.2)
     (settled_stopped g.R.Replica.segments c.args.cluster.now c.priority.new.cluster (λ cluster. priority_code cluster c.args.tablet) (λ cluster. priority cluster c.args.tablet) (λ cluster is. c.priority_code.ensures cluster is ∙ c.in_default.is) c.in_err-said.field-0.0 c.in_err-said.ensures.err)
+
+pub returns-in_err-said-clause-cause : goal.returns-in_err-said-clause-cause
+returns-in_err-said-clause-cause g c =
+    let lost = err_from_is_err_and c.from_residual.result c.from_residual.ensures.1 in
+    rw (lost.1, lost.2) (λ is. c.in_err-said.ensures.cause (of_settling_replicas c.in_err-said.field-0.0 is))
 
 pub returns-clause-ok : goal.returns-clause-ok
 returns-clause-ok g c =
@@ -27,3 +34,6 @@ pub returns-in-Some-clause-err : goal.returns-in-Some-clause-err
 returns-in-Some-clause-err g c =
     came_refused g.R.Replica.segments c.args.cluster.now (λ cluster calls. effect cluster (Priority c.args.tablet) calls) c.in-Some.code
     (λ cluster is. ap (λ (code : Option Code). settled cluster code (course_of cluster (priority cluster c.args.tablet))) (c.priority_code.ensures cluster is ∙ c.in-Some.is))
+
+pub returns-in-Some-clause-counts : goal.returns-in-Some-clause-counts
+returns-in-Some-clause-counts g c = counts_same g.R.Replica.faults c.args.cluster.now

@@ -4,6 +4,7 @@ use Rattle.rk_types.specs.declared.node.Said.{Said}
 use Rattle.rk_lines.specs.Lines.{said_lines}
 use Rattle.rk_settle.specs.Settle.{settle}
 use Rattle.rk_play.proofs.Settled.{settled_ran, settled_stopped}
+use Rattle.rk_play.proofs.Failing.{of_settling_replicas}
 use Rattle.rk_play.proofs.settling.settle_all.Goals as goal
 
 pub returns-in_err-said-clause-err : goal.returns-in_err-said-clause-err
@@ -11,6 +12,11 @@ returns-in_err-said-clause-err g c =
     let lost = err_from_is_err_and c.from_residual.result c.from_residual.ensures.1 in
     rw (lost.1, lost.2)
     (settled_stopped g.R.Replica.segments c.args.cluster.now c.settle.new.cluster (λ cluster. None) (settle) (λ cluster is. refl) c.in_err-said.field-0.0 c.in_err-said.ensures.err)
+
+pub returns-in_err-said-clause-cause : goal.returns-in_err-said-clause-cause
+returns-in_err-said-clause-cause g c =
+    let lost = err_from_is_err_and c.from_residual.result c.from_residual.ensures.1 in
+    rw (lost.1, lost.2) (λ is. c.in_err-said.ensures.cause (of_settling_replicas c.in_err-said.field-0.0 is))
 
 pub returns-clause-ok : goal.returns-clause-ok
 returns-clause-ok g c =

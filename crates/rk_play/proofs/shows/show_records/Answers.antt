@@ -2,6 +2,7 @@ use Rattle.std.proofs.Common.{◌≡◌, ◌++◌, List, Some, true, false, sym,
 use Rattle.std.proofs.lemmas.Result.{err_from_is_err_and}
 use Rattle.rk_lines.specs.Records.{record_lines}
 use Rattle.rk_play.specs.Shows.{dump_code, dump_text, is_held, items_in}
+use Rattle.rk_play.proofs.Failing.{refused_apart}
 use Rattle.rk_play.proofs.Held.{dump_held}
 use Rattle.rk_play.proofs.Shown.{in_lanes, refused_stops, shown_refused, shown_written}
 use Rattle.rk_play.proofs.shows.show_records.Goals as goal
@@ -18,6 +19,11 @@ returns-in_err-items-clause-err g c =
     (in_lanes g.R.Replica.segments c.args.cluster.now c.lanes.result.now (λ cluster. is_held cluster c.args.tablet) false c.lanes.ensures why.1 cluster is)
     ∙ ap Some (sym why.0)))
     c.in_err-items.ensures.err)
+
+pub returns-in_err-items-clause-cause : goal.returns-in_err-items-clause-cause
+returns-in_err-items-clause-cause g c =
+    let lost = err_from_is_err_and c.from_residual.result c.from_residual.ensures.1 in
+    rw (lost.1, lost.2) (refused_apart _ c.in_err-items.field-0.0 c.in_err-items.ensures.err)
 
 pub returns-clause-ok : goal.returns-clause-ok
 returns-clause-ok g c =

@@ -1,0 +1,121 @@
+-- Which errors and ends say that replicas failed too often.
+use Rattle.std.proofs.Common.{◌≡◌, ◌≢◌, ℕ, List, [], ◌++◌, Result, Ok, Err, IfErr, sym, subst, ◌∙◌, ⊎_elim}
+use Rattle.std.specs.Prelude.{IsErrAnd, Option}
+use Rattle.std.specs.Io.KnownBytes.{Appends, Keeps}
+use Rattle.std.proofs.lemmas.Result.{IfErr-weaker}
+use Rattle.rk_types.specs.declared.status.Status.{Status}
+use Rattle.rk_types.specs.declared.status.Status.TheVariants.{Done, NoMemory, ReplicaFault, WriteFault}
+use Rattle.rk_outside.specs.Parts.{AppendsPart}
+use Rattle.rk_world.specs.Cluster.{Cluster}
+use Rattle.rk_cluster.specs.Faults.{CountsGoOn}
+use Rattle.rk_cluster.specs.State.{ClusterState}
+use Rattle.rk_cluster.specs.declared.code.Code.{Code}
+use Rattle.rk_cluster.specs.declared.error.ClusterError.{ClusterError}
+use Rattle.rk_cluster.specs.declared.error.ClusterError.TheVariants as of_cluster
+use Rattle.rk_cluster.proofs.Faults.{counts_then}
+use Rattle.rk_settle.specs.Course.{MOST_FAULTS}
+use Rattle.rk_settle.specs.Faults as settling
+use Rattle.rk_settle.specs.declared.error.SettleError.{SettleError}
+use Rattle.rk_settle.specs.declared.error.SettleError.TheVariants as of_settling
+use Rattle.rk_play.specs.Came.{WhereRefused}
+use Rattle.rk_play.specs.Concluded.{Concludes, ConcludesBy, IsWritten}
+use Rattle.rk_play.specs.Ended.{end_by}
+use Rattle.rk_play.specs.Faults.{EndsByReplicas, HasFaults, IsOfReplicas}
+use Rattle.rk_play.specs.Played.{Played, refused_at, stopped_at, text_of}
+use Rattle.rk_play.specs.Stops.{error_by_cluster, error_by_settling, stop_by}
+use Rattle.rk_play.specs.declared.end.End.{End}
+use Rattle.rk_play.specs.declared.end.End.TheVariants as ends
+use Rattle.rk_play.specs.declared.error.PlayError.{PlayError}
+use Rattle.rk_play.specs.declared.error.PlayError.TheVariants as errors
+
+-- ---- errors
+
+-- no error of a cluster does
+of_no_replica : (error : ClusterError) → IsOfReplicas (error_by_cluster error) → ⊥
+of_no_replica of_cluster.NoMemory is = is
+of_no_replica (of_cluster.Code code) is = is
+of_no_replica (of_cluster.Worn number) is = is
+
+-- one of a settling command does where that says so
+pub of_settling_replicas : (error : SettleError) → IsOfReplicas (error_by_settling error) → settling.IsOfReplicas error
+of_settling_replicas of_settling.NoMemory is = absurd is
+of_settling_replicas of_settling.TooLong is = absurd is
+of_settling_replicas (of_settling.Worn number) is = absurd is
+of_settling_replicas (of_settling.Replica rounds) is = tt
+
+-- nor does what is answered to a call of a cluster
+told_apart : {T : Type 0} (told : Result T ClusterError) (e : PlayError)
+    → (e ≢ errors.NoMemory → IsErrAnd told (λ error. e ≡ error_by_cluster error)) → IsOfReplicas e → ⊥
+told_apart (Ok said) e known is = known (λ same. subst IsOfReplicas same is)
+told_apart (Err error) e known is = of_no_replica error (subst IsOfReplicas (known (λ same. subst IsOfReplicas same is)) is)
+
+pub told_cause : {T U : Type 0} (P : Type 0) (told : Result T ClusterError) (result : Result U PlayError)
+    → IfErr result (λ e. e ≢ errors.NoMemory → IsErrAnd told (λ error. e ≡ error_by_cluster error)) → IfErr result (λ e. IsOfReplicas e → P)
+told_cause P told result known =
+    IfErr-weaker result (λ e. e ≢ errors.NoMemory → IsErrAnd told (λ error. e ≡ error_by_cluster error)) (λ e. IsOfReplicas e → P)
+    (λ e its is. absurd (told_apart told e its is)) known
+
+-- nor a refusal
+pub refused_apart : (Holds : Code → Type 0) (error : PlayError) → WhereRefused Holds error → IsOfReplicas error → ⊥
+refused_apart Holds errors.NoMemory refused is = is
+refused_apart Holds (errors.Refused code) refused is = is
+refused_apart Holds (errors.Worn number) refused is = is
+refused_apart Holds (errors.Replica rounds) refused is = refused
+
+-- nor what is never said
+pub never_cause : {U : Type 0} (P : Type 0) (result : Result U PlayError) → IfErr result (λ e. IsOfReplicas e → ⊥) → IfErr result (λ e. IsOfReplicas e → P)
+never_cause P result never =
+    IfErr-weaker result (λ e. IsOfReplicas e → ⊥) (λ e. IsOfReplicas e → P) (λ e its is. absurd (its is)) never
+
+-- ---- ends
+
+pub end_replicas : (line : ℕ) (error : PlayError) → EndsByReplicas (end_by line error) → IsOfReplicas error
+end_replicas line errors.NoMemory is = is
+end_replicas line (errors.Refused code) is = is
+end_replicas line (errors.Worn number) is = is
+end_replicas line (errors.Replica rounds) is = is
+
+-- where a command stops a run since replicas failed too often, they have done so since its start
+pub ended_often : {R : Type 0} (faults : R → ℕ) (start mid now : ClusterState R) (line : ℕ) (error : PlayError) (end : End) → end ≡ end_by line error
+    → CountsGoOn faults 0 start mid → HasFaults faults mid now error → EndsByReplicas end → CountsGoOn faults MOST_FAULTS start now
+ended_often faults start mid now line error end same before often is =
+    counts_then faults 0 MOST_FAULTS start mid now before (often (end_replicas line error (subst EndsByReplicas same is)))
+
+-- ---- statuses
+
+-- a text that is written with another status does not come to it
+written_apart : (text : List ℕ) (given status : Status) (old new : Option (List ℕ)) → IsWritten text given status old new → status ≡ ReplicaFault
+    → given ≡ ReplicaFault
+written_apart text given status old new is fault =
+    ⊎_elim (λ (whole : (status ≡ given) × Appends old new text). sym whole.0 ∙ fault)
+    (λ (part : (status ≡ WriteFault) × AppendsPart old new text). absurd (cc (sym part.0 ∙ fault))) is
+
+-- nor does a run that is played to another one
+concluded_fault : (p : Played) (held : List ℕ) (status : Status) (old new : Option (List ℕ)) → Concludes p held status old new → status ≡ ReplicaFault
+    → p.status ≡ ReplicaFault
+concluded_fault p held status old new concludes fault =
+    ⊎_elim (λ (is : IsWritten (held ++ text_of p) p.status status old new). written_apart (held ++ text_of p) p.status status old new is fault)
+    (λ (lacks : (status ≡ NoMemory) × Keeps old new). absurd (cc (sym lacks.0 ∙ fault))) concludes
+
+-- nor does one that is refused
+pub refused_fault : (line code : ℕ) (status : Status) (old new : Option (List ℕ))
+    → ((cluster : Cluster) → Concludes (refused_at line code cluster) [] status old new) → status ≡ ReplicaFault → ⊥
+refused_fault line code status old new concludes fault =
+    let cluster : Cluster = record { lanes = []; sessions = [] } in
+    absurd (cc (concluded_fault (refused_at line code cluster) [] status old new (concludes cluster) fault))
+
+stopped_fault : (line : ℕ) (error : PlayError) (cluster : Cluster) → (stopped_at line (stop_by error) cluster).status ≡ ReplicaFault → IsOfReplicas error
+stopped_fault line errors.NoMemory cluster fault = absurd (cc fault)
+stopped_fault line (errors.Refused code) cluster fault = absurd (cc fault)
+stopped_fault line (errors.Worn number) cluster fault = absurd (cc fault)
+stopped_fault line (errors.Replica rounds) cluster fault = tt
+
+-- a run comes to it only where it ended since replicas failed too often
+pub ended_fault : (end : End) (held : List ℕ) (status : Status) (old new : Option (List ℕ)) → ConcludesBy end held status old new → status ≡ ReplicaFault
+    → EndsByReplicas end
+ended_fault ends.Done held status old new is fault = absurd (cc (written_apart held Done status old new is fault))
+ended_fault (ends.Stopped line error) held status old new is fault =
+    let cluster : Cluster = record { lanes = []; sessions = [] } in
+    stopped_fault line error cluster (concluded_fault (stopped_at line (stop_by error) cluster) held status old new (is cluster) fault)
+ended_fault ends.WriteFault held status old new is fault = absurd (cc (sym is.0 ∙ fault))
+ended_fault ends.NoMemory held status old new is fault = absurd (cc (sym is.0 ∙ fault))
