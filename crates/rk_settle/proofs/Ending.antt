@@ -1,26 +1,44 @@
 -- How a command in code comes to its end, or stops.
-use Rattle.std.proofs.Common.{◌≡◌, ℕ, false, List, [], ◌++◌, length, map, Option, sym, ap, ◌∙◌}
+use Rattle.std.proofs.Common.{◌≡◌, ℕ, ◌≤◌, false, List, [], ◌++◌, length, map, Option, sym, ap, ◌∙◌}
 use Rattle.std.specs.List.{range_with_len}
 use Rattle.rk_types.specs.declared.hashing.TheConstants.{LANES}
 use Rattle.rk_outside.specs.Segments.{Segments}
 use Rattle.rk_world.specs.Cluster.{Cluster}
+use Rattle.rk_cluster.specs.Faults.{CountsGoOn}
+use Rattle.rk_cluster.specs.Masters.{backups_of, masters_of}
 use Rattle.rk_cluster.specs.State.{ClusterState, IsOf}
 use Rattle.rk_cluster.proofs.Leading.{leads_nowhere}
 use Rattle.rk_cluster.proofs.Worlds.{same_count}
 use Rattle.rk_settle.specs.Course.{course_of}
+use Rattle.rk_settle.specs.Faults.{failed_rounds}
+use Rattle.rk_settle.specs.Lawful.{AreTasks}
 use Rattle.rk_settle.specs.Outcomes.{Ends, Fails}
 use Rattle.rk_settle.specs.Settle.{lane_numbers}
-use Rattle.rk_settle.specs.States.{ClusterTells, EightTell, IsCourse, MovesAll, StopsIn}
+use Rattle.rk_settle.specs.States.{ClusterTells, EightTell, IsCourse}
 use Rattle.rk_settle.specs.declared.course.Progress.{Progress}
 use Rattle.rk_settle.specs.declared.error.SettleError.{SettleError}
 use Rattle.rk_settle.specs.declared.error.SettleError.TheVariants as errors
 use Rattle.rk_settle.specs.declared.task.Task.{Task}
+use Rattle.rk_settle.proofs.Moving.{MovesAll, StopsIn}
 
 -- nothing has come of a command yet
 pub record IsFresh (progress : Progress) : Type 0 where
   pub said : progress.said.items ≡ []
   pub faults : progress.faults ≡ 0
   pub failing : progress.failing ≡ false
+
+-- how far a command that began with nothing come of it has run: what has moved, the tasks that are left are lawful, a fault counts for a
+-- move at most, each lane has as many masters and backups, and replicas failed as often as there were rounds in which one failed
+pub record IsRunning {R : Type 0} (segments : R → Option Segments) (faults : R → ℕ) (start now : ClusterState R) (first left : List Task) (is : Progress) (count : ℕ) : Type 0 where
+  pub was : Progress
+  pub fresh : IsFresh was
+  pub eight : length start.lanes ≡ LANES
+  pub moves : MovesAll segments start now first left was is
+  pub lawful : AreTasks (masters_of start) left
+  pub few : is.faults ≤ count
+  pub masters : masters_of now ≡ masters_of start
+  pub backups : backups_of now ≡ backups_of start
+  pub counts : CountsGoOn faults (failed_rounds is) start now
 
 module _ {R : Type 0} (segments : R → Option Segments) (old new : ClusterState R) (command : Cluster → List Task) (left : List Task) (was : Progress) (fresh : IsFresh was)
     (eight : length old.lanes ≡ LANES) (tells : EightTell segments old command left) where

@@ -1,16 +1,15 @@
 -- The moves of a command in code, one after the other.
 use Rattle.std.proofs.Common.{◌≡◌, ℕ, ◌+◌, ◌<◌, ◌≤◌, Bool, true, false, nat_le, List, [], ◌∷◌, ◌++◌, Option, None, Some, if◌then◌else◌, refl, sym, ap, subst, ◌∙◌}
+use Rattle.std.specs.Bool.{⊤}
 use Rattle.std.proofs.lemmas.Bool.{le-leb, lt-leb}
 use Rattle.std.proofs.lemmas.List.Sums.{fold-append}
 use Rattle.rk_outside.specs.Segments.{Segments}
-use Rattle.rk_world.specs.Backup.{Gave}
-use Rattle.rk_cluster.specs.Faults.{CountsGoOn}
-use Rattle.rk_cluster.specs.Masters.{backups_of, masters_of}
+use Rattle.rk_world.specs.Backup.{Called, Gave}
+use Rattle.rk_world.specs.Cluster.{Cluster}
 use Rattle.rk_cluster.specs.State.{ClusterState}
 use Rattle.rk_settle.specs.Course.{Course, MOST_FAULTS, error_by, moved, moved_all, moved_by, round_over, with_tasks}
-use Rattle.rk_settle.specs.Faults.{failed_rounds}
-use Rattle.rk_settle.specs.Lawful.{AreTasks}
-use Rattle.rk_settle.specs.States.{ClusterTells, IsCourse, Moves, MovesAll, Stops, StopsIn}
+use Rattle.rk_settle.specs.Outcomes.{IsStopped}
+use Rattle.rk_settle.specs.States.{ClusterTells, IsCourse, Moves, Stops}
 use Rattle.rk_settle.specs.Unfolding.{unfolded}
 use Rattle.rk_settle.specs.declared.course.Progress.{Progress}
 use Rattle.rk_settle.specs.declared.error.SettleError.{SettleError}
@@ -18,6 +17,22 @@ use Rattle.rk_settle.specs.declared.error.SettleError.TheVariants as errors
 use Rattle.rk_settle.specs.declared.task.Act.{Act}
 use Rattle.rk_settle.specs.declared.task.Task.{Task}
 use Rattle.rk_settle.specs.declared.task.Task.TheVariants as made
+
+-- some moves were made
+pub record MovesAll {R : Type 0} (segments : R → Option Segments) (old new : ClusterState R) (before after : List Task) (was is : Progress) : Type 0 where
+  pub calls : List Called
+  pub moves : (start : Cluster) (course : Course) → IsCourse segments start old before was course → IsCourse segments start new after is (moved_all course calls)
+
+-- a command stopped after some moves
+pub record StopsAfter {R : Type 0} (segments : R → Option Segments) (old new : ClusterState R) (left : List Task) (progress : Progress) (error : SettleError) : Type 0 where
+  pub calls : List Called
+  pub stopped : (start : Cluster) (course : Course) → IsCourse segments start old left progress course → IsStopped segments start new error (moved_all course calls)
+
+-- so where it is worn or replicas failed; nothing is said where memory was wanting, or where it made more moves than are counted
+abbrev pub StopsIn : {R : Type 0} → (R → Option Segments) → ClusterState R → ClusterState R → List Task → Progress → SettleError → Type 0
+StopsIn segments old new left progress errors.NoMemory = ⊤
+StopsIn segments old new left progress errors.TooLong = ⊤
+StopsIn segments old new left progress error = StopsAfter segments old new left progress error
 
 -- a smaller number is below a limit
 below_limit : (limit count : ℕ) → count < limit → nat_le limit count ≡ false
@@ -138,13 +153,3 @@ module _ {R : Type 0} (segments : R → Option Segments) where
       record { calls = all.calls; stopped = λ start course stands. stops start (moved_all course all.calls) (all.moves start course stands) }
   stops_in begun now next first left was is (errors.Replica rounds) all stops =
       record { calls = all.calls; stopped = λ start course stands. stops start (moved_all course all.calls) (all.moves start course stands) }
-
--- how far a run has come: what has moved, the tasks that are left are lawful, a fault counts for a move at most, each lane has as many
--- masters and backups, and replicas failed as often as there were rounds in which one failed
-pub record IsRunning {R : Type 0} (segments : R → Option Segments) (faults : R → ℕ) (start now : ClusterState R) (first left : List Task) (was is : Progress) (count : ℕ) : Type 0 where
-  pub moves : MovesAll segments start now first left was is
-  pub lawful : AreTasks (masters_of start) left
-  pub few : is.faults ≤ count
-  pub masters : masters_of now ≡ masters_of start
-  pub backups : backups_of now ≡ backups_of start
-  pub counts : CountsGoOn faults (failed_rounds is) start now

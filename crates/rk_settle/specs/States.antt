@@ -7,7 +7,7 @@ use Rattle.rk_world.specs.Cluster.{Cluster, lane_at}
 use Rattle.rk_world.specs.ClusterRuns.{Leads}
 use Rattle.rk_lane.specs.LaneState.{LaneState}
 use Rattle.rk_cluster.specs.State.{ClusterState, IsOf, IsWorld}
-use Rattle.rk_settle.specs.Course.{Course, moved, moved_all}
+use Rattle.rk_settle.specs.Course.{Course, moved}
 use Rattle.rk_settle.specs.Outcomes.{IsStopped}
 use Rattle.rk_settle.specs.declared.course.Progress.{Progress}
 use Rattle.rk_settle.specs.declared.error.SettleError.{SettleError}
@@ -29,27 +29,11 @@ pub record Moves {R : Type 0} (segments : R → Option Segments) (old new : Clus
   pub called : Called
   pub moves : (start : Cluster) (course : Course) → IsCourse segments start old before was course → IsCourse segments start new after is (moved course called)
 
--- some moves were made
-pub record MovesAll {R : Type 0} (segments : R → Option Segments) (old new : ClusterState R) (before after : List Task) (was is : Progress) : Type 0 where
-  pub calls : List Called
-  pub moves : (start : Cluster) (course : Course) → IsCourse segments start old before was course → IsCourse segments start new after is (moved_all course calls)
-
 -- a command stops where it is, for this reason; nothing is said where memory was wanting
 abbrev pub Stops : {R : Type 0} → (R → Option Segments) → ClusterState R → ClusterState R → List Task → Progress → SettleError → Type 0
 Stops segments old new left progress errors.NoMemory = ⊤
 Stops segments old new left progress error =
     (start : Cluster) (course : Course) → IsCourse segments start old left progress course → IsStopped segments start new error course
-
--- a command stopped after some moves
-pub record StopsAfter {R : Type 0} (segments : R → Option Segments) (old new : ClusterState R) (left : List Task) (progress : Progress) (error : SettleError) : Type 0 where
-  pub calls : List Called
-  pub stopped : (start : Cluster) (course : Course) → IsCourse segments start old left progress course → IsStopped segments start new error (moved_all course calls)
-
--- so where it is worn or replicas failed; nothing is said where memory was wanting, or where it made more moves than are counted
-abbrev pub StopsIn : {R : Type 0} → (R → Option Segments) → ClusterState R → ClusterState R → List Task → Progress → SettleError → Type 0
-StopsIn segments old new left progress errors.NoMemory = ⊤
-StopsIn segments old new left progress errors.TooLong = ⊤
-StopsIn segments old new left progress error = StopsAfter segments old new left progress error
 
 -- in each cluster that one in code stands for, this is seen
 abbrev pub ClusterTells : {R T : Type 0} → (R → Option Segments) → ClusterState R → (Cluster → T) → T → Type 0

@@ -2,7 +2,6 @@
 ghost use Rattle.std.specs.Prelude.{◌≡◌, ◌++◌, List, map, IfErr, IfOk, OnOk};
 ghost use Rattle.std.specs.List.{range_with_len};
 ghost use Rattle.rk_types.specs.declared.hashing.TheConstants.{LANES};
-ghost use Rattle.rk_world.specs.Cluster.{Cluster as Lanes};
 ghost use Rattle.rk_cluster.specs.Faults.{CountsGoOn};
 ghost use Rattle.rk_cluster.specs.Masters.{backups_of, masters_of};
 ghost use Rattle.rk_settle.specs.Advance.{advance as advance_lem};
@@ -12,11 +11,10 @@ ghost use Rattle.rk_settle.specs.Outcomes.{Ends, Fails};
 ghost use Rattle.rk_settle.specs.Priority.{priority as priority_lem};
 ghost use Rattle.rk_settle.specs.Serve.{serve as serve_lem};
 ghost use Rattle.rk_settle.specs.Settle.{settle as settle_lem};
-ghost use Rattle.rk_settle.specs.States.{ClusterTells, EightTell};
-ghost use Rattle.rk_settle.specs.declared.task.Task.{Task as Step};
+ghost use Rattle.rk_settle.specs.States.{ClusterTells};
 ghost use Rattle.rk_settle.specs.declared.task.Task.TheVariants as tasks;
 
-use crate::course::{Progress, run};
+use crate::course::run;
 use crate::error::SettleError;
 use crate::reach::Reach;
 use crate::task::Task;
@@ -43,7 +41,7 @@ pub fn settle<R: Replica + Drop>(
     let mut tasks = Tasks::new(alloc);
     tasks.push(Task::Settles)?;
     tasks.push_all(&notices())?;
-    follow(alloc, cluster, tasks)
+    run(alloc, cluster, tasks)
 }
 
 /// The outstanding call of a client is brought on, up to its answer where it can be had: where the client does not know who
@@ -63,7 +61,7 @@ pub fn serve<R: Replica + Drop>(
 {
     let mut tasks = Tasks::new(alloc);
     push_serve(&mut tasks, cluster, client)?;
-    follow(alloc, cluster, tasks)
+    run(alloc, cluster, tasks)
 }
 
 /// In each lane where a tablet moves, its target asks for the records that it wants first, if it wants some, and gets them.
@@ -81,7 +79,7 @@ pub fn priority<R: Replica + Drop>(
 {
     let mut tasks = Tasks::new(alloc);
     tasks.push_all(&hastenings(tablet))?;
-    follow(alloc, cluster, tasks)
+    run(alloc, cluster, tasks)
 }
 
 /// In each lane where a tablet migrates and is short of a reach, the migration is brought there.
@@ -100,31 +98,7 @@ pub fn advance<R: Replica + Drop>(
 {
     let mut tasks = Tasks::new(alloc);
     tasks.push_all(&advances(tablet, reach))?;
-    follow(alloc, cluster, tasks)
-}
-
-// The tasks of a command are done.
-fn follow<R: Replica + Drop>(
-    alloc: Global,
-    cluster: &mut Cluster<R>,
-    tasks: Tasks,
-) -> Result<Vec<Said>, SettleError>
-    requires { AreTasks (masters_of cluster.old) tasks }
-    ensures ok { (command : Lanes → List Step) → EightTell R.segments cluster.old command tasks
-        → IfOk result (λ said. Ends R.segments cluster.old cluster.new command said.items) }
-    ensures err { (command : Lanes → List Step) → EightTell R.segments cluster.old command tasks
-        → IfErr result (Fails R.segments cluster.old cluster.new command) }
-    ensures masters { masters_of cluster.new ≡ masters_of cluster.old }
-    ensures backups { backups_of cluster.new ≡ backups_of cluster.old }
-    ensures counts { CountsGoOn R.faults 0 cluster.old cluster.new }
-    ensures cause { IfErr result (HasFaults R.faults cluster.old cluster.new) }
-{
-    // Asked how many masters there are, a cluster tells that it has eight lanes.
-    let _masters = cluster.masters();
-    let mut tasks = tasks;
-    let mut progress = Progress::new(alloc);
-    run(cluster, &mut tasks, &mut progress)?;
-    Ok(progress.said)
+    run(alloc, cluster, tasks)
 }
 
 // The outstanding call of a client, if there is one, is tried in its lane.

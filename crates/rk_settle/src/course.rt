@@ -1,13 +1,15 @@
 // The course of a command: its tasks are done move by move.
-ghost use Rattle.std.specs.Prelude.{◌≡◌, ◌+◌, ◌-◌, ◌^◌, ◌<◌, ◌≤◌, ◌∷◌, ◌++◌, [], false, if◌then◌else◌, List, IfErr, OnOk};
+ghost use Rattle.std.specs.Prelude.{◌≡◌, ◌+◌, ◌-◌, ◌^◌, ◌<◌, ◌≤◌, ◌∷◌, ◌++◌, [], false, if◌then◌else◌, List, IfErr, IfOk, OnOk};
 ghost use Rattle.std.specs.Option.{option_to_list};
 ghost use Rattle.rk_types.specs.declared.hashing.TheConstants.{LANES};
 ghost use Rattle.rk_cluster.specs.Faults.{CountsGoOn};
+ghost use Rattle.rk_world.specs.Cluster.{Cluster as Lanes};
 ghost use Rattle.rk_cluster.specs.Masters.{backups_of, masters_of};
 ghost use Rattle.rk_settle.specs.Lawful.{AreTasks, IsAct, IsTask};
 ghost use Rattle.rk_settle.specs.Course.{MOST_FAULTS as most_faults};
 ghost use Rattle.rk_settle.specs.Faults.{HasFaults, IsOfReplicas, KeepsUp};
-ghost use Rattle.rk_settle.specs.States.{Moves, MovesAll, Stops, StopsIn};
+ghost use Rattle.rk_settle.specs.Outcomes.{Ends, Fails};
+ghost use Rattle.rk_settle.specs.States.{EightTell, Moves, Stops};
 ghost use Rattle.rk_settle.specs.declared.course.Progress.{Progress as Came};
 ghost use Rattle.rk_settle.specs.declared.error.SettleError.TheVariants as errors;
 ghost use Rattle.rk_settle.specs.declared.task.Task.{Task as Step};
@@ -49,28 +51,32 @@ impl Progress {
     }
 }
 
-/// The tasks are done, one after the other, until none is left.
+/// The tasks of a command are done, one after the other, until none is left: what clients said meanwhile. Where the command stops before
+/// that, what it has done stays done.
 pub(crate) fn run<R: Replica + Drop>(
+    alloc: Global,
     cluster: &mut Cluster<R>,
-    tasks: &mut Tasks,
-    progress: &mut Progress,
-) -> Result<(), SettleError>
-    requires tasks { AreTasks (masters_of cluster.old) tasks.old }
-    requires faults { progress.old.faults ≡ 0 }
-    requires failing { progress.old.failing ≡ false }
-    ensures done { OnOk result (tasks.new ≡ []) }
-    ensures ok { OnOk result (MovesAll R.segments cluster.old cluster.new tasks.old tasks.new progress.old progress.new) }
-    ensures err { IfErr result (StopsIn R.segments cluster.old cluster.new tasks.old progress.old) }
+    tasks: Tasks,
+) -> Result<Vec<Said>, SettleError>
+    requires { AreTasks (masters_of cluster.old) tasks }
+    ensures ok { (command : Lanes → List Step) → EightTell R.segments cluster.old command tasks
+        → IfOk result (λ said. Ends R.segments cluster.old cluster.new command said.items) }
+    ensures err { (command : Lanes → List Step) → EightTell R.segments cluster.old command tasks
+        → IfErr result (Fails R.segments cluster.old cluster.new command) }
     ensures masters { masters_of cluster.new ≡ masters_of cluster.old }
     ensures backups { backups_of cluster.new ≡ backups_of cluster.old }
     ensures counts { CountsGoOn R.faults 0 cluster.old cluster.new }
     ensures cause { IfErr result (HasFaults R.faults cluster.old cluster.new) }
 {
+    // Asked how many masters there are, a cluster tells that it has eight lanes.
+    let _masters = cluster.masters();
+    let mut tasks = tasks;
+    let mut progress = Progress::new(alloc);
     for _ in 0..u64::MAX {
         let Some(task) = tasks.pop() else {
-            return Ok(());
+            return Ok(progress.said);
         };
-        make_move(cluster, tasks, progress, task)?;
+        make_move(cluster, &mut tasks, &mut progress, task)?;
     }
     Err(SettleError::TooLong)
 }

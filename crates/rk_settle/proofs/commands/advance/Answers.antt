@@ -8,7 +8,7 @@ use Rattle.rk_settle.proofs.commands.advance.Goals as goal
 
 pub returns-clause-ok : goal.returns-clause-ok
 returns-clause-ok g c =
-    c.follow.ensures.ok (λ cluster. advance cluster c.args.tablet c.args.reach)
+    c.run.ensures.ok (λ cluster. advance cluster c.args.tablet c.args.reach)
     (λ cluster stands eight.
     sym (append-nil (advance cluster c.args.tablet c.args.reach))
     ∙ each_tells g.R.Replica.segments c.args.cluster.now (λ lane. Advances lane c.args.tablet c.args.reach) [] c.advances.result c.push_all.new.self c.advances.ensures
@@ -16,7 +16,7 @@ returns-clause-ok g c =
 
 pub returns-clause-err : goal.returns-clause-err
 returns-clause-err g c =
-    c.follow.ensures.err (λ cluster. advance cluster c.args.tablet c.args.reach)
+    c.run.ensures.err (λ cluster. advance cluster c.args.tablet c.args.reach)
     (λ cluster stands eight.
     sym (append-nil (advance cluster c.args.tablet c.args.reach))
     ∙ each_tells g.R.Replica.segments c.args.cluster.now (λ lane. Advances lane c.args.tablet c.args.reach) [] c.advances.result c.push_all.new.self c.advances.ensures

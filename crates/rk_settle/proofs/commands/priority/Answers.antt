@@ -8,7 +8,7 @@ use Rattle.rk_settle.proofs.commands.priority.Goals as goal
 
 pub returns-clause-ok : goal.returns-clause-ok
 returns-clause-ok g c =
-    c.follow.ensures.ok (λ cluster. priority cluster c.args.tablet)
+    c.run.ensures.ok (λ cluster. priority cluster c.args.tablet)
     (λ cluster stands eight.
     sym (append-nil (priority cluster c.args.tablet))
     ∙ each_tells g.R.Replica.segments c.args.cluster.now (λ lane. Hastens lane c.args.tablet) [] c.hastenings.result c.push_all.new.self c.hastenings.ensures
@@ -16,7 +16,7 @@ returns-clause-ok g c =
 
 pub returns-clause-err : goal.returns-clause-err
 returns-clause-err g c =
-    c.follow.ensures.err (λ cluster. priority cluster c.args.tablet)
+    c.run.ensures.err (λ cluster. priority cluster c.args.tablet)
     (λ cluster stands eight.
     sym (append-nil (priority cluster c.args.tablet))
     ∙ each_tells g.R.Replica.segments c.args.cluster.now (λ lane. Hastens lane c.args.tablet) [] c.hastenings.result c.push_all.new.self c.hastenings.ensures

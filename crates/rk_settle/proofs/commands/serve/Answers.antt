@@ -7,7 +7,7 @@ use Rattle.rk_settle.proofs.commands.serve.Goals as goal
 
 pub returns-clause-ok : goal.returns-clause-ok
 returns-clause-ok g c =
-    c.follow.ensures.ok (λ cluster. serve cluster c.args.client)
+    c.run.ensures.ok (λ cluster. serve cluster c.args.client)
     (tells_anyway g.R.Replica.segments c.args.cluster.now (λ cluster. serve cluster c.args.client) c.push_serve.new.tasks
     (λ cluster stands.
     sym (append-nil (serve cluster c.args.client)) ∙ ap (λ (none : List Task). serve cluster c.args.client ++ none) (sym c.new-tasks.ensures)
@@ -15,7 +15,7 @@ returns-clause-ok g c =
 
 pub returns-clause-err : goal.returns-clause-err
 returns-clause-err g c =
-    c.follow.ensures.err (λ cluster. serve cluster c.args.client)
+    c.run.ensures.err (λ cluster. serve cluster c.args.client)
     (tells_anyway g.R.Replica.segments c.args.cluster.now (λ cluster. serve cluster c.args.client) c.push_serve.new.tasks
     (λ cluster stands.
     sym (append-nil (serve cluster c.args.client)) ∙ ap (λ (none : List Task). serve cluster c.args.client ++ none) (sym c.new-tasks.ensures)

@@ -8,13 +8,13 @@ use Rattle.rk_settle.proofs.commands.settle.Goals as goal
 
 pub returns-clause-ok : goal.returns-clause-ok
 returns-clause-ok g c =
-    c.follow.ensures.ok settle
+    c.run.ensures.ok settle
     (each_tells g.R.Replica.segments c.args.cluster.now Notices (Settles ∷ []) c.notices.result c.push_all.new.self c.notices.ensures
     (c.in_ok-push_all.ensures ∙ ap (λ (more : List Task). c.notices.result ++ more) (c.in_ok-push.ensures ∙ ap (λ (none : List Task). Settles ∷ none) c.new-tasks.ensures)))
 
 pub returns-clause-err : goal.returns-clause-err
 returns-clause-err g c =
-    c.follow.ensures.err settle
+    c.run.ensures.err settle
     (each_tells g.R.Replica.segments c.args.cluster.now Notices (Settles ∷ []) c.notices.result c.push_all.new.self c.notices.ensures
     (c.in_ok-push_all.ensures ∙ ap (λ (more : List Task). c.notices.result ++ more) (c.in_ok-push.ensures ∙ ap (λ (none : List Task). Settles ∷ none) c.new-tasks.ensures)))
 

@@ -6,27 +6,32 @@ use Rattle.rk_cluster.specs.Masters.{masters_of}
 use Rattle.rk_cluster.proofs.Faults.{counts_less, counts_same, counts_then}
 use Rattle.rk_settle.specs.Faults.{failed_rounds}
 use Rattle.rk_settle.specs.Lawful.{AreTasks, IsTask}
-use Rattle.rk_settle.specs.States.{Moves, MovesAll, Stops}
+use Rattle.rk_settle.specs.States.{Moves, Stops}
 use Rattle.rk_settle.specs.declared.task.Task.{Task}
+use Rattle.rk_settle.proofs.Ending.{ends_by, fails_by}
 use Rattle.rk_settle.proofs.Failing.{failed_often}
 use Rattle.rk_settle.proofs.Moving.{none_moved, one_more, stops_in}
 use Rattle.rk_settle.proofs.course.run.Goals as goal
 
 pub loop-init : goal.loop-init
 loop-init g c = record {
-  moves = none_moved g.R.Replica.segments c.args.cluster.now c.args.tasks.now c.args.progress.now;
-  lawful = c.requires.tasks;
-  few = omega (arith, c.requires.faults);
+  was = c.new-progress.result;
+  fresh = record { said = c.new-progress.ensures.said; faults = c.new-progress.ensures.faults; failing = c.new-progress.ensures.failing };
+  eight = c.masters-masters.ensures.eight;
+  moves = none_moved g.R.Replica.segments c.args.cluster.now c.args.tasks c.new-progress.result;
+  lawful = c.requires;
+  few = omega (arith, c.new-progress.ensures.faults);
   masters = refl;
   backups = refl;
   counts = subst (λ (count : ℕ). CountsGoOn g.R.Replica.faults count c.args.cluster.now c.args.cluster.now)
-      (λ i. (sym c.requires.faults i) + (if (sym c.requires.failing i) then 1 else 0)) (counts_same g.R.Replica.faults c.args.cluster.now);
+      (λ i. (sym c.new-progress.ensures.faults i) + (if (sym c.new-progress.ensures.failing i) then 1 else 0)) (counts_same g.R.Replica.faults c.args.cluster.now);
 }
 
 pub returns-in_default-clause-ok : goal.returns-in_default-clause-ok
 returns-in_default-clause-ok g c =
-    subst (λ (left : List Task). MovesAll g.R.Replica.segments c.args.cluster.now c.loop.cluster c.args.tasks.now left c.args.progress.now c.loop.progress)
-    (c.pop.ensures.none c.in_default.is ∙ sym (c.pop.ensures.left c.in_default.is)) c.loop.invariant.moves
+    λ command tells.
+    ends_by g.R.Replica.segments c.args.cluster.now c.loop.cluster command c.args.tasks c.loop.invariant.was c.loop.invariant.fresh c.loop.invariant.eight tells
+    c.loop.tasks c.loop.progress (c.pop.ensures.none c.in_default.is) c.loop.invariant.moves
 
 pub returns-in_default-clause-masters : goal.returns-in_default-clause-masters
 returns-in_default-clause-masters g c = c.loop.invariant.masters
@@ -56,10 +61,13 @@ make_move-requires-clause-faults g c = omega (arith, c.loop.invariant.few, c.loo
 pub returns-in_err-make_move-clause-err : goal.returns-in_err-make_move-clause-err
 returns-in_err-make_move-clause-err g c =
     let lost = err_from_is_err_and c.from_residual.result c.from_residual.ensures.1 in
+    λ command tells.
     rw (lost.1, lost.2)
-    (stops_in g.R.Replica.segments c.args.cluster.now c.loop.cluster c.make_move.new.cluster c.args.tasks.now c.loop.tasks c.args.progress.now c.loop.progress c.in_err-make_move.field-0.0
+    (fails_by g.R.Replica.segments c.args.cluster.now c.make_move.new.cluster command c.args.tasks c.loop.invariant.was c.loop.invariant.fresh c.loop.invariant.eight tells
+    c.in_err-make_move.field-0.0
+    (stops_in g.R.Replica.segments c.args.cluster.now c.loop.cluster c.make_move.new.cluster c.args.tasks c.loop.tasks c.loop.invariant.was c.loop.progress c.in_err-make_move.field-0.0
     c.loop.invariant.moves
-    (subst (λ (left : List Task). Stops g.R.Replica.segments c.loop.cluster c.make_move.new.cluster left c.loop.progress c.in_err-make_move.field-0.0) (sym c.in-Some.ensures.some) c.in_err-make_move.ensures.err))
+    (subst (λ (left : List Task). Stops g.R.Replica.segments c.loop.cluster c.make_move.new.cluster left c.loop.progress c.in_err-make_move.field-0.0) (sym c.in-Some.ensures.some) c.in_err-make_move.ensures.err)))
 
 pub returns-in_err-make_move-clause-masters : goal.returns-in_err-make_move-clause-masters
 returns-in_err-make_move-clause-masters g c = c.make_move.ensures.masters ∙ c.loop.invariant.masters
@@ -83,7 +91,10 @@ returns-in_err-make_move-clause-cause g c =
 
 pub loop-preserved : goal.loop-preserved
 loop-preserved g c = record {
-  moves = one_more g.R.Replica.segments c.args.cluster.now c.loop.cluster c.make_move.new.cluster c.args.tasks.now c.loop.tasks c.make_move.new.tasks c.args.progress.now c.loop.progress
+  was = c.loop.invariant.was;
+  fresh = c.loop.invariant.fresh;
+  eight = c.loop.invariant.eight;
+  moves = one_more g.R.Replica.segments c.args.cluster.now c.loop.cluster c.make_move.new.cluster c.args.tasks c.loop.tasks c.make_move.new.tasks c.loop.invariant.was c.loop.progress
       c.make_move.new.progress c.loop.invariant.moves
       (subst (λ (left : List Task). Moves g.R.Replica.segments c.loop.cluster c.make_move.new.cluster left c.make_move.new.tasks c.loop.progress c.make_move.new.progress)
       (sym c.in-Some.ensures.some) c.in_ok-make_move.ensures.ok);
