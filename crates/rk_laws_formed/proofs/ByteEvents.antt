@@ -43,7 +43,8 @@ use Rattle.rk_laws_formed.proofs.Worlds.{formed_limits, master_of}
 
 -- ---- a master changes
 
-master_below : (w : World) (number : ℕ) → log_bytes (master_at w number) ≤ bytes_of_logs w
+-- a master has no more than all of a lane
+pub master_below : (w : World) (number : ℕ) → log_bytes (master_at w number) ≤ bytes_of_logs w
 master_below w number = go (get w.masters number) refl
   where
     go : (found : Option Master) → get w.masters number ≡ found → log_bytes (unwrap_or found (new_master number [])) ≤ bytes_of_logs w
@@ -58,20 +59,24 @@ size_there w number = go (get w.masters number)
     go None = refl
     go (Some master) = refl
 
--- as a master rises, so do the logs of the lane
-logs_rise : (w : World) (number : ℕ) (now : Master) (more : ℕ) → IsWellFormed w
-    → log_bytes now ≤ 3 * log_bytes (master_at w number) + LONGEST_LEFT + more
-    → bytes_of_logs (with_master w number now) ≤ 3 * bytes_of_logs w + LONGEST_LEFT + more
-logs_rise w number now more formed rises =
+-- the bytes of one master count in place of those that it had
+pub logs_with : (w : World) (number : ℕ) (now : Master) → IsWellFormed w
+    → bytes_of_logs (with_master w number now) + log_bytes (master_at w number) ≡ bytes_of_logs w + log_bytes now
+logs_with w number now formed =
     omega (
       arith,
-      rises,
-      master_below w number,
       size_there w number,
       sum_inserted log_bytes w.masters number now (numbered_order w.masters w.coordinator.masters formed.masters_are),
       sum-map (λ (entry : ℕ × Master). log_bytes entry.1) w.masters,
       sum-map (λ (entry : ℕ × Master). log_bytes entry.1) (insert w.masters number now),
     )
+
+-- as a master rises, so do the logs of the lane
+logs_rise : (w : World) (number : ℕ) (now : Master) (more : ℕ) → IsWellFormed w
+    → log_bytes now ≤ 3 * log_bytes (master_at w number) + LONGEST_LEFT + more
+    → bytes_of_logs (with_master w number now) ≤ 3 * bytes_of_logs w + LONGEST_LEFT + more
+logs_rise w number now more formed rises =
+    omega (arith, rises, master_below w number, logs_with w number now formed)
 
 -- logs that stay as they are rise no further
 stays : (w now : World) (more : ℕ) → bytes_of_logs now ≡ bytes_of_logs w → bytes_of_logs now ≤ 3 * bytes_of_logs w + LONGEST_LEFT + more

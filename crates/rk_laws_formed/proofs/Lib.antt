@@ -50,6 +50,7 @@ pub mod RebuildCounters
 pub mod FewWorks
 pub mod StepsFew
 pub mod RoomEvents
+pub mod EntryBytes
 pub mod LogBytes
 pub mod TurnBytes
 pub mod PullBytes

@@ -1,6 +1,6 @@
 -- How many bytes a master's segments and side logs have after a step: where nothing is appended no more than before, and an entry more
 -- where one is.
-use Rattle.std.proofs.Common.{◌≡◌, ◌≤◌, ◌+◌, ◌==◌, ◌&&◌, ◌^◌, ℕ, cond, not, List, [], ◌∷◌, ◌++◌, length, map, sum, Option, None, Some, refl, sym, subst, ap, ◌∙◌, arith}
+use Rattle.std.proofs.Common.{◌≡◌, ◌≤◌, ◌+◌, ◌==◌, ◌&&◌, ℕ, cond, not, List, [], ◌∷◌, ◌++◌, length, map, sum, Option, None, Some, refl, sym, subst, ap, ◌∙◌, arith}
 use Rattle.std.specs.List.{sum_by}
 use Rattle.std.proofs.lemmas.Bool.{cond_both}
 use Rattle.std.proofs.lemmas.List.Sums.{sum-map, sum_by-append, sum_by-cons}
@@ -12,25 +12,10 @@ use Rattle.rk_entry.specs.declared.entry.Entry.{Entry}
 use Rattle.rk_world.specs.Handovers.{given_up, with_others_given_up}
 use Rattle.rk_world.specs.Master.{Master, log_bytes, tablet_at, unsealed_bytes, with_appended, with_tablet}
 use Rattle.rk_world.specs.Tablet.{Pulling, Tablet, no_tablet, pulling_from}
-use Rattle.std.specs.Prelude.{IfSome, unwrap_or}
-use Rattle.rk_types.specs.Text.{key_fault, value_fault}
+use Rattle.std.specs.Prelude.{unwrap_or}
 use Rattle.rk_types.specs.declared.held.Held.{Held}
-use Rattle.rk_types.specs.declared.text.TheConstants.{LONGEST_KEY, LONGEST_VALUE}
-use Rattle.rk_entry.proofs.Sizes.{spelled_count}
-use Rattle.rk_entry.proofs.TextLaws.{text_within}
 use Rattle.rk_entry.specs.Entries.{spelled_all}
-use Rattle.rk_entry.specs.Kinds.{is_marked, kind_of}
-use Rattle.rk_entry.specs.Lengths.{value_count}
-use Rattle.rk_entry.specs.Spelling.{mark_count}
-use Rattle.rk_entry.specs.declared.entry.Carried.{Carried}
-use Rattle.rk_entry.specs.declared.entry.Entry.TheVariants as entries
-use Rattle.rk_entry.specs.declared.entry.Refused.{Refused}
-use Rattle.rk_entry.specs.declared.kind.Kind.{Kind}
-use Rattle.rk_entry.specs.declared.kind.TheConstants.{MARK_BYTES}
-use Rattle.rk_world.specs.Formed.{MOST_BASE_CLIENTS}
 use Rattle.rk_world.specs.Material.{as_entries}
-use Rattle.rk_world.specs.Refusals.{MOST_CLIENTS}
-use Rattle.rk_laws_formed.specs.Brought.{LONGEST_LEFT}
 use Rattle.rk_laws_formed.proofs.Bounds.{within_sum_of}
 use Rattle.rk_laws_formed.proofs.Sealing.{none_spelled}
 use Rattle.rk_laws_formed.proofs.MapSums.{inserted_most, size_found, sum_inserted}
@@ -121,35 +106,3 @@ bytes_given_up master id range =
       sum-map (λ (entry : ℕ × Tablet). unsealed_bytes entry.1) master.tablets,
       sum-map (λ (entry : ℕ × Tablet). unsealed_bytes entry.1) (with_others_given_up master id range).tablets,
     )
-
--- ---- entries
-
-pub mark_few : (kind : Kind) → mark_count kind ≤ 1
-mark_few kind = cond_both (is_marked kind) MARK_BYTES 0 (λ (n : ℕ). n ≤ 1) (λ is. omega arith) (λ is. omega arith)
-
-value_few : (value : Option (List ℕ)) → IfSome value (λ value. value_fault value ≡ None) → value_count value ≤ 2 ^ 17
-value_few None fits = omega arith
-value_few (Some value) fits = omega (arith, (text_within 0 LONGEST_VALUE value fits).1)
-
-pub held_short : (held : Held) → key_fault held.key ≡ None → IfSome held.value (λ value. value_fault value ≡ None) → length (spelled (entries.Held held)) ≤ LONGEST_LEFT
-held_short held key value =
-    omega (
-      arith,
-      spelled_count (entries.Held held),
-      mark_few (kind_of (entries.Held held)),
-      (text_within 1 LONGEST_KEY held.key key).1,
-      value_few held.value value,
-    )
-
-pub refused_short : (refused : Refused) → key_fault refused.key ≡ None → length (spelled (entries.Refused refused)) ≤ LONGEST_LEFT
-refused_short refused key =
-    omega (
-      arith,
-      spelled_count (entries.Refused refused),
-      mark_few (kind_of (entries.Refused refused)),
-      (text_within 1 LONGEST_KEY refused.key key).1,
-    )
-
-pub carried_short : (carried : Carried) → length carried.ends ≤ MOST_CLIENTS + MOST_BASE_CLIENTS → length (spelled (entries.Carried carried)) ≤ LONGEST_LEFT
-carried_short carried few =
-    omega (arith, few, spelled_count (entries.Carried carried), mark_few (kind_of (entries.Carried carried)))

@@ -39,7 +39,8 @@ use Rattle.rk_world.specs.RoleTests.{is_gathering}
 use Rattle.rk_world.specs.Tablet.{Tablet, no_tablet, pulling_from}
 use Rattle.rk_world.specs.Worked.{changed}
 use Rattle.rk_laws_formed.proofs.CopyBytes.{begun_copies, copies_within}
-use Rattle.rk_laws_formed.proofs.LogBytes.{bytes_appended, bytes_given_up, carried_short, pulls_none}
+use Rattle.rk_laws_formed.proofs.EntryBytes.{carried_fits}
+use Rattle.rk_laws_formed.proofs.LogBytes.{bytes_appended, bytes_given_up, pulls_none}
 use Rattle.rk_laws_formed.proofs.Maps.{found_changed}
 use Rattle.rk_laws_formed.proofs.PullBytes.{HasBytes, first_bytes, items_bytes, more_has, put_has, same_has}
 use Rattle.rk_laws_formed.proofs.Rebuilding.{begins, few_ends, formed_gathered, merge_formed}
@@ -87,7 +88,7 @@ merging_has bytes id master merged (Some handover) few has =
             arith,
             copied_has.fits,
             bytes_appended copied closing,
-            carried_short
+            carried_fits
                 (record { range = it.handover.range; term = it.handover.term; floor = merged.floor; ends = ends_of (completions_from [] merged.ends) })
                 few,
           );

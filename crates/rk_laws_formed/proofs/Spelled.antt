@@ -1,14 +1,13 @@
 -- What a master of a well formed lane appends when it takes a message can be spelled, whether or not its log has room for it.
-use Rattle.std.proofs.Common.{lit<, ◌≡◌, ◌≤◌, ◌<◌, ◌+◌, ◌==◌, ◌&&◌, ℕ, Bool, false, true, cond, List, All, length, Option, None, Some, IfSome, refl, sym, subst, arith, ◌∙◌}
+use Rattle.std.proofs.Common.{lit<, ◌≡◌, ◌≤◌, ◌+◌, ◌==◌, ◌&&◌, ℕ, Bool, false, true, cond, List, All, length, Option, None, Some, IfSome, refl, sym, subst, arith}
 use Rattle.std.specs.Int.{w64}
 use Rattle.std.proofs.lemmas.List.Elements.{All-map, All-weaker}
-use Rattle.rk_types.specs.NumberMap.{get}
 use Rattle.rk_types.specs.declared.node.Node.{Node}
 use Rattle.rk_entry.specs.Lawful.{IsLawfulEntry}
 use Rattle.rk_entry.specs.Numbers.{IsNumber}
 use Rattle.rk_entry.specs.declared.entry.Entry.{Entry}
 use Rattle.rk_entry.specs.declared.entry.Entry.TheVariants as entries
-use Rattle.rk_transfer.specs.Handover.{granted, in_role, role_carried, role_granted}
+use Rattle.rk_transfer.specs.Handover.{in_role, role_carried, role_granted}
 use Rattle.rk_transfer.specs.declared.handover.Handover.{Handover}
 use Rattle.rk_transfer.specs.declared.role.Role.{Role}
 use Rattle.rk_message.specs.declared.handover.Grant.{Grant}
@@ -18,18 +17,16 @@ use Rattle.rk_message.specs.declared.rebuilding.CopySegment.{CopySegment}
 use Rattle.rk_message.specs.declared.rebuilding.Rebuild.{Rebuild}
 use Rattle.rk_world.specs.declared.work.Merged.{Merged}
 use Rattle.rk_world.specs.declared.work.Reading.{Reading}
-use Rattle.rk_world.specs.Formed.{IsFormedMaster, IsWellFormed, place_in}
+use Rattle.rk_world.specs.Formed.{IsFormedMaster, place_in}
 use Rattle.rk_world.specs.Gather.{by_member, is_awaited, next_reading}
 use Rattle.rk_world.specs.Handovers as handing
 use Rattle.rk_world.specs.Handovers.{is_greater}
-use Rattle.rk_world.specs.Limits.{IsFormedBody, IsFormedCopy, IsFormedEntry, IsFormedGrant, IsFormedMessage, IsFormedRebuild, Limits, limits_of}
-use Rattle.rk_world.specs.Master.{Master, tablet_at, with_all, with_appended}
+use Rattle.rk_world.specs.Limits.{IsFormedBody, IsFormedCopy, IsFormedEntry, IsFormedGrant, IsFormedRebuild, Limits, limits_of}
+use Rattle.rk_world.specs.Master.{Master, tablet_at, with_all}
 use Rattle.rk_world.specs.Material.{as_entries}
 use Rattle.rk_world.specs.Merge.{merge}
-use Rattle.rk_world.specs.Premises.{IsMaster}
 use Rattle.rk_world.specs.Rebuilds as rebuilds
 use Rattle.rk_world.specs.RoleTests.{is_gathering}
-use Rattle.rk_world.specs.Room.{HasRoom, MOST_NUMBER}
 use Rattle.rk_world.specs.Tablet.{Tablet}
 use Rattle.rk_world.specs.Worked.{changed}
 use Rattle.rk_world.specs.World.{World, master_at}

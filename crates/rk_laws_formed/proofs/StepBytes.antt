@@ -37,7 +37,8 @@ use Rattle.rk_done.specs.Completions.{completions_from}
 use Rattle.rk_world.specs.Waiting.{freezing, tablet_frozen}
 use Rattle.rk_world.specs.RoleTests.{is_frozen_at}
 use Rattle.rk_world.specs.Worked.{Worked, changed, sending}
-use Rattle.rk_laws_formed.proofs.LogBytes.{bytes_appended, bytes_given_up, bytes_with_tablet, carried_short, held_short, pulls_none, refused_short, unsealed_at_most}
+use Rattle.rk_laws_formed.proofs.EntryBytes.{carried_fits, held_fits, refused_fits}
+use Rattle.rk_laws_formed.proofs.LogBytes.{bytes_appended, bytes_given_up, bytes_with_tablet, pulls_none, unsealed_at_most}
 use Rattle.rk_laws_formed.proofs.Requests.{IsFormedChoice, choice_formed}
 use Rattle.rk_laws_formed.proofs.Rising.{rising_within}
 use Rattle.rk_laws_formed.proofs.Tablets.{tablet_with_same}
@@ -94,7 +95,7 @@ module _ (master : Master) (below : log_bytes master < MOST_BYTES) where
         below,
         bytes_with_tablet (with_staged master call (entries.Held item)) id (counted_up (tablet_at master id)),
         bytes_appended (with_call master call) (entries.Held item),
-        held_short item lawful.key formed.1,
+        held_fits item lawful.key formed.1,
         unsealed_at_most master id,
       )
   chosen_fits limits asked call (Refuses found absent) lawful formed =
@@ -102,7 +103,7 @@ module _ (master : Master) (below : log_bytes master < MOST_BYTES) where
         arith,
         below,
         bytes_appended (with_call master call) (refusal_of call found absent),
-        refused_short (record { table = call.table; found = found; client = call.client; seq = call.seq; absent = absent; key = call.key }) lawful.key,
+        refused_fits (record { table = call.table; found = found; client = call.client; seq = call.seq; absent = absent; key = call.key }) lawful.key,
       )
 
   -- ---- handovers
@@ -171,7 +172,7 @@ module _ (master : Master) (below : log_bytes master < MOST_BYTES) where
         bytes_with_tablet (with_appended master (handovers.carried_entry handover grant)) grant.tenure.tablet granted_tablet,
         pulls_none granted_tablet grant.source refl,
         bytes_appended master (handovers.carried_entry handover grant),
-        carried_short (record { range = handover.range; term = handover.term; floor = grant.floor; ends = grant.ends }) few,
+        carried_fits (record { range = handover.range; term = handover.term; floor = grant.floor; ends = grant.ends }) few,
       )
     where
       few : length grant.ends ≤ MOST_CLIENTS + MOST_BASE_CLIENTS

@@ -21,7 +21,8 @@ use Rattle.rk_world.specs.MasterTurn.{duties, master_turn, reading_duty, tablet_
 use Rattle.rk_world.specs.Tablet.{Tablet, with_handover}
 use Rattle.rk_world.specs.Waiting.{freezing, tablet_frozen}
 use Rattle.rk_world.specs.Worked.{Worked, changed}
-use Rattle.rk_laws_formed.proofs.LogBytes.{bytes_appended, bytes_put, mark_few}
+use Rattle.rk_laws_formed.proofs.EntryBytes.{mark_few}
+use Rattle.rk_laws_formed.proofs.LogBytes.{bytes_appended, bytes_put}
 use Rattle.rk_laws_formed.proofs.Sealing.{items_spelled}
 use Rattle.rk_laws_formed.proofs.Sizes.{side_bytes}
 use Rattle.rk_laws_formed.proofs.Commits.{noted_waits}

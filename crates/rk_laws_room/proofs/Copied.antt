@@ -47,7 +47,8 @@ use Rattle.rk_laws_parts.proofs.Put.{put2_here}
 use Rattle.rk_laws_parts.proofs.Serving.{found_stands}
 use Rattle.rk_laws_parts.proofs.Views.{view_gathered}
 use Rattle.rk_laws_formed.proofs.Handovers.{one_stood}
-use Rattle.rk_laws_formed.proofs.LogBytes.{bytes_appended, bytes_put, carried_short}
+use Rattle.rk_laws_formed.proofs.EntryBytes.{carried_fits}
+use Rattle.rk_laws_formed.proofs.LogBytes.{bytes_appended, bytes_put}
 use Rattle.rk_laws_formed.proofs.PullBytes.{first_bytes, items_bytes, none_bytes}
 use Rattle.rk_laws_formed.proofs.Rebuilding.{few_ends, formed_gathered, merge_formed, read_formed}
 use Rattle.rk_laws_formed.proofs.Sealing.{first_holds, items_spelled}
@@ -106,7 +107,7 @@ merged_bytes id master merged handover order few =
       bytes_appended copied (rebuilt_entry it merged),
       bytes_put closed id (with_merged it merged handover) (subst (λ (tablets : NumberMap Tablet). IsInOrder tablets) (sym same) order),
       ap (λ (tablets : NumberMap Tablet). unsealed_bytes (get_or no_tablet tablets id)) same,
-      carried_short
+      carried_fits
           (record { range = it.handover.range; term = it.handover.term; floor = merged.floor; ends = ends_of (completions_from [] merged.ends) })
           few,
     )

@@ -2,8 +2,7 @@
 -- records are logged and entries fit then.
 use Rattle.std.proofs.Common.{◌≡◌, ◌≤◌, ◌<◌, ◌+◌, ◌*◌, ℕ, Bool, true, false, cond, [], Option, None, Some, refl, sym, ap, subst, ◌∙◌, length, arith}
 use Rattle.std.specs.Prelude.{All, unwrap_or}
-use Rattle.std.proofs.lemmas.List.Sums.{sum-map}
-use Rattle.rk_types.specs.NumberMap.{get, insert}
+use Rattle.rk_types.specs.NumberMap.{get}
 use Rattle.rk_types.specs.declared.node.Node.{Node}
 use Rattle.rk_types.specs.declared.node.Node.TheVariants as nodes
 use Rattle.rk_message.specs.declared.message.Body.{Body}
@@ -21,13 +20,10 @@ use Rattle.rk_world.specs.Refusals.{refusal}
 use Rattle.rk_world.specs.Room.{HasRoom, HasRoomIn, MOST_BYTES}
 use Rattle.rk_world.specs.Runs.{IsCalmEvent}
 use Rattle.rk_world.specs.Step.{delivered, delivered_to, happened, losing, seen_in, to_master, worked_at}
-use Rattle.rk_world.specs.World.{World, bytes_of_logs, has_crashed, master_at, with_master}
+use Rattle.rk_world.specs.World.{World, bytes_of_logs, has_crashed, master_at}
 use Rattle.rk_sound.specs.Whole.{IsSound}
-use Rattle.rk_laws_formed.proofs.Bounds.{within_sum_of}
-use Rattle.rk_laws_formed.proofs.ByteEvents.{bytes_event}
+use Rattle.rk_laws_formed.proofs.ByteEvents.{bytes_event, logs_with, master_below}
 use Rattle.rk_laws_formed.proofs.Events.{comes_fresh}
-use Rattle.rk_laws_formed.proofs.MapSums.{size_found, sum_inserted}
-use Rattle.rk_laws_formed.proofs.Numbered.{numbered_order}
 use Rattle.rk_laws_formed.proofs.RoomEvents.{room_event}
 use Rattle.rk_laws_formed.proofs.StepBytes.{told_bytes}
 use Rattle.rk_laws_formed.proofs.Worlds.{formed_limits, master_of}
@@ -42,34 +38,6 @@ use Rattle.rk_laws_room.proofs.Pulled.{replayed_logged}
 use Rattle.rk_laws_room.proofs.RecordLanes.{logged_event, records_were_logged}
 use Rattle.rk_laws_room.proofs.Replays.{got_within, pulled_within}
 use Rattle.rk_laws_room.proofs.Sums.{apart_bytes, records_few}
-
--- ---- the bytes of logs where one master changes
-
-master_below : (w : World) (number : ℕ) → log_bytes (master_at w number) ≤ bytes_of_logs w
-master_below w number = go (get w.masters number) refl
-  where
-    go : (found : Option Master) → get w.masters number ≡ found → log_bytes (unwrap_or found (new_master number [])) ≤ bytes_of_logs w
-    go None is = omega arith
-    go (Some master) is = within_sum_of log_bytes w.masters number master is
-
-size_there : (w : World) (number : ℕ) → size_found log_bytes (get w.masters number) ≡ log_bytes (master_at w number)
-size_there w number = go (get w.masters number)
-  where
-    go : (found : Option Master) → size_found log_bytes found ≡ log_bytes (unwrap_or found (new_master number []))
-    go None = refl
-    go (Some master) = refl
-
--- the bytes of one count in place of those that it had
-logs_with : (w : World) (number : ℕ) (now : Master) → IsWellFormed w
-    → bytes_of_logs (with_master w number now) + log_bytes (master_at w number) ≡ bytes_of_logs w + log_bytes now
-logs_with w number now formed =
-    omega (
-      arith,
-      size_there w number,
-      sum_inserted log_bytes w.masters number now (numbered_order w.masters w.coordinator.masters formed.masters_are),
-      sum-map (λ (entry : ℕ × Master). log_bytes entry.1) w.masters,
-      sum-map (λ (entry : ℕ × Master). log_bytes entry.1) (insert w.masters number now),
-    )
 
 -- ---- a message reaches a living master
 

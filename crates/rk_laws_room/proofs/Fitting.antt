@@ -8,6 +8,8 @@ use Rattle.rk_types.proofs.NumberMaps.{each_insert, in_order_changed, in_order_i
 use Rattle.rk_types.specs.NumberMap.{EachIn, IsInOrder, NumberMap, changed_each, get}
 use Rattle.rk_types.specs.declared.call.Call.{Call}
 use Rattle.rk_types.specs.declared.call.Ended.{Ended}
+use Rattle.rk_entry.proofs.Sizes.{spelled_count}
+use Rattle.rk_entry.specs.Kinds.{kind_of}
 use Rattle.rk_entry.specs.declared.entry.Entry.{Entry}
 use Rattle.rk_entry.specs.declared.entry.Entry.TheVariants as entries
 use Rattle.rk_log.specs.declared.overreach.Overreach.{Overreach}
@@ -28,11 +30,16 @@ use Rattle.rk_world.specs.RoleTests.{is_absent}
 use Rattle.rk_world.specs.Tablet.{Tablet, no_tablet, with_handover}
 use Rattle.rk_world.specs.Waiting.{all_going_on, closing_entry, freezing, going_on_in, is_sealed_stored, joined_entry, tablet_frozen}
 use Rattle.rk_world.specs.Worked.{Worked, changed}
+use Rattle.rk_laws_formed.proofs.EntryBytes.{FitsSegment, mark_few}
 use Rattle.rk_laws_formed.proofs.Maps.{All_pairs, each_changed}
 use Rattle.rk_laws_room.specs.Fits.{IsFitting, MOST_SEALED}
-use Rattle.rk_laws_room.proofs.Short.{FitsSegment, joined_fits}
 
 -- ---- what fits
+
+-- the entry that closes the role of a target that sealed few side segments
+pub joined_fits : (tablet : Tablet) → length tablet.pulling.sealed ≤ MOST_SEALED → FitsSegment (joined_entry tablet)
+joined_fits tablet few =
+    omega (arith, few, spelled_count (joined_entry tablet), mark_few (kind_of (joined_entry tablet)))
 
 -- a tablet that has sealed few side segments
 abbrev pub HasFewSealed : Tablet → Type 0

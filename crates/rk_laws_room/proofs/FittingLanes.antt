@@ -35,6 +35,7 @@ use Rattle.rk_world.specs.Step.{Stepped, backed_at, client_added, delivered, del
 use Rattle.rk_world.specs.Worked.{Worked}
 use Rattle.rk_world.specs.World.{World, bytes_of_logs, has_crashed, is_backup, master_at, new_world, with_ledger, with_master, with_stored_by}
 use Rattle.rk_laws_formed.proofs.Bounds.{within_sum_of}
+use Rattle.rk_laws_formed.proofs.ByteEvents.{master_below}
 use Rattle.rk_laws_formed.proofs.Worlds.{formed_limits, master_of}
 use Rattle.rk_laws_parts.proofs.Fresh.{each_fresh}
 use Rattle.rk_laws_parts.proofs.Masters.{master_other, master_same}
@@ -65,13 +66,6 @@ module _ (w : World) where
         below,
         within_sum_of log_bytes (insert w.masters number master) number master (get_same w.masters number master number refl),
       )
-
-  master_below : (number : ℕ) → HasRoom w → log_bytes (master_at w number) < MOST_BYTES
-  master_below number room = go (get w.masters number) refl
-    where
-      go : (found : Option Master) → get w.masters number ≡ found → log_bytes (unwrap_or found (new_master number [])) < MOST_BYTES
-      go None is = omega arith
-      go (Some master) is = omega (arith, room.bytes, within_sum_of log_bytes w.masters number master is)
 
   -- the tablets of each master are in order, also of one that is not there
   order_at : (number : ℕ) → IsWellFormed w → IsInOrder (master_at w number).tablets
@@ -113,7 +107,7 @@ module _ (w : World) (formed : IsWellFormed w) (room : HasRoom w) (all : AllFit 
       go false few =
           put_fits w number step.master all
           (told_fit (limits_of w) number (master_at w number) (formed_limits w formed room) (master_of w number there formed)
-          (fit_at w number formed all) message.from message.body told.says (master_below w number room) (put_below w number step.master few))
+          (fit_at w number formed all) message.from message.body told.says (omega (arith, room.bytes, master_below w number)) (put_below w number step.master few))
 
   -- a backup stores more, or answers
   stored_fits : (backup : ℕ) (store : Segments → Segments) (found : Option Segments) → AllFit (with_stored_by w backup store found)

@@ -44,6 +44,7 @@ use Rattle.rk_world.specs.RoleTests.{is_frozen_at, is_gathering}
 use Rattle.rk_world.specs.Room.{MOST_BYTES}
 use Rattle.rk_world.specs.Tablet.{Tablet, pulling_from, with_handover, without_merged}
 use Rattle.rk_world.specs.Worked.{changed}
+use Rattle.rk_laws_formed.proofs.EntryBytes.{FitsSegment, carried_fits, held_fits, refused_fits}
 use Rattle.rk_laws_formed.proofs.Handovers.{one_stood}
 use Rattle.rk_laws_formed.proofs.Rebuilding.{IsFormedMerge, begins, few_ends, formed_gathered, merge_formed}
 use Rattle.rk_laws_formed.proofs.Requests.{IsFormedChoice, choice_formed}
@@ -54,7 +55,6 @@ use Rattle.rk_laws_formed.proofs.Tablets.{rest_at}
 use Rattle.rk_laws_formed.proofs.Work.{AreLimits}
 use Rattle.rk_laws_room.proofs.Fitting.{HasFewSealed, IsFit, all_fit, appended_fit, changed_fit, either_work, few_at, freezing_fit, put_fit, stored_fit}
 use Rattle.rk_laws_room.proofs.FittingPulls.{got_fit, pulled_fit}
-use Rattle.rk_laws_room.proofs.Short.{FitsSegment, carried_fits, held_fits, refused_fits}
 
 -- ---- a request
 

@@ -7,7 +7,6 @@ pub mod Records
 pub mod RecordSteps
 pub mod Logging
 pub mod RecordLanes
-pub mod Short
 pub mod SealedFew
 pub mod Fitting
 pub mod FittingPulls
