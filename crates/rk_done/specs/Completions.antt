@@ -1,5 +1,5 @@
 -- How each client's last call ended, and what is known by it of another call.
-use Rattle.std.specs.Prelude.{◌≡◌, ℕ, ◌<◌, ◌≤◌, Bool, true, nat_lt, ◌==◌, if◌then◌else◌, List, [], ◌∷◌, map, length, slice_index_or, Option, Some, None, refl}
+use Rattle.std.specs.Prelude.{ℕ, Bool, true, nat_lt, ◌==◌, if◌then◌else◌, List, [], ◌∷◌, map, Option, Some, None, refl}
 use Rattle.std.specs.Coded.{Coded, code_by, coded×, coded_ℕ}
 use Rattle.rk_types.specs.NumberMap.{NumberMap, get, insert, number_map_code}
 use Rattle.rk_types.specs.declared.call.Ended.{Ended}
@@ -56,14 +56,3 @@ ended_of entry = record { client = entry.0; seq = entry.1.seq; end = entry.1.end
 -- the ends of the last calls, by rising client
 abbrev pub ends_of : Completions → List Ended
 ends_of completions = map ended_of completions
-
--- the client stands at this place
-pub record IsAt (client : ℕ) (completions : List (ℕ × Completion)) (place : ℕ) : Type 0 where
-  pub within : place < length completions
-  pub same : (d : ℕ × Completion) → (slice_index_or completions place d).0 ≡ client
-
--- the clients before this place are smaller, and those from it on greater
-pub record Parts (client : ℕ) (completions : List (ℕ × Completion)) (place : ℕ) : Type 0 where
-  pub within : place ≤ length completions
-  pub smaller : (k : ℕ) (d : ℕ × Completion) → k < place → (slice_index_or completions k d).0 < client
-  pub greater : (k : ℕ) (d : ℕ × Completion) → place ≤ k → k < length completions → client < (slice_index_or completions k d).0

@@ -1,6 +1,7 @@
 ghost use Rattle.std.specs.Prelude.{◌≡◌, [], map as map_list, ◌≤◌, ◌<◌, ◌+◌, IfOk, IfErr, OnOk, OnErr};
 ghost use Rattle.rk_types.specs.NumberMap.{IsInOrder};
-ghost use Rattle.rk_done.specs.Completions.{IsAt, Parts, look as look_lem, noted, ended_of, ends_of};
+ghost use Rattle.rk_types.specs.Places.{IsAt, IsBetween};
+ghost use Rattle.rk_done.specs.Completions.{look as look_lem, noted, ended_of, ends_of};
 
 use crate::completion::{Completion, Look};
 use rk_types::{Ended, NoMemory};
@@ -31,7 +32,7 @@ impl Model for Completions {
 fn place(completions: &[(u32, Completion)], client: u32) -> Result<usize, usize>
     requires { IsInOrder completions.now }
     ensures found { IfOk result (IsAt client completions.now) }
-    ensures absent { IfErr result (Parts client completions.now) }
+    ensures absent { IfErr result (IsBetween client completions.now) }
 {
     completions.binary_search_by_key(&client, |entry| entry.0)
 }

@@ -9,7 +9,7 @@ use Rattle.rk_types.proofs.NumberMaps.{get_other, get_same}
 use Rattle.rk_types.specs.NumberMap.{get, insert}
 use Rattle.rk_types.specs.declared.call.Ended.{Ended}
 use Rattle.rk_entry.specs.declared.entry.Entry.{Entry}
-use Rattle.rk_done.proofs.Places.{noted_later, noted_older}
+use Rattle.rk_done.proofs.Noted.{noted_later, noted_older}
 use Rattle.rk_done.specs.Completions.{Completions, completions_from, ended_of, is_later, noted}
 use Rattle.rk_done.specs.declared.completion.Completion.{Completion}
 use Rattle.rk_overlay.proofs.Members.{behind_stands, first_stands, none_stands, stands_cases}

@@ -10,7 +10,7 @@ use Rattle.std.proofs.lemmas.Bool.{cases_Bool, ltb-false}
 use Rattle.rk_types.proofs.NumberMaps.{same_number}
 use Rattle.rk_types.specs.NumberMap.{get, insert}
 use Rattle.rk_types.specs.declared.call.Ended.{Ended}
-use Rattle.rk_done.proofs.Places.{noted_later, noted_older}
+use Rattle.rk_done.proofs.Noted.{noted_later, noted_older}
 use Rattle.rk_done.specs.Completions.{Completions, ended_of, ends_of, is_later, noted}
 use Rattle.rk_done.specs.declared.completion.Completion.{Completion}
 use Rattle.rk_overlay.proofs.Members.{behind_stands, first_stands, none_stands, stands_cases}

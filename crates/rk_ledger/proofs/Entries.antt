@@ -12,7 +12,7 @@ use Rattle.rk_types.proofs.NumberMaps.{get_insert, in_order_changed, in_order_in
 use Rattle.rk_message.specs.declared.message.Message.{Message}
 use Rattle.rk_world.specs.declared.ledger.LastCall.{LastCall}
 use Rattle.rk_ledger.specs.declared.asked.Asked.{Asked}
-use Rattle.rk_ledger.proofs.Places.{first, second, get_below, insert_same}
+use Rattle.rk_types.proofs.Places.{first, second, get_below, insert_same}
 use Rattle.rk_ledger.specs.Clients.{asked_here, last_calls_of, requests_of, with_added, with_last, with_request, with_request_of}
 
 -- the last call that an entry tells

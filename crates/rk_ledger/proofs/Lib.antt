@@ -2,7 +2,6 @@ pub mod Entries
 pub mod Kept
 pub mod Named
 pub mod Noted
-pub mod Places
 pub mod Positions
 pub mod Rebuilds
 pub mod Rising

@@ -2,5 +2,4 @@ pub mod Clients
 pub mod Growing
 pub mod Lane
 pub mod Noted
-pub mod Places
 pub mod Values

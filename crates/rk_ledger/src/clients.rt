@@ -2,7 +2,7 @@ ghost use Rattle.std.specs.Prelude.{◌≡◌, None, length, is_some, IsSome, If
 ghost use Rattle.std.specs.Option.{option_copied};
 ghost use Rattle.rk_types.specs.NumberMap.{IsInOrder, get, get_or};
 ghost use Rattle.rk_ledger.specs.Clients.{asked_here, last_calls_of, nobody, requests_of, with_added, with_last, with_request};
-ghost use Rattle.rk_ledger.specs.Places.{IsAt, IsBetween};
+ghost use Rattle.rk_types.specs.Places.{IsAt, IsBetween};
 
 use crate::asked::Asked;
 use rk_message::Message;

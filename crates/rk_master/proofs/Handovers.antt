@@ -36,7 +36,8 @@ use Rattle.rk_world.specs.Worked.{Worked, changed, sending}
 use Rattle.rk_master.specs.declared.tablet_lane.TabletLane.{TabletLane}
 use Rattle.rk_master.specs.declared.work.Worked.{Worked as Work}
 use Rattle.rk_master.specs.Parts.{IsClosable, IsGrantable, changing, given_up_but, marks_of, tablet_in, tablet_of, tablets_of, worked_of}
-use Rattle.rk_master.specs.Places.{Row, IsAt, IsBetween}
+use Rattle.rk_types.specs.Places.{IsAt, IsBetween}
+use Rattle.rk_master.specs.Places.{Row}
 use Rattle.rk_master.specs.Sides.{items_of_sides}
 use Rattle.rk_master.proofs.Closable.{closable_as}
 use Rattle.rk_master.proofs.Places.{changed_there, none_there, tablet_there}

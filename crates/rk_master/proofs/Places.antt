@@ -13,128 +13,14 @@ use Rattle.std.specs.declared.cmp.Ordering.TheVariants.{Less, Equal, Greater}
 use Rattle.std.specs.Cmp.{nat_cmp_is, ranked}
 use Rattle.std.specs.FinMap.Entries.{below_all, by_order}
 use Rattle.rk_types.specs.NumberMap.{NumberMap, IsInOrder, get, insert}
+use Rattle.rk_types.specs.Places.{IsAt, IsBetween}
 use Rattle.rk_types.proofs.NumberMaps.{in_order_insert}
+use Rattle.rk_types.proofs.Places.{get_at, get_between, insert_at_place, insert_between}
 use Rattle.rk_transfer.specs.declared.handover.Handover.{Handover}
 use Rattle.rk_world.specs.Tablet.{Tablet, no_tablet, with_handover}
 use Rattle.rk_master.specs.declared.tablet_lane.TabletLane.{TabletLane}
 use Rattle.rk_master.specs.Parts.{changing, tablet_of, tablets_of, tablet_in}
-use Rattle.rk_master.specs.Places.{Row, IsAt, IsBetween}
-
--- the first of two facts that a test joins
-first : (a b : Bool) → T (a && b) → T a
-first true b p = tt
-first false b p = p
-
--- the second of them
-second : (a b : Bool) → T (a && b) → T b
-second true b p = p
-second false b p = absurd p
-
--- a smaller number compares so
-cmp_below : (x y : ℕ) → x < y → nat_cmp x y ≡ Less
-cmp_below x y h = sym (nat_cmp_is x y Less h)
-
--- a greater one
-cmp_above : (x y : ℕ) → y < x → nat_cmp x y ≡ Greater
-cmp_above x y h = sym (nat_cmp_is x y Greater h)
-
--- and an equal one
-cmp_same : (x y : ℕ) → x ≡ y → nat_cmp x y ≡ Equal
-cmp_same x y h = sym (nat_cmp_is x y Equal h)
-
--- what the answer that the first is smaller means
-is_below : (x y : ℕ) → T (is_lt (nat_cmp x y)) → x < y
-is_below x y h =
-    elim (nat_cmp x y) as (λ r. nat_cmp x y ≡ r → T (is_lt r) → x < y) [
-      | Less ↦ λ e _. ranked x y Less (sym e)
-      | Equal ↦ λ _ p. absurd p
-      | Greater ↦ λ _ p. absurd p
-    ] refl h
-
--- a greater number compares no lower
-index_rises : (x y q : ℕ) → x ≤ y → ordering_index (nat_cmp x q) ≤ ordering_index (nat_cmp y q)
-index_rises x y q h =
-    elim (nat_cmp x q) as (λ r. nat_cmp x q ≡ r → ordering_index r ≤ ordering_index (nat_cmp y q)) [
-      | Less ↦ λ e. omega arith
-      | Equal ↦ λ e. elim (nat_cmp y q) as (λ s. nat_cmp y q ≡ s → 1 ≤ ordering_index s) [
-        | Less ↦ λ f. let a : x ≡ q = ranked x q Equal (sym e) in let b : y < q = ranked y q Less (sym f) in absurd (omega arith)
-        | Equal ↦ λ f. omega arith
-        | Greater ↦ λ f. omega arith
-      ] refl
-      | Greater ↦ λ e. let a : q < x = ranked x q Greater (sym e) in let g : nat_cmp y q ≡ Greater = cmp_above y q (omega arith) in rw g (omega arith)
-    ] refl
-
--- a number below all is below the one at a place
-below : (number : ℕ) (rows : List Row) (k : ℕ) (d : Row) → T (below_all nat_cmp number rows) → k < length rows → number < (get_or rows k d).0
-below number [] k d h w = absurd (omega arith)
-below number (e ∷ es) zero d h w = is_below number e.0 (first _ _ h)
-below number (e ∷ es) (suc k) d h w = below number es k d (second _ _ h) (omega arith)
-
--- numbers rise from place to place
-rising : (rows : List Row) (i j : ℕ) (d : Row) → IsInOrder rows → i < j → j < length rows → (get_or rows i d).0 < (get_or rows j d).0
-rising [] i j d h a b = absurd (omega arith)
-rising (e ∷ es) zero zero d h a b = absurd (omega arith)
-rising (e ∷ es) zero (suc j) d h a b = below e.0 es j d (first _ _ h) (omega arith)
-rising (e ∷ es) (suc i) zero d h a b = absurd (omega arith)
-rising (e ∷ es) (suc i) (suc j) d h a b = rising es i j d (second _ _ h) (omega arith) (omega arith)
-
--- so the answers of a search rise too
-answers_rise : (number : ℕ) (rows : List Row) (i j : ℕ) (d : Row) → IsInOrder rows → i ≤ j → j < length rows → ordering_index (nat_cmp (get_or rows i d).0 number) ≤ ordering_index (nat_cmp (get_or rows j d).0 number)
-answers_rise number rows i j d h a b =
-    elim (cases_lt i j) [
-      | inl less ↦ index_rises _ _ number (omega (arith, rising rows i j d h less b))
-      | inr more ↦ let same : i ≡ j = omega arith in subst (λ (k : ℕ). ordering_index (nat_cmp (get_or rows i d).0 number) ≤ ordering_index (nat_cmp (get_or rows k d).0 number)) same (omega arith)
-    ]
-
--- what a search by number answers where the numbers rise
-pub found_place : (number : ℕ) (rows : List Row) (r : Result ℕ ℕ) → IsInOrder rows → IsSearchInRange r (length rows) → IsBinarySearchResult (λ e. nat_cmp e.0 number) rows r → IfOk r (IsAt number rows) × IfErr r (IsBetween number rows)
-found_place number rows (Ok i) h w s = (record { within = w; same = λ d. ranked _ number Equal (sym (s d)) }, tt)
-found_place number rows (Err i) h w s =
-    let split = s (λ j k d a b. answers_rise number rows j k d h a b) in
-    (tt, record { within = w; smaller = λ k d a. ranked _ number Less (sym (split.0 k d (omega arith) a)); greater = λ k d a b. ranked _ number Greater (sym (split.1 k d a b)) })
-
--- a number's place, counted without the first entry
-at_tail : (number : ℕ) (e : Row) (es : List Row) (i : ℕ) → IsAt number (e ∷ es) (suc i) → IsAt number es i
-at_tail number e es i at = record { within = omega (arith, at.within); same = at.same }
-
--- the first entry is below it, where the numbers rise
-first_below : (number : ℕ) (e : Row) (es : List Row) (i : ℕ) → IsInOrder (e ∷ es) → IsAt number (e ∷ es) (suc i) → e.0 < number
-first_below number e es i order at = subst (λ (k : ℕ). e.0 < k) (at.same e) (below e.0 es i e (first _ _ order) (omega (arith, at.within)))
-
--- a number that stands at a place is found there
-pub get_at : (number : ℕ) (rows : List Row) (i : ℕ) (d : Row) → IsInOrder rows → IsAt number rows i → get rows number ≡ Some (get_or rows i d).1
-get_at number [] i d order at = absurd (omega (arith, at.within))
-get_at number (e ∷ es) zero d order at = rw (cmp_same number e.0 (sym (at.same d))) refl
-get_at number (e ∷ es) (suc i) d order at =
-    rw (cmp_above number e.0 (first_below number e es i order at)) (get_at number es i d (second _ _ order) (at_tail number e es i at))
-
--- to insert such a number is to change the completion at its place
-pub insert_at_place : (number : ℕ) (new : TabletLane) (rows : List Row) (i : ℕ) (d : Row) → IsInOrder rows → IsAt number rows i → insert rows number new ≡ set rows i ((get_or rows i d).0, new)
-insert_at_place number new [] i d order at = absurd (omega (arith, at.within))
-insert_at_place number new (e ∷ es) zero d order at = rw (cmp_same number e.0 (sym (at.same d))) refl
-insert_at_place number new (e ∷ es) (suc i) d order at =
-    rw (cmp_above number e.0 (first_below number e es i order at)) (ap (λ t. e ∷ t) (insert_at_place number new es i d (second _ _ order) (at_tail number e es i at)))
-
--- the parts round a number, without the first entry
-between_tail : (number : ℕ) (e : Row) (es : List Row) (i : ℕ) → IsBetween number (e ∷ es) (suc i) → IsBetween number es i
-between_tail number e es i parts = record { within = omega (arith, parts.within); smaller = λ k d h. parts.smaller (suc k) d (omega arith); greater = λ k d a b. parts.greater (suc k) d (omega arith) (omega arith) }
-
--- a first entry above the number can be left out too
-between_later : (number : ℕ) (e : Row) (es : List Row) → IsBetween number (e ∷ es) zero → IsBetween number es zero
-between_later number e es parts = record { within = omega arith; smaller = λ k d h. absurd (omega arith); greater = λ k d a b. parts.greater (suc k) d (omega arith) (omega arith) }
-
--- a number between the parts is not found
-pub get_between : (number : ℕ) (rows : List Row) (i : ℕ) → IsBetween number rows i → get rows number ≡ None
-get_between number [] i parts = refl
-get_between number (e ∷ es) zero parts = rw (cmp_below number e.0 (parts.greater zero e (omega arith) (omega arith))) (get_between number es zero (between_later number e es parts))
-get_between number (e ∷ es) (suc i) parts = rw (cmp_above number e.0 (parts.smaller zero e (omega arith))) (get_between number es i (between_tail number e es i parts))
-
--- to insert such a number is to insert its entry between the parts
-pub insert_between : (number : ℕ) (new : TabletLane) (rows : List Row) (i : ℕ) → IsBetween number rows i → insert rows number new ≡ insert_at rows i (number, new)
-insert_between number new [] zero parts = refl
-insert_between number new [] (suc i) parts = absurd (omega (arith, parts.within))
-insert_between number new (e ∷ es) zero parts = rw (cmp_below number e.0 (parts.greater zero e (omega arith) (omega arith))) refl
-insert_between number new (e ∷ es) (suc i) parts = rw (cmp_above number e.0 (parts.smaller zero e (omega arith))) (ap (λ t. e ∷ t) (insert_between number new es i (between_tail number e es i parts)))
+use Rattle.rk_master.specs.Places.{Row}
 
 -- ---- what the tablets stand for
 
@@ -161,11 +47,6 @@ insert_tablet (row ∷ rows) number lane = go (nat_cmp number row.0) (insert_tab
     go Greater rest = ap (λ t. (row.0, tablet_of row.1) ∷ t) rest
 
 -- ---- one tablet is changed
-
--- the tablet of a number that is there is found
-pub is_found : (rows : List Row) (number : ℕ) (searched : Result ℕ ℕ) → IsSome (get rows number) → IfErr searched (IsBetween number rows) → IsOk searched
-is_found rows number (Ok i) there absent = refl
-is_found rows number (Err i) there absent = absurd (false≢true (ap is_some (sym (get_between number rows i absent)) ∙ there))
 
 -- what the master has of the tablet of a number is what stands at its place
 pub tablet_there : (rows : List Row) (number i : ℕ) (d : Row) → IsInOrder rows → IsAt number rows i → tablet_in rows number ≡ tablet_of (get_or rows i d).1

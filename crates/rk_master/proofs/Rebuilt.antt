@@ -38,7 +38,8 @@ use Rattle.rk_master.specs.Parts.{AreClosable, IsClosable, can_close, changing, 
 use Rattle.rk_master.specs.Rebuilding.{CanBeSpelled, gathered_from, is_awaiting, merged_with, own_counted, with_gather, with_items}
 use Rattle.rk_master.specs.Sides.{items_of_sides}
 use Rattle.rk_master.specs.declared.tablet_lane.TabletLane.{TabletLane}
-use Rattle.rk_master.specs.Places.{IsAt, Row}
+use Rattle.rk_types.specs.Places.{IsAt}
+use Rattle.rk_master.specs.Places.{Row}
 use Rattle.rk_master.proofs.Closable.{closable_at}
 use Rattle.rk_master.proofs.Handovers.{changed_read, kept_itself, stays_itself, tablet_read, with_rows}
 use Rattle.rk_master.proofs.Places.{there_too}

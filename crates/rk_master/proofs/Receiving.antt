@@ -48,12 +48,14 @@ use Rattle.rk_world.specs.Worked.{changed}
 use Rattle.rk_master.specs.declared.pulled.TheConstants.{MOST_SEALED}
 use Rattle.rk_master.specs.declared.tablet_lane.TabletLane.{TabletLane}
 use Rattle.rk_master.specs.Parts.{AreTablets, can_close, IsClosable, tablet_of, tablets_of}
-use Rattle.rk_master.specs.Places.{Row, IsAt}
+use Rattle.rk_types.specs.Places.{IsAt}
+use Rattle.rk_master.specs.Places.{Row}
 use Rattle.rk_master.specs.Pulls.{asked_for, awaits, CanClose, DoesPull, no_sides, with_resolved, with_sealed, with_side, with_sides, with_token}
 use Rattle.rk_master.specs.Sides.{AreSpelled, IsSpelled, items_of_sides, side_items}
 use Rattle.rk_master.proofs.Closable.{closable_at, closing_joined}
 use Rattle.rk_master.proofs.Handovers.{changed_read, set_there, tablet_read, with_rows}
-use Rattle.rk_master.proofs.Places.{get_at, get_tablet, row_there}
+use Rattle.rk_types.proofs.Places.{get_at}
+use Rattle.rk_master.proofs.Places.{get_tablet, row_there}
 use Rattle.rk_master.proofs.Sides.{spelled_so}
 
 -- ---- the tablets as a map

@@ -11,7 +11,8 @@ use Rattle.rk_world.specs.Tablet.{Tablet}
 use Rattle.rk_world.specs.Worked.{Worked}
 use Rattle.rk_master.specs.declared.work.Worked.{Worked as Work}
 use Rattle.rk_master.specs.Parts.{behind, marks_of, tablet_of, tablets_of, worked_of}
-use Rattle.rk_master.specs.Places.{Row, IsAt}
+use Rattle.rk_types.specs.Places.{IsAt}
+use Rattle.rk_master.specs.Places.{Row}
 use Rattle.rk_master.proofs.Applying.{behind_changed}
 use Rattle.rk_master.proofs.Keeping.{from_place}
 use Rattle.rk_master.proofs.Places.{at_itself}

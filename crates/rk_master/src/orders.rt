@@ -8,7 +8,7 @@ ghost use Rattle.rk_world.specs.Handovers as handovers;
 ghost use Rattle.rk_world.specs.Master.{Master, tablet_at};
 ghost use Rattle.rk_world.specs.Worked.{changed, sending};
 ghost use Rattle.rk_master.specs.Parts.{IsGrantable, tablet_in, worked_of};
-ghost use Rattle.rk_master.specs.Places.{IsAt};
+ghost use Rattle.rk_types.specs.Places.{IsAt};
 ghost use Rattle.rk_master.specs.State.{IsState, master_of};
 
 use crate::staging::append;

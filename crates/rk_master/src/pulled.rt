@@ -13,7 +13,7 @@ ghost use Rattle.rk_world.specs.Pulls as pulls;
 ghost use Rattle.rk_world.specs.RoleTests.{is_receiving_at};
 ghost use Rattle.rk_world.specs.Worked.{changed};
 ghost use Rattle.rk_master.specs.Parts.{worked_of};
-ghost use Rattle.rk_master.specs.Places.{IsAt};
+ghost use Rattle.rk_types.specs.Places.{IsAt};
 ghost use Rattle.rk_master.specs.Pulls.{CanClose, DoesPull, HasLawfulItems, with_sides};
 ghost use Rattle.rk_master.specs.State.{IsState, master_of};
 

@@ -7,7 +7,7 @@ ghost use Rattle.rk_table.specs.Sorted.{items_of as records_of};
 ghost use Rattle.rk_world.specs.Material.{as_entries};
 ghost use Rattle.rk_world.specs.Pulls as pulls;
 ghost use Rattle.rk_master.specs.Parts.{worked_of};
-ghost use Rattle.rk_master.specs.Places.{IsAt};
+ghost use Rattle.rk_types.specs.Places.{IsAt};
 ghost use Rattle.rk_master.specs.Pulls.{batch_answer, want_answer};
 ghost use Rattle.rk_master.specs.State.{IsState, master_of};
 

@@ -6,7 +6,7 @@ ghost use Rattle.rk_world.specs.Master.{tablet_at};
 ghost use Rattle.rk_world.specs.Rebuilds as rebuilds;
 ghost use Rattle.rk_world.specs.RoleTests.{is_gathering};
 ghost use Rattle.rk_master.specs.Parts.{tablet_in, worked_of};
-ghost use Rattle.rk_master.specs.Places.{IsAt};
+ghost use Rattle.rk_types.specs.Places.{IsAt};
 ghost use Rattle.rk_master.specs.Rebuilding.{CanBeSpelled, is_awaiting};
 ghost use Rattle.rk_master.specs.State.{IsState, master_of};
 

@@ -9,7 +9,7 @@ ghost use Rattle.rk_world.specs.Tablet.{no_tablet, with_handover, without_merged
 ghost use Rattle.rk_world.specs.Handovers.{is_above};
 ghost use Rattle.rk_world.specs.Requests.{counted_up, with_wanted};
 ghost use Rattle.rk_master.specs.Parts.{AreTablets, changing, given_up_but, served, tablet_in, tablet_of, tablets_of};
-ghost use Rattle.rk_master.specs.Places.{IsAt, IsBetween};
+ghost use Rattle.rk_types.specs.Places.{IsAt, IsBetween};
 
 use crate::tablet_lane::TabletLane;
 use rk_transfer::{Handover, Role};

@@ -8,7 +8,8 @@ ghost use Rattle.rk_world.specs.Ranges.{has_key as has_key_lem};
 ghost use Rattle.rk_world.specs.Master.{touches as touches_lem};
 ghost use Rattle.rk_world.specs.Waiting as waiting;
 ghost use Rattle.rk_master.specs.Parts.{tablet_of};
-ghost use Rattle.rk_master.specs.Places.{IsAt, Row};
+ghost use Rattle.rk_types.specs.Places.{IsAt};
+ghost use Rattle.rk_master.specs.Places.{Row};
 ghost use Rattle.rk_master.specs.State.{IsState, master_of};
 
 use crate::staging::append;

@@ -1,3 +1,4 @@
 pub mod Examples
 pub mod NumberMaps
+pub mod Places
 pub mod Trees

@@ -11,7 +11,7 @@ use Rattle.std.specs.Cmp.{nat_cmp_is, ranked}
 use Rattle.std.specs.FinMap.Entries.{below_all}
 use Rattle.rk_types.specs.NumberMap.{NumberMap, IsInOrder, get, insert}
 use Rattle.rk_types.proofs.NumberMaps.{get_insert, in_order_insert, same_map}
-use Rattle.rk_ledger.specs.Places.{IsAt, IsBetween}
+use Rattle.rk_types.specs.Places.{IsAt, IsBetween}
 
 -- the first of two facts that a test joins
 pub first : (a b : Bool) → T (a && b) → T a

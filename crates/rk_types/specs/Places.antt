@@ -1,4 +1,4 @@
--- Where a client stands among clients that are kept by rising number.
+-- Where a number stands in a map by rising number.
 use Rattle.std.specs.Prelude.{◌≡◌, ℕ, ◌<◌, ◌≤◌, List, length, slice_index_or}
 use Rattle.rk_types.specs.NumberMap.{NumberMap}
 

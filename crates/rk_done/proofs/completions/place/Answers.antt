@@ -1,6 +1,6 @@
 use Rattle.std.proofs.Common.{rules}
 use Rattle.std.proofs.lemmas.List.Sorted.{answers_always}
-use Rattle.rk_done.proofs.Places.{found_place}
+use Rattle.rk_types.proofs.Places.{found_place}
 use Rattle.rk_done.proofs.completions.place.Goals as goal
 
 -- the closure gives an entry's client

@@ -2,9 +2,9 @@ use Rattle.std.proofs.Common.{Bool, cond, List, Err, Ok, sym, ap, ◌∙◌, sub
 use Rattle.rk_types.specs.NumberMap.{IsInOrder, NumberMap}
 use Rattle.rk_ledger.specs.declared.asked.Asked.{Asked}
 use Rattle.rk_ledger.specs.Clients.{asked_here, with_added}
-use Rattle.rk_ledger.specs.Places.{IsAt, IsBetween}
+use Rattle.rk_types.specs.Places.{IsAt, IsBetween}
 use Rattle.rk_ledger.proofs.Entries.{added_put, same_added}
-use Rattle.rk_ledger.proofs.Places.{get_between, insert_between, is_there, order_between}
+use Rattle.rk_types.proofs.Places.{get_between, insert_between, is_there, order_between}
 use Rattle.rk_ledger.proofs.clients.add_to.Goals as goal
 
 pub returns : goal.returns

@@ -1,6 +1,6 @@
 use Rattle.std.proofs.Common.{sym, ◌∙◌}
 use Rattle.rk_ledger.proofs.Entries.{same_added}
-use Rattle.rk_ledger.proofs.Places.{is_there}
+use Rattle.rk_types.proofs.Places.{is_there}
 use Rattle.rk_ledger.proofs.clients.is_among.Goals as goal
 
 pub returns : goal.returns

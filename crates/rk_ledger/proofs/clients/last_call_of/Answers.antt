@@ -1,7 +1,7 @@
 use Rattle.std.proofs.Common.{Option, sym, ap, ◌∙◌}
 use Rattle.rk_ledger.specs.declared.asked.Asked.{Asked}
 use Rattle.rk_ledger.proofs.Entries.{last_call_in, last_call_is}
-use Rattle.rk_ledger.proofs.Places.{get_at, get_between}
+use Rattle.rk_types.proofs.Places.{get_at, get_between}
 use Rattle.rk_ledger.proofs.clients.last_call_of.Goals as goal
 
 pub returns-in-Ok : goal.returns-in-Ok

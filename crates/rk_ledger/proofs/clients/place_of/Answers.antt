@@ -1,6 +1,6 @@
 use Rattle.std.proofs.Common.{sym, ◌∙◌}
 use Rattle.rk_ledger.proofs.Entries.{same_added}
-use Rattle.rk_ledger.proofs.Places.{is_found}
+use Rattle.rk_types.proofs.Places.{is_found}
 use Rattle.rk_ledger.proofs.clients.place_of.Goals as goal
 
 pub unwrap-requires : goal.unwrap-requires

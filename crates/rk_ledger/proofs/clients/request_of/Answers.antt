@@ -1,6 +1,6 @@
 use Rattle.std.proofs.Common.{sym, ap, ◌∙◌}
 use Rattle.rk_ledger.proofs.Entries.{get_request, request_in}
-use Rattle.rk_ledger.proofs.Places.{get_at, get_between}
+use Rattle.rk_types.proofs.Places.{get_at, get_between}
 use Rattle.rk_ledger.proofs.clients.request_of.Goals as goal
 
 pub returns-in-Ok : goal.returns-in-Ok

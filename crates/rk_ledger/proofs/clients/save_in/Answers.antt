@@ -1,7 +1,7 @@
 use Rattle.std.proofs.Common.{sym, ap, ◌∙◌}
 use Rattle.rk_ledger.specs.Clients.{asked_here}
 use Rattle.rk_ledger.proofs.Entries.{request_put}
-use Rattle.rk_ledger.proofs.Places.{get_at, insert_at_place, order_at}
+use Rattle.rk_types.proofs.Places.{get_at, insert_at_place, order_at}
 use Rattle.rk_ledger.proofs.clients.save_in.Goals as goal
 
 pub returns : goal.returns

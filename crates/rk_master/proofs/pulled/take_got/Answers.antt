@@ -4,7 +4,8 @@ use Rattle.rk_world.specs.RoleTests.{is_receiving_at}
 use Rattle.rk_world.specs.Tablet.{Tablet, no_tablet}
 use Rattle.rk_priority.specs.Hashes.{is_batch}
 use Rattle.rk_master.specs.Parts.{tablet_of}
-use Rattle.rk_master.specs.Places.{IsAt, Row}
+use Rattle.rk_types.specs.Places.{IsAt}
+use Rattle.rk_master.specs.Places.{Row}
 use Rattle.rk_master.specs.State.{master_of}
 use Rattle.rk_master.proofs.Handovers.{none_lent, tablet_read, worked_quietly}
 use Rattle.rk_master.proofs.Receiving.{got_failed}

@@ -1,7 +1,8 @@
 use Rattle.std.proofs.Common.{List, refl, subst, ◌∙◌}
 use Rattle.rk_world.specs.Master.{Master}
 use Rattle.rk_world.specs.Tablet.{no_tablet}
-use Rattle.rk_master.specs.Places.{IsAt, Row}
+use Rattle.rk_types.specs.Places.{IsAt}
+use Rattle.rk_master.specs.Places.{Row}
 use Rattle.rk_master.specs.State.{master_of}
 use Rattle.rk_master.proofs.Answering.{pull_ignored}
 use Rattle.rk_master.proofs.Handovers.{none_lent, worked_quietly}

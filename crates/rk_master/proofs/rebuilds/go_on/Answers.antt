@@ -7,7 +7,8 @@ use Rattle.rk_world.specs.Tablet.{Tablet, no_tablet}
 use Rattle.rk_world.specs.Worked.{Worked}
 use Rattle.rk_master.specs.declared.work.Worked.{Worked as Work}
 use Rattle.rk_master.specs.Parts.{tablet_of, worked_of}
-use Rattle.rk_master.specs.Places.{IsAt, Row}
+use Rattle.rk_types.specs.Places.{IsAt}
+use Rattle.rk_master.specs.Places.{Row}
 use Rattle.rk_master.specs.Rebuilding.{CanBeSpelled}
 use Rattle.rk_master.specs.State.{master_of}
 use Rattle.rk_master.proofs.Handovers.{none_lent, tablet_read, worked_quietly}

@@ -7,7 +7,8 @@ use Rattle.rk_world.specs.Ranges.{range_below, range_from}
 use Rattle.rk_world.specs.Splits.{with_half}
 use Rattle.rk_world.specs.Tablet.{Tablet, no_tablet, with_handover, without_merged}
 use Rattle.rk_master.specs.Parts.{IsClosable, tablet_in, tablet_of, tablets_of}
-use Rattle.rk_master.specs.Places.{IsAt, Row}
+use Rattle.rk_types.specs.Places.{IsAt}
+use Rattle.rk_master.specs.Places.{Row}
 use Rattle.rk_master.specs.State.{master_of}
 use Rattle.rk_master.proofs.Closable.{closable_else}
 use Rattle.rk_master.proofs.Halves.{nothing_parts, parts_some, split_is}

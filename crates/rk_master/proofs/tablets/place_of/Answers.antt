@@ -1,4 +1,4 @@
-use Rattle.rk_master.proofs.Places.{is_found}
+use Rattle.rk_types.proofs.Places.{is_found}
 use Rattle.rk_master.proofs.tablets.place_of.Goals as goal
 
 pub unwrap-requires : goal.unwrap-requires

@@ -4,7 +4,8 @@ use Rattle.rk_transfer.specs.declared.handover.Handover.{Handover}
 use Rattle.rk_world.specs.Tablet.{Tablet, with_handover}
 use Rattle.rk_master.specs.declared.tablet_lane.TabletLane.{TabletLane}
 use Rattle.rk_master.specs.Parts.{served, tablet_of, tablets_of}
-use Rattle.rk_master.specs.Places.{Row, IsAt, IsBetween}
+use Rattle.rk_types.specs.Places.{IsAt, IsBetween}
+use Rattle.rk_master.specs.Places.{Row}
 use Rattle.rk_master.proofs.Closable.{lawful_read}
 use Rattle.rk_master.proofs.Places.{changed_so, none_there}
 use Rattle.rk_master.proofs.tablets.serve.Goals as goal

@@ -1,4 +1,4 @@
-use Rattle.rk_done.proofs.Places.{get_at, get_between}
+use Rattle.rk_types.proofs.Places.{get_at, get_between}
 use Rattle.rk_done.proofs.completions.Completions.look.Goals as goal
 
 -- the client's last completion stands at its place

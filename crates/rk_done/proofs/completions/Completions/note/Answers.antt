@@ -3,7 +3,8 @@ use Rattle.std.proofs.lemmas.Bool.{lt-ltb, le-ltb}
 use Rattle.rk_types.specs.NumberMap.{IsInOrder, get, insert}
 use Rattle.rk_types.proofs.NumberMaps.{in_order_insert}
 use Rattle.rk_done.specs.Completions.{is_later}
-use Rattle.rk_done.proofs.Places.{get_at, get_between, insert_at_place, insert_between, noted_later, noted_older}
+use Rattle.rk_types.proofs.Places.{get_at, get_between, insert_at_place, insert_between}
+use Rattle.rk_done.proofs.Noted.{noted_later, noted_older}
 use Rattle.rk_done.proofs.completions.Completions.note.Goals as goal
 
 -- the list with the completion at the client's place changed is the map with the completion
