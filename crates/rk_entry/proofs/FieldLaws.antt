@@ -24,7 +24,7 @@ use Rattle.rk_entry.specs.declared.entry.Carried.{Carried}
 use Rattle.rk_entry.specs.declared.entry.Joined.{Joined}
 use Rattle.rk_entry.specs.declared.kind.Kind.{Kind}
 use Rattle.rk_entry.specs.declared.kind.Kind.TheVariants as kinds
-use Rattle.rk_entry.specs.declared.kind.TheConstants.{TOMBSTONE_BYTES, OBJECT_BYTES, MARK_BYTES, REFUSED_BYTES, CARRIED_BYTES, END_BYTES, JOINED_BYTES, SEGMENT_NUMBER_BYTES, LONGEST_BODY}
+use Rattle.rk_entry.specs.declared.kind.TheConstants.{TOMBSTONE_BYTES, OBJECT_BYTES, MARK_BYTES, REFUSED_BYTES, CARRIED_BYTES, END_BYTES, JOINED_BYTES, SEGMENT_NUMBER_BYTES, LONGEST_BODY, MOST_ENDS}
 use Rattle.rk_entry.specs.declared.lists.TheConstants.{FIRST_SIDE_SEGMENT}
 use Rattle.rk_entry.specs.Numbers.{number_bytes, IsNumber, read_number, read_from}
 use Rattle.rk_entry.specs.Texts.{key_bytes, value_bytes, read_key_length, read_key, read_value_length, read_value}
@@ -119,6 +119,30 @@ known count body e =
     same : (m n : ℕ) → not (eqb m n) ≡ false → m ≡ n
     same m n e = grind (arith, nat_tests)
 
+-- the body of an item without a value has the bytes of its parts
+tombstone_body : (body key key_len : ℕ) → body ≡ TOMBSTONE_BYTES + key → key_len ≡ key → body ≡ TOMBSTONE_BYTES + key_len + 0 + 0
+tombstone_body body key key_len b k = omega arith
+
+-- so has that of a refusal
+refused_body : (body key key_len : ℕ) → body ≡ REFUSED_BYTES + key → key_len ≡ key → body ≡ REFUSED_BYTES + key_len + 0
+refused_body body key key_len b k = omega arith
+
+-- so has that of ends that came with a tablet
+carried_body : (body count ends_len : ℕ) → body ≡ CARRIED_BYTES + END_BYTES * count → ends_len ≡ count → body ≡ CARRIED_BYTES + END_BYTES * ends_len + 0
+carried_body body count ends_len b n = omega arith
+
+-- ends with a count of two bytes are not too many
+ends_few : (count ends_len : ℕ) → count < 256 ^ 2 → ends_len ≡ count → ends_len ≤ MOST_ENDS
+ends_few count ends_len fits n = omega arith
+
+-- the body of side segments has the bytes of its parts
+joined_body : (body count segments_len : ℕ) → body ≡ JOINED_BYTES + SEGMENT_NUMBER_BYTES * count → segments_len ≡ count → body ≡ JOINED_BYTES + SEGMENT_NUMBER_BYTES * segments_len + 0
+joined_body body count segments_len b n = omega arith
+
+-- side segments of a body that is not too long are not too many
+segments_few : (body count segments_len : ℕ) → body ≤ LONGEST_BODY → body ≡ JOINED_BYTES + SEGMENT_NUMBER_BYTES * count → segments_len ≡ count → JOINED_BYTES + SEGMENT_NUMBER_BYTES * segments_len ≤ LONGEST_BODY
+segments_few body count segments_len within b n = omega arith
+
 -- an item without a value that is read is lawful and spelled so
 pub tombstone_takes : (body : ℕ) (bytes : List ℕ) (x : Entry × List ℕ) → read_tombstone body bytes ≡ Ok x → Takes bytes (fields_bytes x.0) x.1 (IsOf kinds.Tombstone body x.0)
 unfolding read_tombstone held_bytes key_bytes
@@ -141,7 +165,7 @@ tombstone_takes body bytes x e =
     record {
       lawful = record { table = h.0.table; version = h.0.version; client = h.0.client; seq = h.0.seq; key = h.1.1.1; value = tt };
       kind_is = refl;
-      body_is = omega (arith, g.0, len);
+      body_is = tombstone_body body b.0.0 (length d.0.0) g.0 len;
     }) all))
 
 -- the kind of an item with a value
@@ -225,7 +249,7 @@ refused_takes body bytes x e =
     record {
       lawful = record { table = h.0.table; found = h.0.version; client = h.0.client; seq = h.0.seq; none_found = h.1.0; key = h.1.1.1.1 };
       kind_is = refl;
-      body_is = omega (arith, g.0, len);
+      body_is = refused_body body b.0.0 (length d.0.0) g.0 len;
     }) all))
 
 -- ends that came with a tablet and are read are lawful and spelled so
@@ -254,9 +278,9 @@ carried_takes body bytes x e =
     (subst (λ (t : List ℕ). Takes bytes t d.0.1 (IsOf kinds.Carried body (entries.Carried carried))) text
     (takes_weaker (λ (h : IsLawfulRange a.0.0 × (IsNumber w64 1 t.0.0 × (IsNumber w64 1 f.0.0 × ((b.0.0 < 256 ^ 2) × (AllByRecursion IsLawfulEnd ends.more × RiseAbove 0 ends.more))))).
     record {
-      lawful = record { range = h.0; term = h.1.0; floor = h.1.1.0; few = omega (arith, len, h.1.1.1.0); each = h.1.1.1.1.0; rising = h.1.1.1.1.1 };
+      lawful = record { range = h.0; term = h.1.0; floor = h.1.1.0; few = ends_few b.0.0 (length ends.more) h.1.1.1.0 len; each = h.1.1.1.1.0; rising = h.1.1.1.1.1 };
       kind_is = refl;
-      body_is = omega (arith, g.0, len);
+      body_is = carried_body body b.0.0 (length ends.more) g.0 len;
     }) all))
 
 -- side segments that became part of the log and are read are lawful and spelled so
@@ -285,9 +309,9 @@ joined_takes body bytes x within e =
     (subst (λ (t : List ℕ). Takes bytes t d.0.1 (IsOf kinds.Joined body (entries.Joined joined))) text
     (takes_weaker (λ (h : IsLawfulRange a.0.0 × (IsNumber w64 1 t.0.0 × ((b.0.0 < 256 ^ 4) × AllByRecursion (IsNumber w32 FIRST_SIDE_SEGMENT) segments.more))).
     record {
-      lawful = record { range = h.0; term = h.1.0; few = omega (arith, g.0, len, within); each = h.1.1.1; distinct = distinct };
+      lawful = record { range = h.0; term = h.1.0; few = segments_few body b.0.0 (length segments.more) within g.0 len; each = h.1.1.1; distinct = distinct };
       kind_is = refl;
-      body_is = omega (arith, g.0, len);
+      body_is = joined_body body b.0.0 (length segments.more) g.0 len;
     }) all))
 
 -- the fields of an entry of any kind
