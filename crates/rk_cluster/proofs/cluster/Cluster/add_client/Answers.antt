@@ -14,7 +14,7 @@ use Rattle.rk_cluster.specs.Steps.{MayAllAct, StepsEndWorn, state_of}
 use Rattle.rk_cluster.specs.declared.code.Code.TheVariants.{Limit, Taken}
 use Rattle.rk_world.specs.Cluster.{Joins}
 use Rattle.std.proofs.Common.{[], ◌∷◌}
-use Rattle.rk_cluster.proofs.Joining.{absent_none, all_worn, client_acts, client_free, client_full, client_taken, deeds_in, ends_in, few, many, new_acts}
+use Rattle.rk_cluster.proofs.Joining.{absent_none, all_worn, client_acts, client_free, client_full, client_taken, deeds_fit, deeds_in, ends_in, few, many, new_acts}
 use Rattle.rk_cluster.proofs.Faults.{counts_same}
 use Rattle.rk_cluster.proofs.cluster.Cluster.add_client.Goals as goal
 
@@ -32,6 +32,11 @@ returns-then-count-ge-MOST_CLIENTS-clause-err g c = (
       (many (length c.self.inside.sessions.entries) (omega (arith, c.count.ensures, c.if-count-ge-MOST_CLIENTS.true)))),
   refl,
 )
+
+pub act_all-requires-clause-may : goal.act_all-requires-clause-may
+act_all-requires-clause-may g c =
+    rw c.in_all_lanes-deeds.ensures
+    (deeds_fit c.self.inside.masters (length c.self.inside.lanes.items) (events.AddClient c.args.client) c.self.invariant.count tt (record { least_is = c.requires; fits = c.ranges.client.fits }))
 
 pub returns-in_err-act_all-clause-err : goal.returns-in_err-act_all-clause-err
 returns-in_err-act_all-clause-err g c =

@@ -1,4 +1,4 @@
-use Rattle.std.proofs.Common.{◌≡◌, ℕ, List, Some, Option, sym, ap, subst, ◌∙◌}
+use Rattle.std.proofs.Common.{◌≡◌, ℕ, List, length, Some, Option, sym, ap, subst, rules, ◌∙◌}
 use Rattle.std.proofs.lemmas.Result.{err_from_is_err_and}
 use Rattle.rk_lane.specs.LaneState.{LaneState}
 use Rattle.rk_world.specs.Cluster.{Cluster, Occurrence}
@@ -10,7 +10,7 @@ use Rattle.rk_cluster.specs.Makes.{next_tablet, table_makes, whole_table}
 use Rattle.rk_cluster.specs.State.{ClusterState}
 use Rattle.rk_cluster.specs.Steps.{state_of}
 use Rattle.rk_cluster.specs.declared.code.Code.{Code}
-use Rattle.rk_cluster.proofs.Joining.{deeds_in}
+use Rattle.rk_cluster.proofs.Joining.{deeds_fit, deeds_in}
 use Rattle.rk_cluster.proofs.Making.{carried_out, numbered_made, refused, stopped, told_of}
 use Rattle.rk_cluster.proofs.Faults.{counts_same}
 use Rattle.rk_cluster.proofs.cluster.Cluster.add_table.Goals as goal
@@ -34,6 +34,11 @@ returns-in_err-tablet-clause-err g c =
     (λ code. HasCode g.R.Replica.segments (state_of c.deref.result.now c.self.inside.sessions.entries) (code_of c.args.table c.args.master) (Some code)) c.in_err-tablet.field-0.0
     (λ code told. subst (λ (state : ClusterState g.row.R.Denot). HasCode g.R.Replica.segments state (code_of c.args.table c.args.master) (Some code)) here told)
     c.in_err-tablet.ensures.err)
+
+pub act_all-requires-clause-may : goal.act_all-requires-clause-may
+act_all-requires-clause-may g c =
+    rw c.in_all_lanes-deeds.ensures
+    (deeds_fit c.self.inside.masters (length c.self.inside.lanes.items) (event_of c.args.table c.args.master c.in_ok-tablet.tablet) c.self.invariant.count tt (search rules))
 
 pub returns-in_err-act_all-clause-err : goal.returns-in_err-act_all-clause-err
 returns-in_err-act_all-clause-err g c =

@@ -1,4 +1,4 @@
-use Rattle.std.proofs.Common.{true, sym, subst, arith}
+use Rattle.std.proofs.Common.{length, true, sym, subst, arith, rules}
 use Rattle.std.proofs.lemmas.Result.{err_from_is_err_and}
 use Rattle.rk_world.specs.declared.event.Event.TheVariants as events
 use Rattle.rk_cluster.specs.Codes.{notice_code}
@@ -6,11 +6,16 @@ use Rattle.rk_cluster.specs.Effects.{EndsIn, IsCarriedOut}
 use Rattle.rk_cluster.specs.Makes.{notice_makes}
 use Rattle.rk_cluster.specs.State.{ClusterState}
 use Rattle.rk_cluster.specs.Steps.{StepsEndWorn, state_of}
-use Rattle.rk_cluster.proofs.Joining.{deeds_in, ends_in}
+use Rattle.rk_cluster.proofs.Joining.{deeds_fit, deeds_in, ends_in}
 use Rattle.rk_cluster.proofs.Noticing.{all_act, all_stop, is_within, notice_by}
 use Rattle.rk_cluster.proofs.Worlds.{masters_at, there_read}
 use Rattle.rk_cluster.proofs.Faults.{counts_same}
 use Rattle.rk_cluster.proofs.cluster.Cluster.notice.Goals as goal
+
+pub act_all-requires-clause-may : goal.act_all-requires-clause-may
+act_all-requires-clause-may g c =
+    rw c.in_all_lanes-deeds.ensures
+    (deeds_fit c.self.inside.masters (length c.self.inside.lanes.items) (events.Notice c.args.master) c.self.invariant.count tt (search rules))
 
 pub returns-in_err-act_all-clause-err : goal.returns-in_err-act_all-clause-err
 returns-in_err-act_all-clause-err g c =

@@ -1,4 +1,4 @@
-use Rattle.std.proofs.Common.{◌≡◌, ℕ, List, None, Some, Option, sym, ap, subst, ◌∙◌}
+use Rattle.std.proofs.Common.{◌≡◌, ℕ, List, length, None, Some, Option, sym, ap, subst, rules, ◌∙◌}
 use Rattle.std.proofs.lemmas.Result.{err_from_is_err_and}
 use Rattle.rk_lane.specs.LaneState.{LaneState}
 use Rattle.rk_world.specs.Cluster.{Cluster, Occurrence}
@@ -11,7 +11,7 @@ use Rattle.rk_cluster.specs.State.{ClusterState}
 use Rattle.rk_cluster.specs.Steps.{state_of}
 use Rattle.rk_cluster.specs.Told.{LanesTell}
 use Rattle.rk_cluster.specs.declared.code.Code.{Code}
-use Rattle.rk_cluster.proofs.Joining.{deeds_in}
+use Rattle.rk_cluster.proofs.Joining.{deeds_fit, deeds_in}
 use Rattle.rk_cluster.proofs.Making.{carried_out, numbered_made, refused, stopped, told_of}
 use Rattle.rk_cluster.proofs.Faults.{counts_same}
 use Rattle.rk_cluster.proofs.cluster.Cluster.split.Goals as goal
@@ -35,6 +35,11 @@ returns-in_err-new-clause-err g c =
     (λ code. LanesTell g.R.Replica.segments c.deref.result.now (code_of c.args.tablet c.args.at) (Some code)) c.in_err-new.field-0.0
     (λ code told. subst (λ (state : ClusterState g.row.R.Denot). HasCode g.R.Replica.segments state (code_of c.args.tablet c.args.at) (Some code)) here (told now))
     c.in_err-new.ensures.err)
+
+pub act_all-requires-clause-may : goal.act_all-requires-clause-may
+act_all-requires-clause-may g c =
+    rw c.in_all_lanes-deeds.ensures
+    (deeds_fit c.self.inside.masters (length c.self.inside.lanes.items) (event_of c.args.tablet c.args.at c.in_ok-new.new) c.self.invariant.count tt (search rules))
 
 pub returns-in_err-act_all-clause-err : goal.returns-in_err-act_all-clause-err
 returns-in_err-act_all-clause-err g c =
