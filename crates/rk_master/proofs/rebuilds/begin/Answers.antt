@@ -8,7 +8,7 @@ use Rattle.rk_world.specs.Gather.{gather_begun}
 use Rattle.rk_world.specs.Master.{Master}
 use Rattle.rk_world.specs.RoleTests.{is_gathering}
 use Rattle.rk_world.specs.Tablet.{Tablet}
-use Rattle.rk_master.specs.Parts.{changing, given_up_but, tablet_in, tablets_of}
+use Rattle.rk_master.specs.Parts.{AreTablets, changing, given_up_but, tablet_in, tablets_of}
 use Rattle.rk_master.specs.Places.{Row}
 use Rattle.rk_master.specs.Rebuilding.{with_gather}
 use Rattle.rk_master.specs.State.{master_of}
@@ -53,3 +53,15 @@ returns-clause-ok c =
     c.as_mut_slice-2.ensures.value in
     begun_so master first (tablets_of given) (tablets_of c.hand.new.tablets.items) _ c.args.rebuild.now c.args.before
     handover c.in_ok-gather.gather c.begin_from-from.ensures.ok kept c.requires.before (from ∙ moved) others order c.in_ok-hand.ensures.ok gather gathers
+
+pub returns-clause-state : goal.returns-clause-state
+returns-clause-state c =
+    let state = c.begin_from-from.ensures.state in
+    let gathered_rows = with_items_is c.hand.new.tablets c.begin_gather.new.tablets (c.begin_gather.auto.tablets ∙ c.as_mut_slice-2.ensures.len) in
+    record {
+      within = state.within;
+      kept = state.kept;
+      backups = state.backups;
+      sides = state.sides;
+      tablets = subst AreTablets (sym gathered_rows) c.begin_gather.ensures.tablets;
+    }
