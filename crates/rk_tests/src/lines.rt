@@ -1,4 +1,5 @@
 use crate::comparing::same;
+use crate::items::{Told, outcome_of};
 use rk_lines::{push_history, push_record, push_records, push_refused, push_said, push_tablet};
 use rk_model::Line;
 use rk_tablet_map::Phase;
@@ -21,15 +22,28 @@ fn rebuilding(alloc: Global, master: u8, to: u8) -> Result<Phase, Fail> {
     Ok(Phase::Rebuilding { lineage, to })
 }
 
-fn held(alloc: Global, text: &str, version: u64, value: Option<Value>) -> Result<Held, TextError> {
+fn held(alloc: Global, name: &str, version: u64, text: Option<&str>) -> Result<Held, TextError> {
+    let value = match text {
+        Some(text) => Some(value(alloc, text)?),
+        None => None,
+    };
     Ok(Held {
         table: 1,
         version,
         client: 1,
         seq: 1,
-        key: key(alloc, text)?,
+        key: key(alloc, name)?,
         value,
     })
+}
+
+// Items with these keys, versions and values, of which the last is a tombstone.
+fn items(alloc: Global) -> Result<Vec<Held>, Fail> {
+    let mut items = Vec::new(alloc);
+    for (key, version, text) in [("b", 12, Some("x")), ("ab", 2, Some("")), ("c", 3, None)] {
+        items.push(held(alloc, key, version, text)?)?;
+    }
+    Ok(items)
 }
 
 fn line(alloc: Global, stamp: u64, op: Op, outcome: Outcome) -> Result<Line, TextError> {
@@ -51,26 +65,49 @@ fn line(alloc: Global, stamp: u64, op: Op, outcome: Outcome) -> Result<Line, Tex
     })
 }
 
-// Ends the test where an answer is not told so. Each row is a call, since a table of rows that may fail is dropped at each of them.
-fn check_said<A: Abort>(rt: &A, alloc: Global, said: &Said, wanted: &str) -> Result<(), Fail> {
+// Ends the test where an answer is not told so.
+fn check_said<A: Abort>(rt: &A, alloc: Global, said: Said, wanted: &str) -> Result<(), Fail> {
     let mut text = Vec::new(alloc);
-    push_said(&mut text, said)?;
+    push_said(&mut text, &said)?;
     same(rt, &text.as_slice(), &wanted.as_bytes());
+    Ok(())
+}
+
+// Ends the test where a reply with this outcome is not told so.
+fn check_reply<A: Abort>(
+    rt: &A,
+    alloc: Global,
+    client: u32,
+    told: Told,
+    wanted: &str,
+) -> Result<(), Fail> {
+    let outcome = outcome_of(alloc, told)?;
+    check_said(rt, alloc, Said::Reply(client, 2, outcome), wanted)
+}
+
+#[test]
+fn tells_outcomes(rt: HostRuntime) -> Result<(), Fail> {
+    let rows = [
+        (1, Told::Found(1, b"x"), "reply 1 2 found 1 x\n"),
+        (1, Told::Found(1, b""), "reply 1 2 found 1\n"),
+        (
+            4_294_967_295,
+            Told::Mismatch(0),
+            "reply 4294967295 2 mismatch 0\n",
+        ),
+    ];
+    for (client, told, wanted) in rows {
+        check_reply(&rt, rt.alloc(), client, told, wanted)?;
+    }
     Ok(())
 }
 
 #[test]
 fn tells_answers(rt: HostRuntime) -> Result<(), Fail> {
     let alloc = rt.alloc();
-    let found = Said::Reply(1, 2, Outcome::Found(1, value(alloc, "x")?));
-    check_said(&rt, alloc, &found, "reply 1 2 found 1 x\n")?;
-    let nothing = Said::Reply(1, 2, Outcome::Found(1, value(alloc, "")?));
-    check_said(&rt, alloc, &nothing, "reply 1 2 found 1\n")?;
-    let mismatch = Said::Reply(4_294_967_295, 2, Outcome::Mismatch(0));
-    check_said(&rt, alloc, &mismatch, "reply 4294967295 2 mismatch 0\n")?;
-    check_said(&rt, alloc, &Said::Moved(1, 2, 16), "again 1 2 moved 16\n")?;
+    check_said(&rt, alloc, Said::Moved(1, 2, 16), "again 1 2 moved 16\n")?;
     let early = Said::NotYet(1, 2, key(alloc, "a")?);
-    check_said(&rt, alloc, &early, "again 1 2 notyet a\n")
+    check_said(&rt, alloc, early, "again 1 2 notyet a\n")
 }
 
 // Each tablet is that of the first phase in all lanes but lane 5, where it is that of the second.
@@ -113,29 +150,17 @@ fn tells_where_tablets_are(rt: HostRuntime) -> Result<(), Fail> {
     )
 }
 
+// A tombstone has no line.
 #[test]
 fn tells_records_by_key(rt: HostRuntime) -> Result<(), Fail> {
-    let alloc = rt.alloc();
-    let mut items = Vec::new(alloc);
-    items.push(held(alloc, "b", 12, Some(value(alloc, "x")?))?)?;
-    items.push(held(alloc, "ab", 2, Some(value(alloc, "")?))?)?;
-    items.push(held(alloc, "c", 3, None)?)?;
-    let mut text = Vec::new(alloc);
+    let items = items(rt.alloc())?;
+    let mut text = Vec::new(rt.alloc());
     for item in &items {
         push_record(&mut text, item)?;
     }
-    same(
-        &rt,
-        &text.as_slice(),
-        &b"record b 12 x\nrecord ab 2\n".as_slice(),
-    );
-    text.clear();
     push_records(&mut text, items)?;
-    same(
-        &rt,
-        &text.as_slice(),
-        &b"record ab 2\nrecord b 12 x\n".as_slice(),
-    );
+    let wanted = b"record b 12 x\nrecord ab 2\nrecord ab 2\nrecord b 12 x\n";
+    same(&rt, &text.as_slice(), &wanted.as_slice());
     Ok(())
 }
 

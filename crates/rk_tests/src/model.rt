@@ -7,6 +7,16 @@ use rk_types::{Call, Key, Placed, TextError};
 use std::alloc::Global;
 use std::test::Fail;
 
+fn call_of(alloc: Global, table: u64, key: &[u8], asked: Asked) -> Result<Call, TextError> {
+    Ok(Call {
+        client: 1,
+        seq: 1,
+        table,
+        key: Key::new(alloc, key)?,
+        op: op_of(alloc, asked)?,
+    })
+}
+
 fn record(
     alloc: Global,
     table: u64,
@@ -15,13 +25,7 @@ fn record(
     told: Told,
 ) -> Result<Placed, TextError> {
     Ok(Placed {
-        call: Call {
-            client: 1,
-            seq: 1,
-            table,
-            key: Key::new(alloc, key)?,
-            op: op_of(alloc, asked)?,
-        },
+        call: call_of(alloc, table, key, asked)?,
         outcome: outcome_of(alloc, told)?,
         stamp: 1,
         accepted: true,
@@ -78,7 +82,6 @@ fn marks(alloc: Global, steps: &[Step], last: u64, asked: Asked) -> Result<[u8; 
 #[test]
 fn allows_what_the_machine_allows(rt: HostRuntime) -> Result<(), Fail> {
     let alloc = rt.alloc();
-    let put = (1, b"a", Put(b"x"), Written(1));
     let delete = (1, b"a", Delete, Deleted(2));
     let rows: [(Asked, &[u8; 9], &[u8; 9], &[u8; 9]); 5] = [
         (Get, b"--+------", b"+--------", b"--+------"),
@@ -90,56 +93,57 @@ fn allows_what_the_machine_allows(rt: HostRuntime) -> Result<(), Fail> {
     for (asked, never, live, gone) in rows {
         let found = [
             marks(alloc, &[], 0, asked)?,
-            marks(alloc, &[put], 1, asked)?,
-            marks(alloc, &[put, delete], 2, asked)?,
+            marks(alloc, &[PUT], 1, asked)?,
+            marks(alloc, &[PUT, delete], 2, asked)?,
         ];
         same(&rt, &found, &[*never, *live, *gone]);
     }
     Ok(())
 }
 
-// The first wrong place of histories over several keys and tables.
+const PUT: Step = (1, b"a", Put(b"x"), Written(1));
+
+// Histories over several keys and tables, and the first wrong place of each.
+const HISTORIES: &[(&[Step], Option<u64>)] = &[
+    (&[], None),
+    (&[PUT, (1, b"a", Get, Found(1, b"y"))], Some(1)),
+    (
+        &[
+            (1, b"a", Get, Absent),
+            PUT,
+            (1, b"a", Delete, Deleted(7)),
+            (1, b"a", Put(b"y"), Written(8)),
+        ],
+        None,
+    ),
+    (
+        &[
+            PUT,
+            (2, b"a", Get, Absent),
+            (2, b"a", Put(b"y"), Written(1)),
+            (1, b"a", Get, Found(1, b"x")),
+        ],
+        None,
+    ),
+    (
+        &[
+            PUT,
+            (1, b"b", Put(b"y"), Written(1)),
+            (1, b"a", Get, Found(1, b"x")),
+        ],
+        None,
+    ),
+    (
+        &[PUT, (1, b"a", Get, Absent), (1, b"a", Delete, Absent)],
+        Some(1),
+    ),
+];
+
 #[test]
 fn finds_the_first_wrong_place(rt: HostRuntime) -> Result<(), Fail> {
-    let alloc = rt.alloc();
-    let put: Step = (1, b"a", Put(b"x"), Written(1));
-    let rows: [(&[Step], Option<u64>); 6] = [
-        (&[], None),
-        (&[put, (1, b"a", Get, Found(1, b"y"))], Some(1)),
-        (
-            &[
-                (1, b"a", Get, Absent),
-                put,
-                (1, b"a", Delete, Deleted(7)),
-                (1, b"a", Put(b"y"), Written(8)),
-            ],
-            None,
-        ),
-        (
-            &[
-                put,
-                (2, b"a", Get, Absent),
-                (2, b"a", Put(b"y"), Written(1)),
-                (1, b"a", Get, Found(1, b"x")),
-            ],
-            None,
-        ),
-        (
-            &[
-                put,
-                (1, b"b", Put(b"y"), Written(1)),
-                (1, b"a", Get, Found(1, b"x")),
-            ],
-            None,
-        ),
-        (
-            &[put, (1, b"a", Get, Absent), (1, b"a", Delete, Absent)],
-            Some(1),
-        ),
-    ];
-    for (steps, wanted) in rows {
-        let history = history_of(alloc, steps, None)?;
-        same(&rt, &replays(alloc, history.as_slice())?, &wanted);
+    for (steps, wanted) in HISTORIES {
+        let history = history_of(rt.alloc(), steps, None)?;
+        same(&rt, &replays(rt.alloc(), history.as_slice())?, wanted);
     }
     Ok(())
 }

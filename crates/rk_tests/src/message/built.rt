@@ -5,15 +5,13 @@ use super::frames::{
 };
 use super::read;
 use crate::comparing::same;
-use crate::items::{ends, item};
+use crate::items::{Told, ends, item, outcome_of};
 use rk_entry::Entry;
 use rk_message::{
     Append, Body, CopySegment, Got, Grant, Located, Lookup, Message, Prepare, Pull, Pulled,
     ReadSegment, Ready, Rebuild, Rebuilt, Reply, Request, Stored, Tenure, Transfer, Want,
 };
-use rk_types::{
-    Answer, End, Held, Key, Listed, Member, NoMemory, Node, Op, Outcome, Range, Token, Value,
-};
+use rk_types::{Answer, End, Held, Key, Listed, Member, NoMemory, Node, Op, Range, Token, Value};
 use std::alloc::Global;
 use std::process::Abort;
 use std::test::Fail;
@@ -85,13 +83,14 @@ fn check_reply<R: Abort + AllocGlobal>(rt: &R, frame: &[u8], answer: Answer) -> 
 
 #[test]
 fn reads_outcomes(rt: HostRuntime) -> Result<(), Fail> {
-    for (frame, outcome) in [
-        (ABSENT, Outcome::Absent),
-        (WRITTEN, Outcome::Written(4)),
-        (DELETED, Outcome::Deleted(4)),
-        (MISMATCH, Outcome::Mismatch(4)),
-        (REPLY, Outcome::Found(4, Value::new(rt.alloc(), b"v")?)),
+    for (frame, told) in [
+        (ABSENT, Told::Absent),
+        (WRITTEN, Told::Written(4)),
+        (DELETED, Told::Deleted(4)),
+        (MISMATCH, Told::Mismatch(4)),
+        (REPLY, Told::Found(4, b"v")),
     ] {
+        let outcome = outcome_of(rt.alloc(), told)?;
         check_reply(&rt, frame, Answer::Done(outcome))?;
     }
     Ok(())
@@ -138,27 +137,33 @@ fn reads_replication(rt: HostRuntime) -> Result<(), Fail> {
     check_read(&rt, APPEND, MASTER, backup, Body::Append(append))
 }
 
+// Whether the frame is read as an order of the coordinator to a master.
+fn check_order<R: Abort + AllocGlobal>(rt: &R, frame: &[u8], body: Body) -> Result<(), Fail> {
+    check_read(rt, frame, COORDINATOR, MASTER, body)
+}
+
 #[test]
 fn reads_orders(rt: HostRuntime) -> Result<(), Fail> {
     let prepare = Prepare {
         tenure: TENURE,
         range: RANGE,
     };
-    for (frame, body) in [
-        (PREPARE, Body::Prepare(prepare)),
-        (CLOSE, Body::Close(TENURE)),
-        (OWN, Body::Own(TENURE)),
-        (RELEASE, Body::Release(TENURE)),
-    ] {
-        check_read(&rt, frame, COORDINATOR, MASTER, body)?;
-    }
+    check_order(&rt, PREPARE, Body::Prepare(prepare))?;
+    check_order(&rt, CLOSE, Body::Close(TENURE))?;
+    check_order(&rt, OWN, Body::Own(TENURE))?;
+    check_order(&rt, RELEASE, Body::Release(TENURE))?;
     let grant = Grant {
         tenure: TENURE,
         source: 3,
         floor: 4,
         ends: ends(rt.alloc(), ENDS)?,
     };
-    check_read(&rt, GRANT, COORDINATOR, MASTER, Body::Grant(grant))
+    check_order(&rt, GRANT, Body::Grant(grant))
+}
+
+// Whether the frame is read as a report of a master to the coordinator.
+fn check_report<R: Abort + AllocGlobal>(rt: &R, frame: &[u8], body: Body) -> Result<(), Fail> {
+    check_read(rt, frame, MASTER, COORDINATOR, body)
 }
 
 #[test]
@@ -167,21 +172,20 @@ fn reads_reports(rt: HostRuntime) -> Result<(), Fail> {
         tenure: TENURE,
         place: 3,
     };
-    for (frame, body) in [(READY, Body::Ready(ready)), (JOINED, Body::Joined(TENURE))] {
-        check_read(&rt, frame, MASTER, COORDINATOR, body)?;
-    }
+    check_report(&rt, READY, Body::Ready(ready))?;
+    check_report(&rt, JOINED, Body::Joined(TENURE))?;
     let transfer = Transfer {
         tenure: TENURE,
         floor: 3,
         ends: ends(rt.alloc(), ENDS)?,
     };
-    check_read(&rt, TRANSFER, MASTER, COORDINATOR, Body::Transfer(transfer))?;
+    check_report(&rt, TRANSFER, Body::Transfer(transfer))?;
     let rebuilt = Rebuilt {
         tenure: TENURE,
         place: 3,
         ends: ends(rt.alloc(), ENDS)?,
     };
-    check_read(&rt, REBUILT, MASTER, COORDINATOR, Body::Rebuilt(rebuilt))
+    check_report(&rt, REBUILT, Body::Rebuilt(rebuilt))
 }
 
 // Items of the key `k` of table 1 and client 3: version, seq and value of each.
