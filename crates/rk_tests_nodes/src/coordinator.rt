@@ -116,29 +116,36 @@ fn rebuilder(lane: &CoordinatorLane) -> Option<(usize, u8)> {
     }
 }
 
+const PREPARE: Option<(Node, Kind)> = Some((Node::Master(3), Kind::Prepare));
+
+const CLOSE: Option<(Node, Kind)> = Some((Node::Master(1), Kind::Close));
+
+const GRANT: Option<(Node, Kind)> = Some((Node::Master(3), Kind::Grant));
+
+// The master, the kind and the term of a report, how many messages come of it, and the first message of the next turn.
+type Reported = (u8, Kind, u64, usize, Option<(Node, Kind)>);
+
 // Tablet 1 moves from master 1 to master 3: what others send, or at another term, or too early, is ignored.
+const MOVE: &[Reported] = &[
+    (1, Kind::Transfer, 2, 0, PREPARE),
+    (3, Kind::Ready, 1, 0, PREPARE),
+    (2, Kind::Ready, 2, 0, PREPARE),
+    (3, Kind::Ready, 2, 0, CLOSE),
+    (3, Kind::Transfer, 2, 0, CLOSE),
+    (1, Kind::Transfer, 2, 0, GRANT),
+    (3, Kind::Joined, 1, 0, GRANT),
+    (3, Kind::Joined, 2, 2, None),
+    (3, Kind::Joined, 2, 1, None),
+];
+
 #[test]
 fn a_tablet_moves(rt: HostRuntime) -> Result<(), Fail> {
     let mut lane = lane_of_three(rt.alloc())?;
     migrate(&rt, &mut lane, 1, 3)?;
-    let prepare = Some((Node::Master(3), Kind::Prepare));
-    let close = Some((Node::Master(1), Kind::Close));
-    let grant = Some((Node::Master(3), Kind::Grant));
-    let steps = [
-        (1, Kind::Transfer, 2, 0, prepare),
-        (3, Kind::Ready, 1, 0, prepare),
-        (2, Kind::Ready, 2, 0, prepare),
-        (3, Kind::Ready, 2, 0, close),
-        (3, Kind::Transfer, 2, 0, close),
-        (1, Kind::Transfer, 2, 0, grant),
-        (3, Kind::Joined, 1, 0, grant),
-        (3, Kind::Joined, 2, 2, None),
-        (3, Kind::Joined, 2, 1, None),
-    ];
-    for (master, kind, term, sends, next) in steps {
-        let (sent, _) = report(rt.alloc(), &mut lane, master, kind, term)?;
-        same(&rt, &sent, &sends);
-        same(&rt, &first_sent(&lane)?, &next);
+    for (master, kind, term, sends, next) in MOVE {
+        let (sent, _) = report(rt.alloc(), &mut lane, *master, *kind, *term)?;
+        same(&rt, &sent, sends);
+        same(&rt, &first_sent(&lane)?, next);
     }
     same(&rt, &owner(&lane), &Some((3, 5)));
     Ok(())
@@ -163,28 +170,43 @@ fn after_notice(
     Ok(lane)
 }
 
-// By whom a tablet is rebuilt once a master is noticed dead, and from how many logs.
+// How many reports came and which master is noticed dead; from how many logs the tablet is rebuilt then, and by whom.
+const CRASHES: &[(u8, u8, usize, u8)] = &[
+    (0, 1, 1, 2),
+    (0, 3, 1, 1),
+    (1, 1, 1, 2),
+    (1, 3, 1, 1),
+    (2, 1, 2, 3),
+    (2, 3, 2, 1),
+];
+
 #[test]
 fn a_crash_is_noticed(rt: HostRuntime) -> Result<(), Fail> {
-    let rows = [
-        (0, 1, 1, 2),
-        (0, 3, 1, 1),
-        (1, 1, 1, 2),
-        (1, 3, 1, 1),
-        (2, 1, 2, 3),
-        (2, 3, 2, 1),
-    ];
-    for (reports, dead, logs, to) in rows {
-        let lane = after_notice(&rt, rt.alloc(), reports, dead)?;
-        same(&rt, &rebuilder(&lane), &Some((logs, to)));
+    for (reports, dead, logs, to) in CRASHES {
+        let lane = after_notice(&rt, rt.alloc(), *reports, *dead)?;
+        same(&rt, &rebuilder(&lane), &Some((*logs, *to)));
     }
+    Ok(())
+}
+
+#[test]
+fn another_crash_is_noticed(rt: HostRuntime) -> Result<(), Fail> {
     let mut lane = after_notice(&rt, rt.alloc(), 2, 1)?;
     notice(&rt, &mut lane, 3)?;
     same(&rt, &rebuilder(&lane), &Some((2, 2)));
-    assert!(rt; lane.noticed(3) && !lane.noticed(2));
+    same(&rt, &[lane.noticed(3), lane.noticed(2)], &[true, false]);
     same(&rt, &lane.masters(), &3);
     Ok(())
 }
+
+// The master and the term of a Rebuilt, and what comes of it.
+const REBUILDS: &[(u8, u64, (usize, bool))] = &[
+    (1, 2, (0, false)),
+    (3, 2, (0, false)),
+    (2, 1, (0, false)),
+    (2, 2, (1, true)),
+    (2, 2, (1, false)),
+];
 
 // Master 2 rebuilds the tablet of master 1, which was noticed dead.
 #[test]
@@ -196,37 +218,29 @@ fn a_tablet_is_rebuilt(rt: HostRuntime) -> Result<(), Fail> {
         &first_sent(&lane)?,
         &Some((Node::Master(2), Kind::Rebuild)),
     );
-    let steps = [
-        (1, 2, (0, false)),
-        (3, 2, (0, false)),
-        (2, 1, (0, false)),
-        (2, 2, (1, true)),
-        (2, 2, (1, false)),
-    ];
-    for (master, term, came) in steps {
-        same(
-            &rt,
-            &report(rt.alloc(), &mut lane, master, Kind::Rebuilt, term)?,
-            &came,
-        );
+    for (master, term, came) in REBUILDS {
+        let found = report(rt.alloc(), &mut lane, *master, Kind::Rebuilt, *term)?;
+        same(&rt, &found, came);
     }
     same(&rt, &owner(&lane), &Some((2, 8)));
     Ok(())
 }
 
 // What refuses a move: of a tablet, to a master.
+const MOVES: &[(u32, u8, Result<(), MoveError>)] = &[
+    (9, 3, Err(MoveError::NoTablet)),
+    (1, 1, Err(MoveError::SameMaster(1))),
+    (1, 2, Err(MoveError::DeadMaster(2))),
+    (1, 3, Ok(())),
+    (1, 3, Err(MoveError::NotOwned(2))),
+];
+
 #[test]
 fn moves_are_refused(rt: HostRuntime) -> Result<(), Fail> {
     let mut lane = lane_of_three(rt.alloc())?;
     notice(&rt, &mut lane, 2)?;
-    for (tablet, to, wanted) in [
-        (9, 3, Err(MoveError::NoTablet)),
-        (1, 1, Err(MoveError::SameMaster(1))),
-        (1, 2, Err(MoveError::DeadMaster(2))),
-        (1, 3, Ok(())),
-        (1, 3, Err(MoveError::NotOwned(2))),
-    ] {
-        same(&rt, &migrate(&rt, &mut lane, tablet, to), &wanted);
+    for (tablet, to, wanted) in MOVES {
+        same(&rt, &migrate(&rt, &mut lane, *tablet, *to), wanted);
     }
     Ok(())
 }

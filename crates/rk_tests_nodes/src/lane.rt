@@ -1,5 +1,6 @@
 ghost use Rattle.std.specs.Prelude.{◌≡◌, IfOk};
 ghost use Rattle.rk_world.specs.Premises.{IsMaster, MayAct};
+ghost use Rattle.rk_lane.specs.Events.{MayComeTo};
 
 use crate::comparing::same;
 use rk_lane::Lane;
@@ -10,6 +11,7 @@ use rk_tests::items::WHOLE;
 use rk_types::{Key, Node, Op, Value, hash, lane_of};
 use rk_world::{Event, Seen, StepError, Taken};
 use std::alloc::Global;
+use std::process::Abort;
 use std::test::Fail;
 
 // A lane that has the key "a", with two masters and one backup.
@@ -42,14 +44,21 @@ impl<'a> Pair<'a> {
         Ok(pair)
     }
 
+    // An event happens. Nothing is said of what it changes: no test needs that, and each call would be proved with it.
+    fn step(&mut self, event: Event) -> Result<Seen, StepError>
+        requires { MayComeTo self.old.lane event }
+    {
+        self.lane.step(event)
+    }
+
     // The tablet and the client are added.
     fn add(&mut self) -> Result<(), StepError> {
-        self.lane.step(Event::AddTablet {
+        self.step(Event::AddTablet {
             tablet: 1,
             range: WHOLE,
             master: 1,
         })?;
-        self.lane.step(Event::AddClient(7))?;
+        self.step(Event::AddClient(7))?;
         Ok(())
     }
 
@@ -70,22 +79,22 @@ impl<'a> Pair<'a> {
     }
 
     fn deliver(&mut self, number: u64) -> Result<Seen, StepError> {
-        self.lane.step(Event::Deliver(number))
+        self.step(Event::Deliver(number))
     }
 
     fn turn(&mut self, master: u8) -> Result<Seen, StepError>
         requires { IsMaster 2 master }
     {
-        self.lane.step(Event::Turn(Node::Master(master)))
+        self.step(Event::Turn(Node::Master(master)))
     }
 
     fn coordinate(&mut self) -> Result<Seen, StepError> {
-        self.lane.step(Event::Turn(Node::Coordinator))
+        self.step(Event::Turn(Node::Coordinator))
     }
 
     // The tablet begins to move to master 2.
     fn migrate(&mut self) -> Result<Seen, StepError> {
-        self.lane.step(Event::Migrate { tablet: 1, to: 2 })
+        self.step(Event::Migrate { tablet: 1, to: 2 })
     }
 
     // The client asks where the key is, and takes the answer.
@@ -124,11 +133,11 @@ impl<'a> Pair<'a> {
         if !self.lane.lives_another(1) {
             return Err(StepError::Dead(2));
         }
-        self.lane.step(Event::Crash(1))
+        self.step(Event::Crash(1))
     }
 
     fn notice(&mut self) -> Result<Seen, StepError> {
-        self.lane.step(Event::Notice(1))
+        self.step(Event::Notice(1))
     }
 
     // Delivers each message, but for those of clients, and loses it once it came so often.
@@ -140,7 +149,7 @@ impl<'a> Pair<'a> {
             for _ in 0..often {
                 let _ = self.deliver(number);
             }
-            let _ = self.lane.step(Event::Forget(number));
+            let _ = self.step(Event::Forget(number));
         }
     }
 
@@ -160,6 +169,11 @@ impl<'a> Pair<'a> {
             Some(row) => matches!(&row.phase, Phase::Owned { master: 2, .. }),
             None => false,
         }
+    }
+
+    // How many records there are, and whether master 2 owns the tablet.
+    fn shown(&self) -> (usize, bool) {
+        (self.lane.journal().len(), self.has_moved())
     }
 }
 
@@ -194,43 +208,39 @@ fn pair_with_record<'a>(alloc: Global) -> Result<Pair<'a>, Fail> {
     Ok(pair)
 }
 
-// What was put moves to master 2 with its tablet, and what comes twice moves it no further.
-#[test]
-fn a_tablet_moves_to_another_master(rt: HostRuntime) -> Result<(), Fail> {
-    for often in [1, 2] {
-        let mut pair = pair_with_record(rt.alloc())?;
-        pair.migrate()?;
-        same(
-            &rt,
-            &(pair.lane.journal().len(), pair.has_moved()),
-            &(1, false),
-        );
-        pair.settle(often);
-        same(
-            &rt,
-            &(pair.lane.journal().len(), pair.has_moved()),
-            &(1, true),
-        );
-    }
+// Whether what was put moves to master 2 with its tablet, where each message comes so often.
+fn check_move<R: Abort + AllocGlobal>(rt: &R, often: u8) -> Result<(), Fail> {
+    let mut pair = pair_with_record(rt.alloc())?;
+    pair.migrate()?;
+    same(rt, &pair.shown(), &(1, false));
+    pair.settle(often);
+    same(rt, &pair.shown(), &(1, true));
     Ok(())
 }
 
-// Master 2 rebuilds the tablet of master 1 from what the backup stores. A dead master takes no turn.
+// What comes twice moves the tablet no further.
+#[test]
+fn a_tablet_moves_to_another_master(rt: HostRuntime) -> Result<(), Fail> {
+    check_move(&rt, 1)?;
+    check_move(&rt, 2)
+}
+
+// Whether master 2 rebuilds the tablet of master 1 from what the backup stores, where each message comes so often. A dead
+// master takes no turn.
+fn check_rebuild<R: Abort + AllocGlobal>(rt: &R, often: u8) -> Result<(), Fail> {
+    let mut pair = pair_with_record(rt.alloc())?;
+    pair.crash()?;
+    same(rt, &pair.turn(1), &Err(StepError::Dead(1)));
+    pair.notice()?;
+    pair.settle(often);
+    same(rt, &pair.shown(), &(1, true));
+    Ok(())
+}
+
 #[test]
 fn a_tablet_is_rebuilt_after_a_crash(rt: HostRuntime) -> Result<(), Fail> {
-    for often in [1, 2] {
-        let mut pair = pair_with_record(rt.alloc())?;
-        pair.crash()?;
-        same(&rt, &pair.turn(1), &Err(StepError::Dead(1)));
-        pair.notice()?;
-        pair.settle(often);
-        same(
-            &rt,
-            &(pair.lane.journal().len(), pair.has_moved()),
-            &(1, true),
-        );
-    }
-    Ok(())
+    check_rebuild(&rt, 1)?;
+    check_rebuild(&rt, 2)
 }
 
 // Each refusal has its cause, and leaves the wire and the greatest number as they were.

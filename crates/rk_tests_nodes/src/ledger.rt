@@ -7,20 +7,21 @@ use rk_world::{LastCall, Mark, Served};
 use std::alloc::Global;
 use std::test::Fail;
 
-// A call of client 1 that found nothing.
-fn served(alloc: Global, seq: u64, asked: Asked) -> Result<Vec<Served>, Fail> {
+// A call of client 1 with its outcome.
+fn served(alloc: Global, seq: u64, asked: Asked, told: Told) -> Result<Vec<Served>, Fail> {
     let mut served = Vec::new(alloc);
     served.push(Served {
         call: call(alloc, seq, asked)?,
-        outcome: Outcome::Absent,
+        outcome: outcome_of(alloc, told)?,
     })?;
     Ok(served)
 }
 
-// Such calls were served, one after the other.
+// Calls that found nothing were served, one after the other.
 fn serve(lane: &mut LedgerLane, alloc: Global, calls: &[(u64, Asked)]) -> Result<(), Fail> {
     for (seq, asked) in calls {
-        lane.serve(9, served(alloc, *seq, *asked)?.as_slice())?;
+        let served = served(alloc, *seq, *asked, Told::Absent)?;
+        lane.serve(9, served.as_slice())?;
     }
     Ok(())
 }
@@ -105,7 +106,7 @@ fn a_reply_tells_the_record(rt: HostRuntime) -> Result<(), Fail> {
     serve(&mut lane, rt.alloc(), &calls)?;
     same(&rt, &shown(&lane), &(3, 12, 0));
     same(&rt, &told(&lane, &[]), &Some((11, 1)));
-    let read = served(rt.alloc(), 4, Asked::Get)?;
+    let read = served(rt.alloc(), 4, Asked::Get, Told::Absent)?;
     same(&rt, &told(&lane, read.as_slice()), &Some((12, 2)));
     Ok(())
 }
@@ -199,11 +200,7 @@ fn value_bytes_are_those_of_the_journal(rt: HostRuntime) -> Result<(), Fail> {
     let calls = [(5, Asked::Put(b"abc")), (6, Asked::CondPut(1, b"de"))];
     serve(&mut lane, rt.alloc(), &calls)?;
     same(&rt, &lane.value_bytes(), &5);
-    let mut read = Vec::new(rt.alloc());
-    read.push(Served {
-        call: call(rt.alloc(), 7, Asked::Get)?,
-        outcome: outcome_of(rt.alloc(), Told::Found(1, b"wxyz"))?,
-    })?;
+    let read = served(rt.alloc(), 7, Asked::Get, Told::Found(1, b"wxyz"))?;
     lane.serve(9, read.as_slice())?;
     lane.accept(1);
     same(&rt, &lane.value_bytes(), &9);

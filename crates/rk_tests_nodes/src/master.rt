@@ -105,18 +105,31 @@ fn master_of_one(alloc: Global) -> Result<MasterLane, Fail> {
     Ok(master)
 }
 
-// A put takes 40 bytes of the log, and a refusal 36. The put comes again while it is staged.
+// The call with seq 1 of client 1, or else of client 2, is answered later.
+fn check_waits<R: Abort + AllocGlobal>(
+    rt: &R,
+    master: &mut MasterLane,
+    is_first: bool,
+    asked: Asked,
+) -> Result<(), Fail> {
+    let work = ask(master, rt.alloc(), is_first, 1, asked)?;
+    same(rt, &work.sends.len(), &0);
+    Ok(())
+}
+
+// Such a master at which a put is staged, which comes again then, and a conditional put that is refused.
+fn master_with_staged<R: Abort + AllocGlobal>(rt: &R) -> Result<MasterLane, Fail> {
+    let mut master = master_of_one(rt.alloc())?;
+    check_waits(rt, &mut master, true, Asked::Put(b"x"))?;
+    check_waits(rt, &mut master, true, Asked::Put(b"x"))?;
+    check_waits(rt, &mut master, false, Asked::CondPut(9, b"y"))?;
+    Ok(master)
+}
+
+// A put takes 40 bytes of the log, and a refusal 36.
 #[test]
 fn clients_are_told_once_the_backup_holds_their_entries(rt: HostRuntime) -> Result<(), Fail> {
-    let mut master = master_of_one(rt.alloc())?;
-    for (is_first, asked) in [
-        (true, Asked::Put(b"x")),
-        (true, Asked::Put(b"x")),
-        (false, Asked::CondPut(9, b"y")),
-    ] {
-        let work = ask(&mut master, rt.alloc(), is_first, 1, asked)?;
-        same(&rt, &work.sends.len(), &0);
-    }
+    let mut master = master_with_staged(&rt)?;
     same(
         &rt,
         &(master.staged_call(2, 1), master.staged()),
@@ -130,16 +143,20 @@ fn clients_are_told_once_the_backup_holds_their_entries(rt: HostRuntime) -> Resu
     check_told(&rt, sends.get(1..).unwrap_or(&[]), 2, 1, Told::Mismatch(1))
 }
 
-// The put comes again once it is applied, and is told again. A get is told at once.
-#[test]
-fn what_is_applied_is_told_at_once(rt: HostRuntime) -> Result<(), Fail> {
-    let mut master = master_of_one(rt.alloc())?;
-    ask(&mut master, rt.alloc(), true, 1, Asked::Put(b"x"))?;
-    told(&rt, &mut master, 40)?;
-    let again = ask(&mut master, rt.alloc(), true, 1, Asked::Put(b"x"))?;
-    check_told(&rt, again.sends.as_slice(), 1, 1, Told::Written(1))?;
-    let read = ask(&mut master, rt.alloc(), false, 2, Asked::Get)?;
-    check_told(&rt, read.sends.as_slice(), 2, 2, Told::Found(1, b"x"))
+// A client asks, and is told so at once.
+fn check_answered<R: Abort + AllocGlobal>(
+    rt: &R,
+    master: &mut MasterLane,
+    is_first: bool,
+    seq: u64,
+    asked: Asked,
+    wanted: Told,
+) -> Result<(), Fail>
+    requires { 1 ≤ seq }
+{
+    let work = ask(master, rt.alloc(), is_first, seq, asked)?;
+    let client = if is_first { 1 } else { 2 };
+    check_told(rt, work.sends.as_slice(), client, seq, wanted)
 }
 
 // Client 1 asks, and is told so once the backup holds all of the log.
@@ -149,49 +166,42 @@ fn check_ended<R: Abort + AllocGlobal>(
     seq: u64,
     asked: Asked,
     wanted: Told,
-) -> Result<(), Fail>
-    requires { 1 ≤ seq }
-{
+) -> Result<(), Fail> {
+    assert!(rt; seq > 0);
     ask(master, rt.alloc(), true, seq, asked)?;
     let length = u32::try_from(master.log_bytes()).unwrap_or(0);
     let work = told(rt, master, length)?;
     check_told(rt, work.sends.as_slice(), 1, seq, wanted)
 }
 
+// The put comes again once it is applied, and is told again. A get is told at once.
+#[test]
+fn what_is_applied_is_told_at_once(rt: HostRuntime) -> Result<(), Fail> {
+    let mut master = master_of_one(rt.alloc())?;
+    let put = Asked::Put(b"x");
+    check_ended(&rt, &mut master, 1, put, Told::Written(1))?;
+    check_answered(&rt, &mut master, true, 1, put, Told::Written(1))?;
+    let found = Told::Found(1, b"x");
+    check_answered(&rt, &mut master, false, 2, Asked::Get, found)
+}
+
 // One call after the other: a conditional put finds no record, another version, the one that was asked for, and a
 // tombstone.
+const CALLS: &[(u64, Asked, Told)] = &[
+    (1, Asked::CondPut(9, b"x"), Told::Mismatch(0)),
+    (2, Asked::Put(b"x"), Told::Written(1)),
+    (3, Asked::CondPut(9, b"y"), Told::Mismatch(1)),
+    (4, Asked::CondPut(1, b"y"), Told::Written(2)),
+    (5, Asked::Delete, Told::Deleted(3)),
+    (6, Asked::CondPut(3, b"y"), Told::Mismatch(0)),
+    (7, Asked::Delete, Told::Absent),
+];
+
 #[test]
 fn a_conditional_put_is_refused_at_another_version(rt: HostRuntime) -> Result<(), Fail> {
     let mut master = master_of_one(rt.alloc())?;
-    check_ended(
-        &rt,
-        &mut master,
-        1,
-        Asked::CondPut(9, b"x"),
-        Told::Mismatch(0),
-    )?;
-    check_ended(&rt, &mut master, 2, Asked::Put(b"x"), Told::Written(1))?;
-    check_ended(
-        &rt,
-        &mut master,
-        3,
-        Asked::CondPut(9, b"y"),
-        Told::Mismatch(1),
-    )?;
-    check_ended(
-        &rt,
-        &mut master,
-        4,
-        Asked::CondPut(1, b"y"),
-        Told::Written(2),
-    )?;
-    check_ended(&rt, &mut master, 5, Asked::Delete, Told::Deleted(3))?;
-    check_ended(
-        &rt,
-        &mut master,
-        6,
-        Asked::CondPut(3, b"y"),
-        Told::Mismatch(0),
-    )?;
-    check_ended(&rt, &mut master, 7, Asked::Delete, Told::Absent)
+    for (seq, asked, wanted) in CALLS {
+        check_ended(&rt, &mut master, *seq, *asked, *wanted)?;
+    }
+    Ok(())
 }

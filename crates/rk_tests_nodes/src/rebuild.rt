@@ -79,16 +79,28 @@ fn check_copies<R: Abort>(rt: &R, copies: &[Held], rows: &[(u64, &[u8], &[u8])])
     }
 }
 
+// Such a segment of master 1, which has the spellings of these items and then the rest.
+fn take_items<R: Abort + AllocGlobal>(
+    rt: &R,
+    gather: &mut Gather,
+    segment: u32,
+    rows: &[Row],
+    rest: &[u8],
+) -> Result<(), Fail> {
+    let mut bytes = spelled(rt, rows)?;
+    bytes.extend_from_slice(rest)?;
+    take_next(rt, gather, segment, Some(bytes.as_slice()))
+}
+
+const MAIN: &[Row] = &[(1, 1, b"z", b"x"), (1, 2, b"a", b"x"), (3, 3, b"b", b"")];
+
 // What master 1 counts from its second entry on, with the side segment that it names.
 fn gathered<R: Abort + AllocGlobal>(rt: &R) -> Result<Gather, Fail> {
     let mut gather = gather(rt.alloc(), &[(1, 1), (2, 0)])?;
-    let rows: [Row; 3] = [(1, 1, b"z", b"x"), (1, 2, b"a", b"x"), (3, 3, b"b", b"")];
-    let mut main = spelled(rt, &rows)?;
-    main.extend_from_slice(JOINED)?;
-    take_next(rt, &mut gather, 1, Some(main.as_slice()))?;
+    take_items(rt, &mut gather, 1, MAIN, JOINED)?;
     take_next(rt, &mut gather, 2, None)?;
-    let side = spelled(rt, &[(4, 1, b"c", b"y")])?;
-    take_next(rt, &mut gather, FIRST_SIDE_SEGMENT, Some(side.as_slice()))?;
+    let side: [Row; 1] = [(4, 1, b"c", b"y")];
+    take_items(rt, &mut gather, FIRST_SIDE_SEGMENT, &side, b"")?;
     Ok(gather)
 }
 
@@ -117,8 +129,7 @@ fn copies_what_the_own_log_lacks(rt: HostRuntime) -> Result<(), Fail> {
 fn gathered_from_one<R: Abort + AllocGlobal>(rt: &R) -> Result<Gather, Fail> {
     let mut gather = gather(rt.alloc(), &[(1, 0)])?;
     let rows: [Row; 2] = [(1, 2, b"a", b"x"), (2, 4, b"b", b"x")];
-    let main = spelled(rt, &rows)?;
-    take_next(rt, &mut gather, 1, Some(main.as_slice()))?;
+    take_items(rt, &mut gather, 1, &rows, b"")?;
     take_next(rt, &mut gather, 2, None)?;
     Ok(gather)
 }

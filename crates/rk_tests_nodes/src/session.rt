@@ -2,7 +2,7 @@ use crate::comparing::same;
 use rk_message::{Body, Located, Message, Reply};
 use rk_session::{AskError, MOST_REQUESTS, Session};
 use rk_tests::items::WHOLE;
-use rk_types::{Answer, Key, NoMemory, Node, Op, Outcome, TextError, hash};
+use rk_types::{Answer, Key, NoMemory, Node, Op, Outcome, TextError};
 use rk_world::Taken;
 use std::alloc::Global;
 use std::process::Abort;
@@ -64,7 +64,8 @@ fn turn(session: &mut Session) -> Shown {
 
 // The session's next call.
 fn ask(session: &mut Session, alloc: Global) -> Result<Shown, TextError> {
-    match session.ask(1, Key::new(alloc, b"a")?, Op::Get) {
+    let key = Key::new(alloc, b"a")?;
+    match session.ask(1, key, Op::Get) {
         Ok(seq) => Ok(Shown::Asked(seq)),
         Err(AskError::Busy(seq)) => Ok(Shown::Busy(seq)),
         Err(AskError::NoMemory) => Ok(Shown::NoMemory),
@@ -129,74 +130,78 @@ fn played<X: Abort>(rt: &X, alloc: Global, steps: &[(Step, Shown)]) -> Result<Se
     Ok(session)
 }
 
+// The question where the key is. Its hash was worked out apart from the code.
+const LOOKUP: Shown = Shown::Lookup(1, 0xaf63_dc4c_8601_ec8c);
+
+const ONE_CALL: &[(Step, Shown)] = &[
+    (Step::Ask, Shown::Asked(1)),
+    (Step::Turn, LOOKUP),
+    (Step::Locate(4, Some(2)), Shown::Located),
+    (Step::Turn, Shown::Request(2, 4, 1, 0)),
+    (Step::Delay(1), Shown::NotYet),
+    (Step::Turn, Shown::Request(2, 4, 1, 0)),
+    (Step::Move(1, 4), Shown::Moved(4)),
+    (Step::Turn, LOOKUP),
+    (Step::Locate(5, Some(3)), Shown::Located),
+    (Step::Turn, Shown::Request(3, 5, 1, 0)),
+    (Step::Finish(1, 9), Shown::Done),
+    (Step::Turn, Shown::Silent),
+];
+
+// The seq, the lane, the place and the stamp of the first receipt.
+fn first_receipt(session: &Session) -> Option<(u64, u8, u64, u64)> {
+    let receipt = session.receipts().first()?;
+    Some((receipt.call.seq, receipt.lane, receipt.place, receipt.stamp))
+}
+
 #[test]
 fn a_call_is_looked_up_asked_moved_asked_again_and_done(rt: HostRuntime) -> Result<(), Fail> {
-    let steps = [
-        (Step::Ask, Shown::Asked(1)),
-        (Step::Turn, Shown::Lookup(1, hash(b"a"))),
-        (Step::Locate(4, Some(2)), Shown::Located),
-        (Step::Turn, Shown::Request(2, 4, 1, 0)),
-        (Step::Delay(1), Shown::NotYet),
-        (Step::Turn, Shown::Request(2, 4, 1, 0)),
-        (Step::Move(1, 4), Shown::Moved(4)),
-        (Step::Turn, Shown::Lookup(1, hash(b"a"))),
-        (Step::Locate(5, Some(3)), Shown::Located),
-        (Step::Turn, Shown::Request(3, 5, 1, 0)),
-        (Step::Finish(1, 9), Shown::Done),
-        (Step::Turn, Shown::Silent),
-    ];
-    let session = played(&rt, rt.alloc(), &steps)?;
+    let session = played(&rt, rt.alloc(), ONE_CALL)?;
     assert!(rt; session.outstanding().is_none());
-    same(&rt, &session.seen(), &9);
-    let receipts = session.receipts();
-    let shown = receipts.first().map(|receipt| (
-        receipt.call.seq,
-        receipt.lane,
-        receipt.place,
-        receipt.stamp,
-    ));
-    same(&rt, &(receipts.len(), shown), &(1, Some((1, 4, 6, 9))));
+    same(&rt, &(session.seen(), session.receipts().len()), &(9, 1));
+    same(&rt, &first_receipt(&session), &Some((1, 4, 6, 9)));
     Ok(())
 }
 
 // The next call of the key goes to the owner that is cached, with the stamp that was seen. After so many requests, and
 // where the range has no owner, the key is looked up.
+const THREE_REQUESTS: &[(Step, Shown)] = &[
+    (Step::Ask, Shown::Asked(1)),
+    (Step::Locate(4, Some(2)), Shown::Located),
+    (Step::Finish(1, 9), Shown::Done),
+    (Step::Ask, Shown::Asked(2)),
+    (Step::Turn, Shown::Request(2, 4, 2, 9)),
+    (Step::Turn, Shown::Request(2, 4, 2, 9)),
+    (Step::Turn, Shown::Request(2, 4, 2, 9)),
+    (Step::Turn, LOOKUP),
+    (Step::Locate(4, None), Shown::Located),
+    (Step::Turn, LOOKUP),
+];
+
 #[test]
 fn after_three_requests_the_key_is_looked_up(rt: HostRuntime) -> Result<(), Fail> {
     same(&rt, &MOST_REQUESTS, &3);
-    let steps = [
-        (Step::Ask, Shown::Asked(1)),
-        (Step::Locate(4, Some(2)), Shown::Located),
-        (Step::Finish(1, 9), Shown::Done),
-        (Step::Ask, Shown::Asked(2)),
-        (Step::Turn, Shown::Request(2, 4, 2, 9)),
-        (Step::Turn, Shown::Request(2, 4, 2, 9)),
-        (Step::Turn, Shown::Request(2, 4, 2, 9)),
-        (Step::Turn, Shown::Lookup(1, hash(b"a"))),
-        (Step::Locate(4, None), Shown::Located),
-        (Step::Turn, Shown::Lookup(1, hash(b"a"))),
-    ];
-    let session = played(&rt, rt.alloc(), &steps)?;
+    let session = played(&rt, rt.alloc(), THREE_REQUESTS)?;
     let last = session.last_request().map(message_shown);
     same(&rt, &last, &Some(Shown::Request(2, 4, 2, 9)));
     Ok(())
 }
 
+const TWO_CALLS: &[(Step, Shown)] = &[
+    (Step::Finish(1, 9), Shown::Ignored),
+    (Step::Ask, Shown::Asked(1)),
+    (Step::Ask, Shown::Busy(1)),
+    (Step::Finish(1, 9), Shown::Done),
+    (Step::Finish(1, 9), Shown::Ignored),
+    (Step::Ask, Shown::Asked(2)),
+    (Step::Finish(1, 9), Shown::Ignored),
+    (Step::Move(1, 4), Shown::Ignored),
+    (Step::Finish(2, 7), Shown::Done),
+];
+
 #[test]
 fn a_second_call_waits_and_an_older_answer_is_ignored(rt: HostRuntime) -> Result<(), Fail> {
-    let steps = [
-        (Step::Finish(1, 9), Shown::Ignored),
-        (Step::Ask, Shown::Asked(1)),
-        (Step::Ask, Shown::Busy(1)),
-        (Step::Finish(1, 9), Shown::Done),
-        (Step::Finish(1, 9), Shown::Ignored),
-        (Step::Ask, Shown::Asked(2)),
-        (Step::Finish(1, 9), Shown::Ignored),
-        (Step::Move(1, 4), Shown::Ignored),
-        (Step::Finish(2, 7), Shown::Done),
-    ];
-    let session = played(&rt, rt.alloc(), &steps)?;
-    same(&rt, &session.seen(), &9);
-    same(&rt, &session.receipts().len(), &2);
+    let session = played(&rt, rt.alloc(), TWO_CALLS)?;
+    same(&rt, &(session.seen(), session.receipts().len()), &(9, 2));
     Ok(())
 }
