@@ -177,28 +177,48 @@ impl<'a> Pair<'a> {
     }
 }
 
-// The client asks where the key is, and then the owner, whose entry the backup stores before the client is told.
+// The client asks where the key is, and then the owner, which tells nothing before the backup holds its entry.
+fn check_staged<R: Abort>(rt: &R, pair: &mut Pair<'_>, session: &mut Session) -> Result<(), Fail>
+    requires { MayAct 2 session.old }
+    ensures { MayAct 2 session.new }
+{
+    let staged = pair.stage(session)?;
+    same(rt, &staged, &(Some(Taken::Located), 3, 0, 4));
+    Ok(())
+}
+
+// The message of a number is delivered: the number of the first one that comes of it, and how many records there are then.
+fn check_delivered<R: Abort>(
+    rt: &R,
+    pair: &mut Pair<'_>,
+    number: u64,
+    wanted: (u64, usize),
+) -> Result<(), Fail> {
+    let first = pair.deliver(number)?.first;
+    same(rt, &(first, pair.lane.journal().len()), &wanted);
+    Ok(())
+}
+
+// The client takes the answer.
+fn check_told<R: Abort>(rt: &R, pair: &mut Pair<'_>, session: &mut Session) -> Result<(), Fail>
+    requires { MayAct 2 session.old }
+{
+    let taken = pair.accept(6, session)?.taken;
+    same(rt, &taken, &Some(Taken::Done));
+    let counts = (pair.lane.accepted(), session.receipts().len());
+    same(rt, &counts, &(1, 1));
+    Ok(())
+}
+
+// The backup stores the entry before the client is told.
 #[test]
 fn a_put_is_told_once_the_backup_holds_it(rt: HostRuntime) -> Result<(), Fail> {
     let mut pair = Pair::new(rt.alloc())?;
     let mut session = client(rt.alloc())?;
-    let staged = pair.stage(&mut session)?;
-    same(&rt, &staged, &(Some(Taken::Located), 3, 0, 4));
-    for (number, first, records) in [(4, 5, 0), (5, 6, 1)] {
-        same(&rt, &pair.deliver(number)?.first, &first);
-        same(&rt, &pair.lane.journal().len(), &records);
-    }
-    same(
-        &rt,
-        &pair.accept(6, &mut session)?.taken,
-        &Some(Taken::Done),
-    );
-    same(
-        &rt,
-        &(pair.lane.accepted(), session.receipts().len()),
-        &(1, 1),
-    );
-    Ok(())
+    check_staged(&rt, &mut pair, &mut session)?;
+    check_delivered(&rt, &mut pair, 4, (5, 0))?;
+    check_delivered(&rt, &mut pair, 5, (6, 1))?;
+    check_told(&rt, &mut pair, &mut session)
 }
 
 // A pair in which the key was put.
