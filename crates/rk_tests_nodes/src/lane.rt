@@ -107,16 +107,15 @@ impl<'a> Pair<'a> {
         Ok(self.accept(2, session)?.taken)
     }
 
-    // The client's request comes to the owner, which sends its entry to the backup: what the client took before, the number of its
-    // request, how many messages the owner sent at once, and the number of the Append.
-    fn stage(&mut self, session: &mut Session) -> Result<(Option<Taken>, u64, u64, u64), StepError>
+    // The client's request comes to the owner, which sends its entry to the backup: the number of the request, how many
+    // messages the owner sent at once, and the number of the Append.
+    fn stage(&mut self, session: &mut Session) -> Result<(u64, u64, u64), StepError>
         requires { MayAct 2 session.old }
         ensures { MayAct 2 session.new }
     {
-        let taken = self.locate(session)?;
         let asked = self.ask(session)?.first;
         let sent = self.deliver(3)?.sent;
-        Ok((taken, asked, sent, self.turn(1)?.first))
+        Ok((asked, sent, self.turn(1)?.first))
     }
 
     // The put goes through the lane, up to the answer.
@@ -182,8 +181,10 @@ fn check_staged<R: Abort>(rt: &R, pair: &mut Pair<'_>, session: &mut Session) ->
     requires { MayAct 2 session.old }
     ensures { MayAct 2 session.new }
 {
+    let located = pair.locate(session)?;
+    same(rt, &located, &Some(Taken::Located));
     let staged = pair.stage(session)?;
-    same(rt, &staged, &(Some(Taken::Located), 3, 0, 4));
+    same(rt, &staged, &(3, 0, 4));
     Ok(())
 }
 
