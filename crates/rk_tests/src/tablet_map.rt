@@ -67,9 +67,8 @@ fn adds_tablets(rt: HostRuntime) -> Result<(), Fail> {
 // Two tablets of one table, by falling number.
 fn map_of_two(alloc: Global) -> Result<TabletMap, MapError> {
     let mut map = TabletMap::new(alloc);
-    for (tablet, first, last) in [(7, 5, 9), (2, 0, 4)] {
-        map.add(row(tablet, 1, first, last))?;
-    }
+    map.add(row(7, 1, 5, 9))?;
+    map.add(row(2, 1, 0, 4))?;
     Ok(map)
 }
 

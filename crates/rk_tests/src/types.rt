@@ -100,11 +100,6 @@ fn duplicates_records(rt: HostRuntime) -> Result<(), Fail> {
 fn duplicates_answers(rt: HostRuntime) -> Result<(), Fail> {
     let said = Said::Reply(1, 2, Outcome::Found(3, Value::new(rt.alloc(), b"x")?));
     same(&rt, &said.duplicate()?, &said);
-    Ok(())
-}
-
-#[test]
-fn duplicates_what_a_master_answers(rt: HostRuntime) -> Result<(), Fail> {
     let answer = Answer::NotYet(Key::new(rt.alloc(), b"a")?);
     same(&rt, &answer.duplicate()?, &answer);
     Ok(())
