@@ -14,12 +14,14 @@ pub mod Reached
 pub mod Numbers
 pub mod Following
 pub mod Tasks
+pub mod ExchangeTasks
 pub mod Setting
 pub mod Going
 pub mod Worn
 pub mod NoticesFirst
 pub mod Delivering
 pub mod Emptying
+pub mod Exchanging
 pub mod Duties
 pub mod Walking
 pub mod Idling
@@ -27,4 +29,9 @@ pub mod Asking
 pub mod Passing
 pub mod Resting
 pub mod Rounds
+pub mod Exchanged
+pub mod Finishing
+pub mod Hastening
+pub mod Staging
+pub mod Serving
 pub mod Settled

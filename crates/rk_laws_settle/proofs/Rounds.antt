@@ -116,7 +116,7 @@ module _ (s : Setting) where
   -- ---- a whole round
 
   -- a round begins, unless replicas have failed too often
-  begin : (rest : List Task) (before : Cluster) (course : Course) → Comes s before course → course.tasks ≡ begins ∷ rest → Goes s before course (IsAt course.cluster rest)
+  pub begin : (rest : List Task) (before : Cluster) (course : Course) → Comes s before course → course.tasks ≡ begins ∷ rest → Goes s before course (IsAt course.cluster rest)
   begin rest before course comes are =
       one_move s before course (begins ∷ rest) (IsAt course.cluster rest) comes are (λ none. go (is_at_limit course) none)
     where

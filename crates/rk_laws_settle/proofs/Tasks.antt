@@ -12,7 +12,7 @@ abbrev pub Task : Type 0
 Task = TypeOf (forgets 0 0)
 
 -- the task at a place of a list
-abbrev task_at : List Task → ℕ → Task
+abbrev pub task_at : List Task → ℕ → Task
 task_at list place = slice_index_or list place (forgets 0 0)
 
 -- the crashed masters of a lane are noticed

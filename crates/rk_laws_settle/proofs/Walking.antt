@@ -66,7 +66,7 @@ module _ (s : Setting) (lane : ℕ) (inside : lane < LANES) where
       pub risen : sends_left course.cluster < most
 
     -- a client takes its turn, if it has a session
-    asked : (client : ℕ) (rest : List Task) (before : Cluster) (course : Course) → Comes s before course → course.tasks ≡ asks lane client ∷ rest
+    pub asked : (client : ℕ) (rest : List Task) (before : Cluster) (course : Course) → Comes s before course → course.tasks ≡ asks lane client ∷ rest
         → IsSameBeside lane origin course.cluster → Goes s before course (λ next. (next.tasks ≡ rest) × IsSameBeside lane origin next.cluster)
     asked client rest before course comes are beside = go (is_client course.cluster client) refl
       where

@@ -8,7 +8,9 @@ ghost use Rattle.rk_world.specs.Premises.{MOST_MASTERS};
 ghost use Rattle.rk_play.specs.Played.{played};
 ghost use Rattle.rk_play.specs.Runs.{IsLedTo};
 ghost use Rattle.rk_laws_duties.specs.Added.{AreAdded};
-ghost use Rattle.rk_laws_settle.specs.Moves.{AllAnswered, Answers, Ends, settling};
+ghost use Rattle.rk_settle.specs.Priority.{priority};
+ghost use Rattle.rk_settle.specs.Serve.{serve};
+ghost use Rattle.rk_laws_settle.specs.Moves.{AllAnswered, AlwaysEnds, Answers, Ends, settling};
 ghost use Rattle.rk_laws_settle.specs.Scripts.{Settles};
 
 /// `settle` ends. It begins in a cluster to which a run of a new one has led, and where each client that has a session was added in each lane.
@@ -24,6 +26,17 @@ pub fn settle_ends()
         → masters ≤ MOST_MASTERS → 1 ≤ backups → backups ≤ MOST_BACKUPS → IsRun (new_cluster masters backups) before
         → let cluster = cluster_run (new_cluster masters backups) before in
         AreAdded cluster → AllAnswered answers cluster → Ends answers (settling cluster) }
+{}
+
+/// `priority` ends for each tablet, and `serve` for each client, also where the command would be refused: after finitely many moves no task is
+/// left, or the command stops, since a lane is worn or replicas have failed in too many rounds. It is so in each cluster to which a run of a
+/// new one has led, and where each client that has a session was added in each lane, whatever the calls of replicas come to, where replicas
+/// answer as they may, and what they store.
+///
+/// `AlwaysEnds` says that of a command, with the premises of `settle_ends` (Moves here).
+pub fn commands_end()
+    ensures priority { (tablet : ℕ) → AlwaysEnds (λ cluster. priority cluster tablet) }
+    ensures serve { (client : ℕ) → AlwaysEnds (λ cluster. serve cluster client) }
 {}
 
 /// `settle` ends where the run of a script has ended, whatever the script says and however its run ended: there each client that has a session
