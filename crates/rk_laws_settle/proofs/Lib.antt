@@ -34,4 +34,8 @@ pub mod Finishing
 pub mod Hastening
 pub mod Staging
 pub mod Serving
+pub mod Patient
+pub mod PatientSteps
+pub mod PatientPulls
+pub mod PatientLanes
 pub mod Settled

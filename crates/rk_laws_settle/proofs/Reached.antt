@@ -39,37 +39,37 @@ caught_stepped w event called caught = go (refusal w event)
     go None = caught_event w event called caught
     go (Some error) = caught
 
-stepped_all : (cluster : Cluster) (lane : ℕ) (answer : Result Stepped StepError) → (lane < length cluster.lanes → AllCaughtUp (world_stepped (lane_at cluster lane) answer))
-    → EachLane AllCaughtUp cluster → EachLane AllCaughtUp (cluster_stepped cluster lane answer)
-stepped_all cluster lane (Ok stepped) new each = each_lane AllCaughtUp cluster lane stepped.world new each
-stepped_all cluster lane (Err error) new each = each
+pub stepped_all : (P : World → Type 0) (cluster : Cluster) (lane : ℕ) (answer : Result Stepped StepError) → (lane < length cluster.lanes → P (world_stepped (lane_at cluster lane) answer))
+    → EachLane P cluster → EachLane P (cluster_stepped cluster lane answer)
+stepped_all P cluster lane (Ok stepped) new each = each_lane P cluster lane stepped.world new each
+stepped_all P cluster lane (Err error) new each = each
 
-visited_all : (cluster : Cluster) (lane client : ℕ) (answer : Result Visited StepError) → (lane < length cluster.lanes → AllCaughtUp (world_visited (lane_at cluster lane) answer))
-    → EachLane AllCaughtUp cluster → EachLane AllCaughtUp (cluster_visited cluster lane client answer)
-visited_all cluster lane client (Ok visited) new each = each_lane AllCaughtUp cluster lane visited.world new each
-visited_all cluster lane client (Err error) new each = each
+pub visited_all : (P : World → Type 0) (cluster : Cluster) (lane client : ℕ) (answer : Result Visited StepError) → (lane < length cluster.lanes → P (world_visited (lane_at cluster lane) answer))
+    → EachLane P cluster → EachLane P (cluster_visited cluster lane client answer)
+visited_all P cluster lane client (Ok visited) new each = each_lane P cluster lane visited.world new each
+visited_all P cluster lane client (Err error) new each = each
 
-joined_all : (P : Cluster → Type 0) (cluster : Cluster) (client : ℕ) (found : Option Session) → P cluster
+pub joined_all : (P : Cluster → Type 0) (cluster : Cluster) (client : ℕ) (found : Option Session) → P cluster
     → ((session : Session) → P (record cluster { sessions = insert cluster.sessions client session })) → P (joined_by cluster client found)
 joined_all P cluster client None now new = new (new_session client)
 joined_all P cluster client (Some session) now new = now
 
-called_all : (P : Cluster → Type 0) (cluster : Cluster) (client table : ℕ) (key : List ℕ) (op : Op) (found : Option Session) → P cluster
+pub called_all : (P : Cluster → Type 0) (cluster : Cluster) (client table : ℕ) (key : List ℕ) (op : Op) (found : Option Session) → P cluster
     → ((session : Session) → P (record cluster { sessions = insert cluster.sessions client session })) → P (called_by_client cluster client table key op found)
 called_all P cluster client table key op None now new = now
 called_all P cluster client table key op (Some session) now new = new (session_calling session table key op (busy session))
 
 caught_after : (cluster : Cluster) (occurrence : Occurrence) → EachLane AllCaughtUp cluster → EachLane AllCaughtUp (cluster_after cluster occurrence)
 caught_after cluster (Happens lane event called) each =
-    stepped_all cluster lane (step (lane_at cluster lane) event called) (λ there. caught_stepped (lane_at cluster lane) event called (each lane there)) each
+    stepped_all AllCaughtUp cluster lane (step (lane_at cluster lane) event called) (λ there. caught_stepped (lane_at cluster lane) event called (each lane there)) each
 caught_after cluster (Joins client) each = joined_all (EachLane AllCaughtUp) cluster client (get cluster.sessions client) each (λ session. each)
 caught_after cluster (Calls client table key op) each =
     called_all (EachLane AllCaughtUp) cluster client table key op (get cluster.sessions client) each (λ session. each)
 caught_after cluster (Asks lane client) each =
-    visited_all cluster lane client (ask (lane_at cluster lane) (session_at cluster client))
+    visited_all AllCaughtUp cluster lane client (ask (lane_at cluster lane) (session_at cluster client))
     (λ there. caught_asked (lane_at cluster lane) (session_at cluster client) (each lane there)) each
 caught_after cluster (Accepts lane number client) each =
-    visited_all cluster lane client (accept (lane_at cluster lane) number (session_at cluster client))
+    visited_all AllCaughtUp cluster lane client (accept (lane_at cluster lane) number (session_at cluster client))
     (λ there. caught_accepted (lane_at cluster lane) number (session_at cluster client) (each lane there)) each
 
 -- ---- sessions stand in order
