@@ -65,8 +65,8 @@ module _ (s : Setting) (lane : ℕ) (inside : lane < LANES) (rest : List Task) (
           (still_move s before course (empties lane) rest left (IsAt course.cluster left) comes are
           (record { cluster_is = refl; tasks_are = ap (λ (o : Option ℕ). empty_by lane o ++ rest) is }) (λ next at. at))
           (λ later comes_later at.
-          goes_on s before later (IsOff s lane inside number (empties lane ∷ rest) w course.cluster) IsEmptied
-          (subst (λ (cluster : Cluster). Goes s before later (IsOff s lane inside number (empties lane ∷ rest) (lane_at cluster lane) cluster)) at.cluster_is
+          goes_on s before later (IsOff s lane inside number (empties lane ∷ rest) w there.message.to course.cluster) IsEmptied
+          (subst (λ (cluster : Cluster). Goes s before later (IsOff s lane inside number (empties lane ∷ rest) (lane_at cluster lane) there.message.to cluster)) at.cluster_is
           (taking_off s lane inside number (empties lane ∷ rest) before later there.message comes_later at.tasks_are
           (subst (λ (cluster : Cluster). get (lane_at cluster lane).wire.messages number ≡ Some there.message) (sym at.cluster_is) there.found)))
           (λ last comes_last off.

@@ -1,18 +1,20 @@
 -- The tasks of exchanges, and of the commands that run them. Their type has no name here, so each is told by a list in which it stands.
-use Rattle.std.specs.Prelude.{◌≡◌, ℕ, [], ◌∷◌, ◌++◌, Some, map, refl, if◌then◌else◌}
+use Rattle.std.specs.Prelude.{◌≡◌, ℕ, Bool, true, [], ◌∷◌, ◌++◌, Some, map, refl, if◌then◌else◌}
 use Rattle.rk_types.specs.declared.call.Call.{Call}
+use Rattle.rk_types.specs.declared.node.Node.TheVariants as nodes
 use Rattle.rk_session.specs.Owners.{looks_up}
 use Rattle.rk_transfer.specs.declared.role.Role.TheVariants as roles
 use Rattle.rk_world.specs.Client.{Session}
 use Rattle.rk_world.specs.Cluster.{Cluster, lane_at}
 use Rattle.rk_world.specs.World.{World}
-use Rattle.rk_settle.specs.Advance.{advance, advance_tasks, log_round, freeze_by, reaches_to}
+use Rattle.rk_settle.specs.Advance.{advance, advance_tasks, coordinator_exchange, freeze_by, grant_task, log_round, reach_between, reaches_to, transfer_tasks}
+use Rattle.rk_settle.specs.declared.reach.Reach.TheVariants.{Begun, Frozen, Pulled}
 use Rattle.rk_settle.specs.Exchange.{hand_by, sort_tasks}
 use Rattle.rk_settle.specs.Priority.{priority}
 use Rattle.rk_settle.specs.Reaches.{is_short_of}
 use Rattle.rk_settle.specs.Serve.{ask_exchange, commit_tasks, hear_tasks, is_staged_by, request_by, serve_by, try_tasks, was_moved}
 use Rattle.rk_settle.specs.Settle.{lane_numbers}
-use Rattle.rk_settle.specs.Tasks.{asks}
+use Rattle.rk_settle.specs.Tasks.{asks, round_of, turn_exchange}
 use Rattle.rk_settle.specs.Topics.{is_on}
 use Rattle.rk_settle.specs.Unfolding.{unfolded}
 use Rattle.rk_laws_settle.proofs.Tasks.{Task, task_at}
@@ -128,3 +130,52 @@ freezing {f} same = f
 -- log exchanges run while a source closes a tablet
 abbrev pub freezes : ℕ → ℕ → ℕ → Task
 freezes = freezing (λ lane tablet source. refl)
+
+-- ---- the topics of advance
+
+abbrev preparing : {f : ℕ → Topic}
+    → ((lane tablet source target : ℕ) (opening : Bool) → reach_between lane tablet opening source target Begun ≡ coordinator_exchange lane (f tablet) ∷ []) → ℕ → Topic
+preparing {f} same = f
+
+-- a target makes ready
+abbrev pub readiness : ℕ → Topic
+readiness = preparing (λ lane tablet source target opening. refl)
+
+abbrev closing : {f : ℕ → Topic}
+    → ((lane tablet source target : ℕ) (opening : Bool) → reach_between lane tablet opening source target Frozen ≡ coordinator_exchange lane (f tablet) ∷ freezes lane tablet source ∷ [])
+    → ℕ → Topic
+closing {f} same = f
+
+-- a source is told to close
+abbrev pub close_topic : ℕ → Topic
+close_topic = closing (λ lane tablet source target opening. refl)
+
+abbrev handing : {f : ℕ → Topic} → ((lane tablet : ℕ) → transfer_tasks lane tablet true ≡ coordinator_exchange lane (f tablet) ∷ []) → ℕ → Topic
+handing {f} same = f
+
+-- a source tells what it hands over
+abbrev pub hand_topic : ℕ → Topic
+hand_topic = handing (λ lane tablet. refl)
+
+abbrev granting : {f : ℕ → Topic} → ((lane tablet : ℕ) → grant_task lane tablet ≡ coordinator_exchange lane (f tablet)) → ℕ → Topic
+granting {f} same = f
+
+-- a target is granted its tablet
+abbrev pub grant_topic : ℕ → Topic
+grant_topic = granting (λ lane tablet. refl)
+
+abbrev logging : {topic : Topic} → ((lane master : ℕ) → log_round lane master ≡ round_of (turn_exchange lane topic (nodes.Master master) ∷ [])) → Topic
+logging {topic} same = topic
+
+-- a log exchange
+abbrev pub log_topic : Topic
+log_topic = logging (λ lane master. refl)
+
+abbrev pulling : {f : ℕ → Topic}
+    → ((lane tablet source target : ℕ) (opening : Bool) → reach_between lane tablet opening source target Pulled ≡ round_of (turn_exchange lane (f tablet) (nodes.Master target) ∷ []) ++ reaches lane tablet Pulled ∷ [])
+    → ℕ → Topic
+pulling {f} same = f
+
+-- a target pulls
+abbrev pub pull_topic : ℕ → Topic
+pull_topic = pulling (λ lane tablet source target opening. refl)

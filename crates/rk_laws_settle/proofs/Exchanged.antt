@@ -31,7 +31,7 @@ Sends w node = worn w ≡ None → w.wire.sent < (world_stepped w (step w (event
 
 module _ (s : Setting) (lane : ℕ) (inside : lane < LANES) (topic : Topic) (node : Node) (rest : List Task) where
   -- a node has taken its turn in a cluster, and what it sent is to be sorted
-  turning : (before : Cluster) (course : Course) → Comes s before course → course.tasks ≡ turn_exchange lane topic node ∷ rest
+  pub turning : (before : Cluster) (course : Course) → Comes s before course → course.tasks ≡ turn_exchange lane topic node ∷ rest
       → Goes s before course (HasTurned lane node (sorts lane topic (lane_at course.cluster lane).wire.sent (lane_at course.cluster lane).wire.sent ∷ rest) course.cluster)
   turning before course comes are =
       let w : World = lane_at course.cluster lane in

@@ -27,16 +27,16 @@ use Rattle.rk_laws_settle.proofs.Setting.{Setting, eight}
 use Rattle.rk_laws_settle.proofs.Tasks.{Task, delivers}
 
 -- once a message is forgotten no more deliveries are left
-forgotten_no_more : (w : World) (number : ℕ) → deliveries_left (forgotten w number) ≤ deliveries_left w
+pub forgotten_no_more : (w : World) (number : ℕ) → deliveries_left (forgotten w number) ≤ deliveries_left w
 forgotten_no_more w number =
     omega (arith, forgotten_leaves w number, removed_most (λ (message : Message). deliveries_of message.body) w.wire.messages number)
 
 -- a message that is tested to be there is
-record IsThere (messages : NumberMap Message) (number : ℕ) : Type 0 where
-  message : Message
-  found : get messages number ≡ Some message
+pub record IsThere (messages : NumberMap Message) (number : ℕ) : Type 0 where
+  pub message : Message
+  pub found : get messages number ≡ Some message
 
-tested_there : (messages : NumberMap Message) (number : ℕ) → is_some (get messages number) ≡ true → IsThere messages number
+pub tested_there : (messages : NumberMap Message) (number : ℕ) → is_some (get messages number) ≡ true → IsThere messages number
 tested_there messages number there = go (get messages number) refl there
   where
     go : (found : Option Message) → get messages number ≡ found → is_some found ≡ true → IsThere messages number
@@ -110,8 +110,8 @@ module _ (s : Setting) (lane : ℕ) (inside : lane < LANES) where
             (still_move s before course (hands lane topic from) rest left (IsAt course.cluster left) comes are
             (record { cluster_is = refl; tasks_are = ap (λ (o : Option ℕ). hand_by w.wire lane topic o ++ rest) is }) (λ next at. at))
             (λ later comes_later at.
-            goes_on s before later (IsOff s lane inside number behind w course.cluster) (HasLeft rest)
-            (subst (λ (cluster : Cluster). Goes s before later (IsOff s lane inside number behind (lane_at cluster lane) cluster)) at.cluster_is
+            goes_on s before later (IsOff s lane inside number behind w there.message.to course.cluster) (HasLeft rest)
+            (subst (λ (cluster : Cluster). Goes s before later (IsOff s lane inside number behind (lane_at cluster lane) there.message.to cluster)) at.cluster_is
             (taking_off s lane inside number behind before later there.message comes_later at.tasks_are
             (subst (λ (cluster : Cluster). get (lane_at cluster lane).wire.messages number ≡ Some there.message) (sym at.cluster_is) there.found)))
             (λ last comes_last off.

@@ -38,4 +38,15 @@ pub mod Patient
 pub mod PatientSteps
 pub mod PatientPulls
 pub mod PatientLanes
+pub mod Pending
+pub mod Tracking
+pub mod Orders
+pub mod Effects
+pub mod Keeping
+pub mod Sending
+pub mod Ordering
+pub mod Rounding
+pub mod Migrating
+pub mod Migrated
+pub mod Joined
 pub mod Settled

@@ -27,7 +27,7 @@ abbrev pub is_in : ℕ → List ℕ → Bool
 is_in number list = list_any (λ (other : ℕ). other == number) list
 
 -- what all have, one has that stands among them
-one_of : (P : ℕ → Type 0) (list : List ℕ) (number : ℕ) → All P list → is_in number list ≡ true → P number
+pub one_of : (P : ℕ → Type 0) (list : List ℕ) (number : ℕ) → All P list → is_in number list ≡ true → P number
 one_of P [] number all there = absurd (cc there)
 one_of P (first ∷ rest) number all there = go (one_of P rest number (All-tail P first rest all)) (first == number) refl there
   where
@@ -36,7 +36,7 @@ one_of P (first ∷ rest) number all there = go (one_of P rest number (All-tail 
     go later false is in_all = later in_all
 
 -- the numbers of a range stand in it
-in_range : (start count number : ℕ) → start ≤ number → number < start + count → is_in number (range_with_len start count) ≡ true
+pub in_range : (start count number : ℕ) → start ≤ number → number < start + count → is_in number (range_with_len start count) ≡ true
 in_range start zero number first before = absurd (omega (arith, first, before))
 in_range start (suc count) number first before =
     go (λ after. in_range (start + 1) count number after (omega (arith, before))) (start == number) refl
@@ -49,7 +49,7 @@ in_range start (suc count) number first before =
         or_right (start == number) (is_in number (range_with_len (start + 1) count)) (later (omega (arith, first, apart)))
 
 -- where nothing is found all fail
-none_found : (test : ℕ → Bool) (list : List ℕ) → find test list ≡ None → All (λ number. test number ≡ false) list
+pub none_found : (test : ℕ → Bool) (list : List ℕ) → find test list ≡ None → All (λ number. test number ≡ false) list
 none_found test [] none = All-nil _
 none_found test (first ∷ rest) none = go (none_found test rest) (test first) refl none
   where

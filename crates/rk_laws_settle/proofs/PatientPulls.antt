@@ -99,7 +99,7 @@ sides_on (items ∷ sides) master all fresh =
 
 -- ---- a target that has all
 
-joins : (handover : Handover) (entry : Option ℕ) (role : Role) → handover.role ≡ role → joined handover handover.term entry ≡ in_role handover (role_joined entry role)
+pub joins : (handover : Handover) (entry : Option ℕ) (role : Role) → handover.role ≡ role → joined handover handover.term entry ≡ in_role handover (role_joined entry role)
 joins handover entry role is =
     cond-true (handover.term == handover.term) (in_role handover (role_joined entry handover.role)) None (eq-eqb handover.term handover.term refl)
     ∙ ap (λ (r : Role). in_role handover (role_joined entry r)) is
@@ -198,7 +198,7 @@ module _ (master : Master) (number : ℕ) (patient : ArePatient master) (fresh :
 
 -- ---- batches
 
-replayed_log : (master : Master) (number worker : ℕ) (items : List Held) → (replay master number worker items).log ≡ master.log
+pub replayed_log : (master : Master) (number worker : ℕ) (items : List Held) → (replay master number worker items).log ≡ master.log
 replayed_log master number worker items =
     kept_by_fold (λ (now : Master). now.log ≡ master.log) (replay_one number worker)
     (λ now item kept. go now item (is_newer item (found item.table item.key now.records)) kept) items master refl

@@ -210,7 +210,7 @@ module _ (now : Master) (number : ℕ) (tablet : Tablet) (at : tablet_at now num
   gone_on (roles.Rebuilding from entry) is = gone_calm (roles.Rebuilding from entry) is tt
 
 -- a number below that of another is another one
-below_apart : (low high : ℕ) → low < high → high ≡ low → ⊥
+pub below_apart : (low high : ℕ) → low < high → high ≡ low → ⊥
 below_apart low high below same = omega (arith, below, same)
 
 -- all tablets that are left go on, where what those that went on wait for has not come
@@ -260,7 +260,7 @@ ended_order master place (Some call) (end ∷ ends) order = in_order_changed (λ
 ended_order master place (Some call) [] order = order
 ended_order master place None ends order = order
 
-entries_order : (list : List Entry) (master : Master) → IsInOrder master.tablets → IsInOrder (apply_entries master list).master.tablets
+pub entries_order : (list : List Entry) (master : Master) → IsInOrder master.tablets → IsInOrder (apply_entries master list).master.tablets
 entries_order [] master order = order
 entries_order (entry ∷ list) master order =
     entries_order list (apply_entry master entry).master

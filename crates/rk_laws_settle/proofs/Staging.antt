@@ -35,7 +35,7 @@ use Rattle.rk_laws_settle.proofs.Reached.{reached_caught}
 use Rattle.rk_laws_settle.proofs.Setting.{IsSane, Setting, here}
 
 -- where an entry is at a place past so many, those past them are some
-past_some : (list : List Entry) (count place : ℕ) (entry : Entry) → count ≤ place → slice_get list place ≡ Some entry → drop count list ≢ []
+pub past_some : (list : List Entry) (count place : ℕ) (entry : Entry) → count ≤ place → slice_get list place ≡ Some entry → drop count list ≢ []
 past_some list count place entry behind stands none =
     omega (arith, behind, slice_get_within list place entry stands, length-drop count list, ap (λ (it : List Entry). length it) none)
 
