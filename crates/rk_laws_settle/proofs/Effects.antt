@@ -1,25 +1,22 @@
 -- What the orders of the coordinator for a migration come to: its target makes ready and says so, its source closes, or tells what it hands
 -- over, and its target takes it over.
-use Rattle.std.proofs.Common.{◌≡◌, ◌≢◌, ◌<◌, ◌≤◌, ◌==◌, ◌||◌, ◌&&◌, ℕ, Bool, true, false, cond, not, nat_lt, List, [], ◌∷◌, ◌++◌, length, map, All, Option, None, Some, refl, sym, ap, subst, ◌∙◌, append_assoc, inl, inr, ⊎_elim, arith}
+use Rattle.std.proofs.Common.{◌≡◌, ◌≢◌, ◌<◌, ◌≤◌, ◌==◌, ◌&&◌, ℕ, Bool, true, false, cond, not, nat_lt, List, [], ◌∷◌, ◌++◌, length, map, All, Option, None, Some, refl, sym, ap, subst, ◌∙◌, append_assoc, inl, inr, ⊎_elim, arith}
 use Rattle.std.specs.Prelude.{◌⊎◌, Contains, IfSome, unwrap_or}
 use Rattle.std.specs.List.{AllByRecursion, flat_map, list_all}
-use Rattle.std.specs.Option.{option_map}
 use Rattle.std.proofs.lemmas.Bool.{and_from, cases_eq, cases_lt, cond-false, cond-true, eq-eqb, eqb-true, false≢true, le-ltb, lt-ltb, ne_eqb, or_left, or_right}
 use Rattle.std.proofs.lemmas.List.Elements.{All-append, All-cons, All-contains, All-head, All-nil, All-tail}
-use Rattle.rk_types.specs.NumberMap.{IsInOrder, NumberMap, get, get_or}
+use Rattle.rk_types.specs.NumberMap.{IsInOrder, get, get_or}
 use Rattle.rk_types.specs.Range.{meets}
 use Rattle.rk_types.specs.declared.node.Node.TheVariants as nodes
 use Rattle.rk_types.specs.declared.history.Placed.{Placed}
-use Rattle.rk_types.specs.declared.range.Range.{Range}
 use Rattle.rk_message.specs.declared.handover.Grant.{Grant}
 use Rattle.rk_message.specs.declared.handover.Prepare.{Prepare}
 use Rattle.rk_message.specs.declared.handover.Ready.{Ready}
-use Rattle.rk_message.specs.declared.handover.Tenure.{Tenure}
 use Rattle.rk_message.specs.declared.handover.Transfer.{Transfer}
 use Rattle.rk_done.specs.Completions.{completions_from, ends_of}
 use Rattle.rk_message.specs.declared.message.Body.TheVariants as bodies
 use Rattle.rk_message.specs.declared.message.Message.{Message}
-use Rattle.rk_tablet_map.specs.Rows.{IsTabletMap, Precedes, changed_rows, replaced, row_of, turned}
+use Rattle.rk_tablet_map.specs.Rows.{IsTabletMap, Precedes, replaced, row_of, turned}
 use Rattle.rk_tablet_map.specs.declared.phase.Phase.{Phase}
 use Rattle.rk_tablet_map.specs.declared.phase.Phase.TheVariants.{Owned, Opening, Moving, Rebuilding}
 use Rattle.rk_tablet_map.specs.declared.row.Row.{Row}
@@ -29,16 +26,15 @@ use Rattle.rk_transfer.specs.declared.role.Role.{Role}
 use Rattle.rk_transfer.specs.declared.role.Role.TheVariants as roles
 use Rattle.rk_world.specs.Coordinator.{Coordinator, Handed, from_coordinator, is_noticed, row_tenure, with_phase}
 use Rattle.rk_world.specs.CoordinatorStep.{Coordinated, about, at_term, coordinator_step, place_noted, ready_in, report, row_moved, transfer_in, unanswered, coordinator_turn, row_duty, row_for}
-use Rattle.rk_world.specs.Handovers.{carried_entry, close_taken, closing, grant_taken, granting, is_above, is_greater, prepare_taken, preparing, ready, ready_again, tablet_closed, transfer, transferring}
+use Rattle.rk_world.specs.Handovers.{carried_entry, close_taken, closing, grant_taken, granting, is_above, prepare_taken, preparing, ready, ready_again, tablet_closed, transfer, transferring}
 use Rattle.rk_world.specs.Master.{Master, is_settled, new_master, tablet_at, with_appended, with_tablet}
-use Rattle.rk_world.specs.MasterStep.{master_step}
 use Rattle.rk_world.specs.Replies.{filled}
 use Rattle.rk_world.specs.RoleTests.{is_frozen, is_frozen_at}
 use Rattle.rk_world.specs.Tablet.{Tablet, no_tablet, pulling_from, with_handover, without_merged}
 use Rattle.rk_world.specs.Waiting.{freezing}
 use Rattle.rk_world.specs.Worked.{Worked, changed, sending}
 use Rattle.rk_world.specs.World.{World, has_crashed, lives, master_at, tablet_in}
-use Rattle.rk_sound.specs.Posts.{Holds, InvitedTarget, MovingTarget, MovingSource, OpeningSource, Post, ReadyTarget, StillCounts, bond_of, post_of, target_post}
+use Rattle.rk_sound.specs.Posts.{Holds, InvitedTarget, MovingTarget, MovingSource, OpeningSource, Post, StillCounts, bond_of, post_of, target_post}
 use Rattle.rk_sound.specs.Roles.{RoleFits}
 use Rattle.rk_sound.specs.Rows.{IsFormed}
 use Rattle.rk_sound.specs.Terms.{HandoverFits}

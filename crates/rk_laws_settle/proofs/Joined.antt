@@ -1,7 +1,6 @@
 -- The last reaches of a migration: its target is granted the tablet, pulls it all, and waits until its closing entry is applied.
-use Rattle.std.proofs.Common.{◌≡◌, ◌≢◌, ◌<◌, ◌≤◌, ◌+◌, ◌==◌, ◌&&◌, ℕ, zero, suc, Bool, true, false, cond, not, nat_lt, List, [], ◌∷◌, ◌++◌, length, map, All, Option, None, Some, refl, sym, ap, subst, ◌∙◌, append_assoc, inl, inr, ⊎_elim, arith}
-use Rattle.std.specs.Prelude.{◌⊎◌, drop, unwrap_or}
-use Rattle.std.specs.List.{list_any}
+use Rattle.std.proofs.Common.{◌≡◌, ◌<◌, ◌≤◌, ◌==◌, ◌&&◌, ℕ, zero, suc, Bool, true, false, cond, not, List, [], ◌∷◌, ◌++◌, length, All, Option, None, Some, refl, sym, ap, subst, ◌∙◌, inl, inr, arith}
+use Rattle.std.specs.Prelude.{◌⊎◌, unwrap_or}
 use Rattle.std.proofs.lemmas.Bool.{and_from, and_parts, eq-eqb, eqb-true, false≢true, ltb-false, or_right}
 use Rattle.std.proofs.lemmas.List.Elements.{All-contains, All-nil, All-weaker}
 use Rattle.rk_types.specs.NumberMap.{get}
@@ -14,54 +13,51 @@ use Rattle.rk_message.specs.declared.message.Message.{Message}
 use Rattle.rk_tablet_map.specs.Phase.{lineage_of}
 use Rattle.rk_tablet_map.specs.Rows.{row_of}
 use Rattle.rk_tablet_map.specs.declared.phase.Phase.{Phase}
-use Rattle.rk_tablet_map.specs.declared.phase.Phase.TheVariants.{Owned, Opening, Moving, Rebuilding}
+use Rattle.rk_tablet_map.specs.declared.phase.Phase.TheVariants.{Opening, Moving}
 use Rattle.rk_tablet_map.specs.declared.row.Row.{Row}
-use Rattle.rk_tablet_map.proofs.Lawful.{number_of}
 use Rattle.rk_transfer.specs.declared.role.Role.{Role}
 use Rattle.rk_transfer.specs.declared.role.Role.TheVariants as roles
 use Rattle.rk_world.specs.Cluster.{Cluster, lane_at}
 use Rattle.rk_world.specs.Coordinator.{Coordinator}
 use Rattle.rk_world.specs.CoordinatorStep.{coordinator_step}
-use Rattle.rk_world.specs.Master.{Master, is_settled, new_master, staged, tablet_at, touches}
-use Rattle.rk_world.specs.RoleTests.{is_frozen, is_frozen_at}
+use Rattle.rk_world.specs.Master.{Master, new_master, tablet_at}
 use Rattle.rk_world.specs.Notices.{names}
 use Rattle.rk_world.specs.Premises.{IsMaster}
 use Rattle.rk_world.specs.Tablet.{Tablet, no_tablet}
 use Rattle.std.specs.Int.{w32}
 use Rattle.rk_types.specs.declared.range.Range.{Range}
-use Rattle.rk_world.specs.World.{World, has_crashed, master_at, tablet_in}
+use Rattle.rk_world.specs.World.{World, master_at, tablet_in}
 use Rattle.rk_sound.specs.Receives.{HasClosing, IsClosedAt, MembersFit, is_granted as has_grant, joined_place}
 use Rattle.rk_sound.specs.View.{view}
-use Rattle.rk_sound.specs.Posts.{Holds, MovingSource, MovingTarget, ReadyTarget, bond_of, post_of}
-use Rattle.rk_settle.specs.Advance.{coordinator_exchange, freeze_by, freeze_tasks, grant_task, log_round, reach_phase, reach_row, reach_tasks}
+use Rattle.rk_sound.specs.Posts.{Holds, ReadyTarget, bond_of}
+use Rattle.rk_settle.specs.Advance.{coordinator_exchange, grant_task, log_round, reach_phase, reach_tasks}
 use Rattle.rk_settle.specs.Course.{Course}
-use Rattle.rk_settle.specs.Reaches.{has_joined, is_at_reach, is_at_term, is_joining, is_short_by, is_short_of, is_source_frozen, is_target}
+use Rattle.rk_settle.specs.Reaches.{has_joined, is_at_term, is_joining, is_target}
 use Rattle.rk_settle.specs.Tasks.{turn_exchange}
 use Rattle.rk_settle.specs.Topics.{is_on}
-use Rattle.rk_settle.specs.declared.reach.Reach.TheVariants.{Begun, Frozen, Granted, Pulled, Joined, Finished}
+use Rattle.rk_settle.specs.declared.reach.Reach.TheVariants.{Granted, Pulled, Joined}
 use Rattle.rk_laws_history.proofs.Clusters.{IsGoodLane}
 use Rattle.rk_laws_history.proofs.Runs.{Lasts}
 use Rattle.rk_laws_parts.proofs.Serving.{found_stands}
-use Rattle.rk_laws_settle.proofs.Effects.{at_target, at_term_closes, close_off, close_on, close_sent, close_term, closes, fitted, grant_off, grant_on, grant_sent, grants, hand_on, hand_sent, hands_over, invited_post, is_granted, is_ready, kept, moving_apart, moving_post, prepare_on, prepare_sent, prepares, readies, ready_on, ready_row, ready_sent, ready_silent, transfer_on, transfer_row, transfer_sent, transfer_silent}
-use Rattle.rk_laws_settle.proofs.ExchangeTasks.{Reach, Topic, close_topic, freezes, grant_topic, hand_topic, log_topic, pull_topic, readiness, reaches, sorts}
+use Rattle.rk_laws_settle.proofs.Effects.{at_target, closes, fitted, hand_on, hand_sent, hands_over, invited_post, transfer_on, transfer_row, transfer_sent, transfer_silent}
+use Rattle.rk_laws_settle.proofs.ExchangeTasks.{Topic, hand_topic, log_topic, pull_topic, reaches, sorts}
 use Rattle.rk_laws_settle.proofs.Exchanged.{Sends, turning}
-use Rattle.rk_laws_settle.proofs.Going.{Comes, Goes, IsAt, goes_here, goes_on, still_move}
-use Rattle.rk_laws_settle.proofs.Keeping.{Onward}
+use Rattle.rk_laws_settle.proofs.Going.{Comes, Goes, IsAt, goes_here, goes_on}
 use Rattle.rk_laws_settle.proofs.Lanes.{IsSameBeside}
 use Rattle.rk_laws_settle.proofs.Numbers.{sends_left}
-use Rattle.rk_laws_settle.proofs.Ordering.{IsLaneNow, one_order, two_orders}
-use Rattle.rk_laws_settle.proofs.Orders.{HasAnswered, HasChanged, made}
+use Rattle.rk_laws_settle.proofs.Ordering.{IsLaneNow, two_orders}
+use Rattle.rk_laws_settle.proofs.Orders.{HasAnswered, made}
 use Rattle.rk_laws_settle.proofs.Patient.{WaitsIn}
 use Rattle.rk_laws_settle.proofs.PatientLanes.{reached_patient}
-use Rattle.rk_laws_settle.proofs.Rounding.{HasRounded, IsOn, log_quiet, log_steps, pull_quiet, pull_steps, rounding}
+use Rattle.rk_laws_settle.proofs.Rounding.{HasRounded, log_quiet, log_steps, pull_quiet, pull_steps, rounding}
 use Rattle.rk_laws_settle.proofs.Sending.{receiving_sends, waiting_sends}
 use Rattle.rk_laws_settle.proofs.Setting.{IsSane, Setting, here}
 use Rattle.rk_laws_settle.proofs.Staging.{good_at, master_sends, past_some}
 use Rattle.rk_laws_settle.proofs.Tasks.{Task}
 use Rattle.rk_laws_settle.proofs.Tracking.{IsTracked, IsTrackedTo, tracking}
 use Rattle.rk_laws_settle.proofs.Walking.{HasTurned}
-use Rattle.rk_laws_settle.proofs.Migrating.{AfterBegun, AfterFrozen, AfterGranted, AfterPulled, First, HasGrant, HasNoMigration, HasPulled, IsBegun, IsClosed, IsFrozen, IsIn, IsMoving, IsOpening, makes_ready, no_tasks, second_fails, skips, tasks_in, unfolds}
-use Rattle.rk_laws_settle.proofs.Migrated.{closes_it, grants_it, in_still, lives_on, moving_frozen}
+use Rattle.rk_laws_settle.proofs.Migrating.{AfterGranted, AfterPulled, IsIn, second_fails, skips, tasks_in, unfolds}
+use Rattle.rk_laws_settle.proofs.Migrated.{grants_it, in_still, lives_on}
 
 -- where a role has its closing entry, that is closed
 closed_at : (role : Role) (entry : ℕ) (closing : Entry) (range : Range) (from : ℕ) (list : List Entry) → role ≡ roles.Joining (Some entry)
@@ -70,7 +66,7 @@ closed_at role entry closing range from list is has = subst (λ (r : Role). HasC
 
 module _ (s : Setting) (lane : ℕ) (inside : lane < LANES) (origin : Cluster) (rest : List Task) where
   module _ (row : Row) (source sfrom target dfrom : ℕ) where
-    abbrev tablet : ℕ
+    abbrev pub tablet : ℕ
     tablet = row.tablet
 
     -- what a target that made ready has is no grant
@@ -93,7 +89,7 @@ module _ (s : Setting) (lane : ℕ) (inside : lane < LANES) (origin : Cluster) (
         by (roles.Rebuilding from entry) at never = absurd never
 
     -- the source tells what it hands over, and the target is granted the tablet
-    hands_it : (before : Cluster) (course : Course) → Comes s before course → course.tasks ≡ reaches lane tablet Granted ∷ rest → IsSameBeside lane origin course.cluster
+    pub hands_it : (before : Cluster) (course : Course) → Comes s before course → course.tasks ≡ reaches lane tablet Granted ∷ rest → IsSameBeside lane origin course.cluster
         → IsIn tablet row (Opening source sfrom target (Some dfrom)) source target (lane_at course.cluster lane)
         → (tablet_in (lane_at course.cluster lane) source tablet).handover.term ≡ row.term → (tablet_in (lane_at course.cluster lane) source tablet).handover.role ≡ roles.Frozen
         → Goes s before course (IsLaneNow lane origin rest (AfterGranted tablet))
@@ -143,7 +139,7 @@ module _ (s : Setting) (lane : ℕ) (inside : lane < LANES) (origin : Cluster) (
         reply = hands_over s.masters lane w good row there.found source sfrom target dfrom there.phase_is there.source_lives term role
 
     -- where the tablet moves
-    moving_granted : (before : Cluster) (course : Course) → Comes s before course → course.tasks ≡ reaches lane tablet Granted ∷ rest → IsSameBeside lane origin course.cluster
+    pub moving_granted : (before : Cluster) (course : Course) → Comes s before course → course.tasks ≡ reaches lane tablet Granted ∷ rest → IsSameBeside lane origin course.cluster
         → IsIn tablet row (Moving source sfrom target dfrom) source target (lane_at course.cluster lane) → Goes s before course (IsLaneNow lane origin rest (AfterGranted tablet))
     moving_granted before course comes are beside there = go (is_at_term (tablet_in w target tablet) row.term is_target) refl
       where
@@ -174,7 +170,7 @@ module _ (s : Setting) (lane : ℕ) (inside : lane < LANES) (origin : Cluster) (
 
     -- ---- pulled
 
-    pulls_within : (fuel : ℕ) (before : Cluster) (course : Course) → Comes s before course → course.tasks ≡ reaches lane tablet Pulled ∷ rest → IsSameBeside lane origin course.cluster
+    pub pulls_within : (fuel : ℕ) (before : Cluster) (course : Course) → Comes s before course → course.tasks ≡ reaches lane tablet Pulled ∷ rest → IsSameBeside lane origin course.cluster
         → IsIn tablet row (Moving source sfrom target dfrom) source target (lane_at course.cluster lane)
         → (tablet_in (lane_at course.cluster lane) target tablet).handover.term ≡ row.term → is_target (tablet_in (lane_at course.cluster lane) target tablet).handover.role ≡ true
         → sends_left course.cluster < fuel → Goes s before course (IsLaneNow lane origin rest (AfterPulled tablet))
@@ -297,7 +293,7 @@ module _ (s : Setting) (lane : ℕ) (inside : lane < LANES) (origin : Cluster) (
         by (roles.Wanting from) at never = absurd (false≢true never)
         by (roles.Rebuilding from entry) at never = absurd (false≢true never)
 
-    joins_within : (fuel : ℕ) (before : Cluster) (course : Course) → Comes s before course → course.tasks ≡ reaches lane tablet Joined ∷ rest → IsSameBeside lane origin course.cluster
+    pub joins_within : (fuel : ℕ) (before : Cluster) (course : Course) → Comes s before course → course.tasks ≡ reaches lane tablet Joined ∷ rest → IsSameBeside lane origin course.cluster
         → IsIn tablet row (Moving source sfrom target dfrom) source target (lane_at course.cluster lane)
         → (tablet_in (lane_at course.cluster lane) target tablet).handover.term ≡ row.term → is_joining (tablet_in (lane_at course.cluster lane) target tablet).handover.role ≡ true
         → sends_left course.cluster < fuel → Goes s before course (IsLaneNow lane origin rest (AfterPulled tablet))

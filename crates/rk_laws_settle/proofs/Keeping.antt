@@ -1,6 +1,6 @@
 -- What a master has of a tablet, where it takes its turn, is told what backups hold, or pulls: its term stays, a target stays one, and one that
 -- has all too.
-use Rattle.std.proofs.Common.{◌≡◌, ◌<◌, ◌%◌, ◌==◌, ◌&&◌, ℕ, Bool, true, false, cond, not, nat_lt, List, [], ◌∷◌, length, fold, Option, None, Some, refl, sym, ap, subst, ◌∙◌, ⊎_elim}
+use Rattle.std.proofs.Common.{◌≡◌, ◌%◌, ◌&&◌, ℕ, Bool, true, false, cond, not, nat_lt, List, [], ◌∷◌, length, fold, Option, None, Some, refl, sym, ap, subst, ◌∙◌, ⊎_elim}
 use Rattle.std.specs.Prelude.{unwrap_or}
 use Rattle.std.specs.FinMap.Entries.{below_all}
 use Rattle.std.specs.Option.{option_map}
@@ -10,16 +10,10 @@ use Rattle.rk_types.specs.NumberMap.{IsInOrder, NumberMap, changed_each, get}
 use Rattle.rk_types.specs.declared.call.Call.{Call}
 use Rattle.rk_types.specs.declared.call.Ended.{Ended}
 use Rattle.rk_types.specs.declared.held.Held.{Held}
-use Rattle.rk_types.specs.declared.node.Node.{Node}
-use Rattle.rk_types.specs.declared.node.Node.TheVariants as nodes
 use Rattle.rk_entry.specs.declared.entry.Entry.{Entry}
 use Rattle.rk_entry.specs.declared.entry.Entry.TheVariants as entries
-use Rattle.rk_log.specs.Log.{overreach}
 use Rattle.rk_log.specs.declared.overreach.Overreach.{Overreach}
 use Rattle.rk_done.specs.Completions.{noted}
-use Rattle.rk_message.specs.declared.message.Body.{Body}
-use Rattle.rk_message.specs.declared.message.Body.TheVariants as bodies
-use Rattle.rk_message.specs.declared.message.Message.{Message}
 use Rattle.rk_message.specs.declared.pulling.Pulled.{Pulled}
 use Rattle.rk_message.specs.declared.replication.Stored.{Stored}
 use Rattle.rk_table.specs.Items.{found, is_newer}

@@ -49,4 +49,6 @@ pub mod Rounding
 pub mod Migrating
 pub mod Migrated
 pub mod Joined
+pub mod Advancing
+pub mod Advanced
 pub mod Settled

@@ -1,60 +1,46 @@
 -- The reaches of a migration after its beginning: its source freezes the tablet, its target is granted it, pulls it all, and has joined.
-use Rattle.std.proofs.Common.{◌≡◌, ◌≢◌, ◌<◌, ◌≤◌, ◌+◌, ◌==◌, ◌&&◌, ℕ, zero, suc, Bool, true, false, cond, not, nat_lt, List, [], ◌∷◌, ◌++◌, length, map, All, Option, None, Some, refl, sym, ap, subst, ◌∙◌, append_assoc, inl, inr, ⊎_elim, arith}
-use Rattle.std.specs.Prelude.{◌⊎◌, drop, unwrap_or}
+use Rattle.std.proofs.Common.{◌≡◌, ◌≢◌, ◌<◌, ◌+◌, ◌==◌, ℕ, zero, suc, Bool, true, false, cond, not, List, [], ◌∷◌, ◌++◌, Some, refl, sym, ap, subst, ◌∙◌, inl, inr, arith}
+use Rattle.std.specs.Prelude.{◌⊎◌}
 use Rattle.std.specs.List.{list_any}
-use Rattle.std.proofs.lemmas.Bool.{and_from, and_parts, cond-false, cond-true, eq-eqb, eqb-true, false≢true, ltb-false, ne_eqb, true≢false}
-use Rattle.std.proofs.lemmas.List.Elements.{All-contains, All-weaker}
-use Rattle.rk_types.specs.NumberMap.{get}
+use Rattle.std.proofs.lemmas.Bool.{and_from, and_parts, cond-true, eq-eqb, eqb-true, false≢true, true≢false}
 use Rattle.rk_types.specs.declared.hashing.TheConstants.{LANES}
 use Rattle.rk_types.specs.declared.node.Node.TheVariants as nodes
-use Rattle.rk_entry.specs.Numbers.{IsNumber}
 use Rattle.rk_entry.specs.declared.entry.Entry.{Entry}
-use Rattle.rk_entry.specs.declared.lists.TheConstants.{FIRST_SIDE_SEGMENT}
 use Rattle.rk_message.specs.declared.message.Message.{Message}
-use Rattle.rk_tablet_map.specs.Phase.{lineage_of}
 use Rattle.rk_tablet_map.specs.Rows.{row_of}
 use Rattle.rk_tablet_map.specs.declared.phase.Phase.{Phase}
-use Rattle.rk_tablet_map.specs.declared.phase.Phase.TheVariants.{Owned, Opening, Moving, Rebuilding}
+use Rattle.rk_tablet_map.specs.declared.phase.Phase.TheVariants.{Opening, Moving}
 use Rattle.rk_tablet_map.specs.declared.row.Row.{Row}
-use Rattle.rk_tablet_map.proofs.Lawful.{number_of}
 use Rattle.rk_transfer.specs.declared.role.Role.{Role}
 use Rattle.rk_transfer.specs.declared.role.Role.TheVariants as roles
 use Rattle.rk_world.specs.Cluster.{Cluster, lane_at}
 use Rattle.rk_world.specs.Coordinator.{Coordinator}
-use Rattle.rk_world.specs.CoordinatorStep.{coordinator_step}
-use Rattle.rk_world.specs.Master.{Master, is_settled, new_master, staged, tablet_at, touches}
-use Rattle.rk_world.specs.RoleTests.{is_frozen, is_frozen_at}
-use Rattle.rk_world.specs.Waiting.{is_sealed_stored}
+use Rattle.rk_world.specs.Master.{Master, is_settled, staged, tablet_at, touches}
+use Rattle.rk_world.specs.RoleTests.{is_frozen}
 use Rattle.rk_world.specs.World.{World, has_crashed, master_at, tablet_in}
-use Rattle.rk_sound.specs.Posts.{Holds, MovingSource, MovingTarget, ReadyTarget, bond_of, post_of}
-use Rattle.rk_settle.specs.Advance.{coordinator_exchange, freeze_by, freeze_tasks, grant_task, log_round, reach_phase, reach_row, reach_tasks}
+use Rattle.rk_sound.specs.Posts.{Holds, MovingSource, bond_of, post_of}
+use Rattle.rk_settle.specs.Advance.{coordinator_exchange, freeze_by, grant_task, log_round, reach_phase}
 use Rattle.rk_settle.specs.Course.{Course}
-use Rattle.rk_settle.specs.Reaches.{has_joined, is_at_reach, is_at_term, is_joining, is_short_by, is_short_of, is_source_frozen, is_target}
-use Rattle.rk_settle.specs.Tasks.{turn_exchange}
+use Rattle.rk_settle.specs.Reaches.{is_source_frozen, is_target}
 use Rattle.rk_settle.specs.Topics.{is_on}
-use Rattle.rk_settle.specs.declared.reach.Reach.TheVariants.{Begun, Frozen, Granted, Pulled, Joined, Finished}
+use Rattle.rk_settle.specs.declared.reach.Reach.TheVariants.{Frozen}
 use Rattle.rk_laws_history.proofs.Clusters.{IsGoodLane}
 use Rattle.rk_laws_history.proofs.Runs.{Lasts}
-use Rattle.rk_laws_parts.proofs.Serving.{found_stands}
-use Rattle.rk_laws_settle.proofs.Effects.{at_target, at_term_closes, close_off, close_on, close_sent, close_term, closes, fitted, grant_off, grant_on, grant_sent, grants, hand_on, hand_sent, hands_over, invited_post, is_granted, is_ready, kept, moving_apart, moving_post, prepare_on, prepare_sent, prepares, readies, ready_on, ready_row, ready_sent, ready_silent, transfer_on, transfer_row, transfer_sent, transfer_silent}
-use Rattle.rk_laws_settle.proofs.ExchangeTasks.{Reach, Topic, close_topic, freezes, grant_topic, hand_topic, log_topic, pull_topic, readiness, reaches, sorts}
-use Rattle.rk_laws_settle.proofs.Exchanged.{Sends, turning}
+use Rattle.rk_laws_settle.proofs.Effects.{at_term_closes, close_off, close_on, close_sent, close_term, closes, fitted, grant_off, grant_on, grant_sent, grants, is_granted}
+use Rattle.rk_laws_settle.proofs.ExchangeTasks.{close_topic, freezes, grant_topic, log_topic, reaches}
+use Rattle.rk_laws_settle.proofs.Exchanged.{Sends}
 use Rattle.rk_laws_settle.proofs.Going.{Comes, Goes, IsAt, goes_here, goes_on, still_move}
-use Rattle.rk_laws_settle.proofs.Keeping.{Onward}
 use Rattle.rk_laws_settle.proofs.Lanes.{IsSameBeside}
 use Rattle.rk_laws_settle.proofs.Numbers.{sends_left}
-use Rattle.rk_laws_settle.proofs.Ordering.{IsLaneNow, one_order, two_orders}
-use Rattle.rk_laws_settle.proofs.Orders.{HasAnswered, HasChanged, made}
+use Rattle.rk_laws_settle.proofs.Ordering.{IsLaneNow, one_order}
+use Rattle.rk_laws_settle.proofs.Orders.{HasChanged, made}
 use Rattle.rk_laws_settle.proofs.Patient.{WaitsIn}
 use Rattle.rk_laws_settle.proofs.PatientLanes.{reached_patient}
-use Rattle.rk_laws_settle.proofs.Rounding.{HasRounded, IsOn, log_quiet, log_steps, pull_quiet, pull_steps, rounding}
-use Rattle.rk_laws_settle.proofs.Sending.{receiving_sends, waiting_sends}
-use Rattle.rk_laws_settle.proofs.Setting.{IsSane, Setting, here}
-use Rattle.rk_laws_settle.proofs.Staging.{good_at, master_sends, past_some}
+use Rattle.rk_laws_settle.proofs.Rounding.{HasRounded, log_quiet, log_steps, rounding}
+use Rattle.rk_laws_settle.proofs.Setting.{Setting, here}
+use Rattle.rk_laws_settle.proofs.Staging.{good_at, master_sends}
 use Rattle.rk_laws_settle.proofs.Tasks.{Task}
-use Rattle.rk_laws_settle.proofs.Tracking.{IsTracked, IsTrackedTo, tracking}
-use Rattle.rk_laws_settle.proofs.Walking.{HasTurned}
-use Rattle.rk_laws_settle.proofs.Migrating.{AfterBegun, AfterFrozen, AfterGranted, AfterPulled, First, HasGrant, HasNoMigration, HasPulled, IsBegun, IsClosed, IsFrozen, IsIn, IsMoving, IsOpening, makes_ready, no_tasks, second_fails, skips, tasks_in, unfolds}
+use Rattle.rk_laws_settle.proofs.Migrating.{AfterFrozen, AfterGranted, IsClosed, IsIn, skips, tasks_in, unfolds}
 
 -- who lives lives on
 pub lives_on : (w v : World) (m : ℕ) → v.crashed ≡ w.crashed → has_crashed w m ≡ false → has_crashed v m ≡ false

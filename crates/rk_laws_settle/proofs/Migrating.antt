@@ -1,59 +1,35 @@
 -- A migration whose source and target live is brought from reach to reach.
-use Rattle.std.proofs.Common.{◌≡◌, ◌≢◌, ◌<◌, ◌≤◌, ◌+◌, ◌==◌, ◌&&◌, ℕ, zero, suc, Bool, true, false, cond, not, nat_lt, List, [], ◌∷◌, ◌++◌, length, map, All, Option, None, Some, refl, sym, ap, subst, ◌∙◌, append_assoc, inl, inr, ⊎_elim, arith}
-use Rattle.std.specs.Prelude.{◌⊎◌, drop, unwrap_or}
+use Rattle.std.proofs.Common.{◌≡◌, ◌<◌, ◌==◌, ◌&&◌, ℕ, Bool, true, false, cond, not, List, [], ◌∷◌, ◌++◌, Option, None, Some, refl, sym, ap, subst, ◌∙◌, inl, inr}
+use Rattle.std.specs.Prelude.{◌⊎◌}
 use Rattle.std.specs.List.{list_any}
-use Rattle.std.proofs.lemmas.Bool.{and_from, and_parts, cond-false, cond-true, eq-eqb, eqb-true, false≢true, ltb-false, ne_eqb}
-use Rattle.std.proofs.lemmas.List.Elements.{All-contains, All-weaker}
-use Rattle.rk_types.specs.NumberMap.{get}
+use Rattle.std.proofs.lemmas.Bool.{false≢true}
 use Rattle.rk_types.specs.declared.hashing.TheConstants.{LANES}
-use Rattle.rk_types.specs.declared.node.Node.TheVariants as nodes
-use Rattle.rk_entry.specs.Numbers.{IsNumber}
-use Rattle.rk_entry.specs.declared.entry.Entry.{Entry}
-use Rattle.rk_entry.specs.declared.lists.TheConstants.{FIRST_SIDE_SEGMENT}
 use Rattle.rk_message.specs.declared.message.Message.{Message}
-use Rattle.rk_tablet_map.specs.Phase.{lineage_of}
 use Rattle.rk_tablet_map.specs.Rows.{row_of}
 use Rattle.rk_tablet_map.specs.declared.phase.Phase.{Phase}
 use Rattle.rk_tablet_map.specs.declared.phase.Phase.TheVariants.{Owned, Opening, Moving, Rebuilding}
 use Rattle.rk_tablet_map.specs.declared.row.Row.{Row}
-use Rattle.rk_tablet_map.proofs.Lawful.{number_of}
-use Rattle.rk_transfer.specs.declared.role.Role.{Role}
 use Rattle.rk_transfer.specs.declared.role.Role.TheVariants as roles
 use Rattle.rk_world.specs.Cluster.{Cluster, lane_at}
 use Rattle.rk_world.specs.Coordinator.{Coordinator}
 use Rattle.rk_world.specs.CoordinatorStep.{coordinator_step}
-use Rattle.rk_world.specs.Master.{Master, is_settled, new_master, staged, tablet_at, touches}
-use Rattle.rk_world.specs.RoleTests.{is_frozen, is_frozen_at}
-use Rattle.rk_world.specs.Waiting.{is_sealed_stored}
-use Rattle.rk_world.specs.World.{World, has_crashed, master_at, tablet_in}
-use Rattle.rk_sound.specs.Posts.{Holds, MovingSource, MovingTarget, ReadyTarget, bond_of, post_of}
-use Rattle.rk_settle.specs.Advance.{coordinator_exchange, freeze_by, freeze_tasks, grant_task, log_round, reach_phase, reach_row, reach_tasks}
+use Rattle.rk_world.specs.World.{World, has_crashed, tablet_in}
+use Rattle.rk_settle.specs.Advance.{coordinator_exchange, reach_phase, reach_row, reach_tasks}
 use Rattle.rk_settle.specs.Course.{Course}
-use Rattle.rk_settle.specs.Reaches.{has_joined, is_at_reach, is_at_term, is_joining, is_short_by, is_short_of, is_source_frozen, is_target}
-use Rattle.rk_settle.specs.Tasks.{turn_exchange}
+use Rattle.rk_settle.specs.Reaches.{is_at_reach, is_joining, is_short_by, is_target}
 use Rattle.rk_settle.specs.Topics.{is_on}
-use Rattle.rk_settle.specs.declared.reach.Reach.TheVariants.{Begun, Frozen, Granted, Pulled, Joined, Finished}
+use Rattle.rk_settle.specs.declared.reach.Reach.TheVariants.{Begun}
 use Rattle.rk_laws_history.proofs.Clusters.{IsGoodLane}
 use Rattle.rk_laws_history.proofs.Runs.{Lasts}
-use Rattle.rk_laws_parts.proofs.Serving.{found_stands}
-use Rattle.rk_laws_settle.proofs.Effects.{at_target, at_term_closes, close_off, close_on, close_sent, close_term, closes, fitted, grant_off, grant_on, grant_sent, grants, hand_on, hand_sent, hands_over, invited_post, is_granted, is_ready, kept, moving_apart, moving_post, prepare_on, prepare_sent, prepares, readies, ready_on, ready_row, ready_sent, ready_silent, transfer_on, transfer_row, transfer_sent, transfer_silent}
-use Rattle.rk_laws_settle.proofs.ExchangeTasks.{Reach, Topic, close_topic, freezes, grant_topic, hand_topic, log_topic, pull_topic, readiness, reaches, sorts}
-use Rattle.rk_laws_settle.proofs.Exchanged.{Sends, turning}
+use Rattle.rk_laws_settle.proofs.Effects.{is_ready, prepare_on, prepare_sent, prepares, readies, ready_on, ready_row, ready_sent, ready_silent}
+use Rattle.rk_laws_settle.proofs.ExchangeTasks.{Reach, Topic, readiness, reaches}
 use Rattle.rk_laws_settle.proofs.Going.{Comes, Goes, IsAt, goes_here, goes_on, still_move}
-use Rattle.rk_laws_settle.proofs.Keeping.{Onward}
 use Rattle.rk_laws_settle.proofs.Lanes.{IsSameBeside}
-use Rattle.rk_laws_settle.proofs.Numbers.{sends_left}
-use Rattle.rk_laws_settle.proofs.Ordering.{IsLaneNow, one_order, two_orders}
-use Rattle.rk_laws_settle.proofs.Orders.{HasAnswered, HasChanged, made}
-use Rattle.rk_laws_settle.proofs.Patient.{WaitsIn}
-use Rattle.rk_laws_settle.proofs.PatientLanes.{reached_patient}
-use Rattle.rk_laws_settle.proofs.Rounding.{HasRounded, IsOn, log_quiet, log_steps, pull_quiet, pull_steps, rounding}
-use Rattle.rk_laws_settle.proofs.Sending.{receiving_sends, waiting_sends}
-use Rattle.rk_laws_settle.proofs.Setting.{IsSane, Setting, here}
-use Rattle.rk_laws_settle.proofs.Staging.{good_at, master_sends, past_some}
+use Rattle.rk_laws_settle.proofs.Ordering.{IsLaneNow, two_orders}
+use Rattle.rk_laws_settle.proofs.Orders.{HasAnswered, made}
+use Rattle.rk_laws_settle.proofs.Setting.{Setting}
+use Rattle.rk_laws_settle.proofs.Staging.{good_at}
 use Rattle.rk_laws_settle.proofs.Tasks.{Task}
-use Rattle.rk_laws_settle.proofs.Tracking.{IsTracked, IsTrackedTo, tracking}
-use Rattle.rk_laws_settle.proofs.Walking.{HasTurned}
 
 -- ---- how far a migration has come in a lane
 
@@ -63,7 +39,7 @@ migrates (Opening source sfrom target dfrom) = true
 migrates (Moving source sfrom target dfrom) = true
 migrates phase = false
 
-abbrev migrates_by : Option Row → Bool
+abbrev pub migrates_by : Option Row → Bool
 migrates_by None = false
 migrates_by (Some row) = migrates row.phase
 

@@ -1,5 +1,5 @@
 -- An exchange in which the coordinator orders something: what has come of it at its end.
-use Rattle.std.proofs.Common.{◌≡◌, ◌<◌, ◌≤◌, ℕ, Bool, true, false, List, [], ◌∷◌, map, Option, None, Some, refl, sym, ap, subst, ◌∙◌, inl, inr, ⊎_elim, arith}
+use Rattle.std.proofs.Common.{◌≡◌, ◌<◌, ◌≤◌, ℕ, true, false, List, [], ◌∷◌, map, Option, None, sym, ap, subst, ◌∙◌, inl, ⊎_elim, arith}
 use Rattle.std.specs.Prelude.{◌⊎◌}
 use Rattle.std.specs.Option.{option_map, option_or}
 use Rattle.rk_types.specs.declared.history.Placed.{Placed}
@@ -22,11 +22,10 @@ use Rattle.rk_settle.specs.Course.{Course}
 use Rattle.rk_settle.specs.Topics.{is_on}
 use Rattle.rk_laws_settle.proofs.ExchangeTasks.{Topic, sorts}
 use Rattle.rk_laws_settle.proofs.Exchanged.{turning}
-use Rattle.rk_laws_settle.proofs.Following.{follows_itself}
 use Rattle.rk_laws_settle.proofs.Going.{Comes, Goes, goes_here, goes_on}
 use Rattle.rk_laws_settle.proofs.Lanes.{IsSameBeside}
 use Rattle.rk_laws_settle.proofs.NoticesFirst.{formed_at}
-use Rattle.rk_laws_settle.proofs.Orders.{Answered, HasAnswered, HasChanged, IsAnswering, IsOrdered, IsOver, IsTaken, answering_tracked, made, off_sent, ordered_tracked, over_tracked, pending_sent}
+use Rattle.rk_laws_settle.proofs.Orders.{HasAnswered, HasChanged, IsAnswering, IsOrdered, IsOver, IsTaken, answering_tracked, made, off_sent, ordered_tracked, over_tracked, pending_sent}
 use Rattle.rk_laws_settle.proofs.Pending.{AreOff, HasOne, OnlyOff, nothing_after, sent_pending}
 use Rattle.rk_laws_settle.proofs.Setting.{Setting}
 use Rattle.rk_laws_settle.proofs.Tasks.{Task}

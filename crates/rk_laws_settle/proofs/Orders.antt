@@ -1,8 +1,8 @@
 -- An order of the coordinator in an exchange: it is delivered to its master, and what that answers on the topic to the coordinator.
-use Rattle.std.proofs.Common.{◌≡◌, ◌<◌, ◌≤◌, ◌+◌, ℕ, Bool, true, false, cond, List, [], ◌∷◌, ◌++◌, fold, map, All, Option, None, Some, refl, sym, ap, subst, ◌∙◌, inl, inr, ⊎_elim, arith}
+use Rattle.std.proofs.Common.{◌≡◌, ◌<◌, ◌≤◌, ℕ, Bool, true, false, cond, List, [], fold, map, Option, None, Some, refl, sym, ap, subst, ◌∙◌, inl, inr, ⊎_elim, arith}
 use Rattle.std.specs.Prelude.{◌⊎◌}
 use Rattle.std.proofs.lemmas.Bool.{false≢true}
-use Rattle.rk_types.specs.NumberMap.{NumberMap, get}
+use Rattle.rk_types.specs.NumberMap.{get}
 use Rattle.rk_types.specs.declared.node.Node.{Node}
 use Rattle.rk_types.specs.declared.node.Node.TheVariants as nodes
 use Rattle.rk_message.specs.Wire.{Traffic, with_message, without_message}
@@ -15,18 +15,16 @@ use Rattle.rk_world.specs.MasterStep.{master_step}
 use Rattle.rk_world.specs.Refusals.{refusal}
 use Rattle.rk_world.specs.Replies.{filled}
 use Rattle.rk_world.specs.Runs.{world_stepped}
-use Rattle.rk_world.specs.Step.{delivered, delivered_to, ledger_after, losing, seen_in, step, stepped_by, to_master, worked_at}
+use Rattle.rk_world.specs.Step.{delivered, delivered_to, ledger_after, losing, seen_in, stepped_by, worked_at}
 use Rattle.rk_world.specs.Worked.{Worked}
 use Rattle.rk_world.specs.World.{World, has_crashed, master_at, with_top, with_wire}
 use Rattle.rk_world.specs.declared.error.StepError.{StepError}
 use Rattle.rk_world.specs.declared.event.Event.TheVariants as events
 use Rattle.rk_types.specs.declared.history.Placed.{Placed}
 use Rattle.rk_settle.specs.Topics.{is_on}
-use Rattle.rk_laws_history.proofs.Clusters.{IsGoodLane}
-use Rattle.rk_laws_history.proofs.Runs.{Lasts}
 use Rattle.rk_laws_parts.proofs.Masters.{master_other, master_same}
-use Rattle.rk_laws_wires.specs.Emptied.{Arrival, Delivers, arrived, forgotten, taken_off}
-use Rattle.rk_laws_settle.proofs.Delivering.{ArrivesAt, IsDelivered}
+use Rattle.rk_laws_wires.specs.Emptied.{Arrival, Delivers, forgotten, taken_off}
+use Rattle.rk_laws_settle.proofs.Delivering.{ArrivesAt}
 use Rattle.rk_laws_settle.proofs.ExchangeTasks.{Topic}
 use Rattle.rk_laws_settle.proofs.Pending.{AreOff, HasOne, IsPending, OnlyAt, OnlyOff, forgotten_cases, off_without, pending_without, sent_off, sent_pending}
 use Rattle.rk_laws_settle.proofs.Tracking.{IsOffAt, IsTracked}

@@ -1,11 +1,10 @@
 -- What tablets of a master wait for has not come yet: where one closes something of it is staged, and where a target has all but its closing
 -- entry not every side segment of it is stored. Here so it stays at the small changes of a master.
-use Rattle.std.proofs.Common.{◌≡◌, ◌<◌, ◌≤◌, ◌+◌, ◌==◌, ◌||◌, ◌&&◌, ℕ, zero, suc, Bool, true, false, cond, not, nat_le, List, [], ◌∷◌, ◌++◌, length, fold, map, All, Option, None, Some, refl, sym, ap, subst, ◌∙◌, ⊎_elim, arith}
-use Rattle.std.specs.Prelude.{IfSome, drop, find, get_or, unwrap_or, ⊤}
-use Rattle.std.specs.List.{list_all, list_any, range_with_len}
+use Rattle.std.proofs.Common.{◌≡◌, ◌≤◌, ◌+◌, ◌==◌, ◌||◌, ◌&&◌, ℕ, zero, suc, Bool, true, false, cond, not, List, [], ◌∷◌, ◌++◌, length, Option, None, Some, refl, sym, ap, subst, ⊎_elim, arith}
+use Rattle.std.specs.Prelude.{drop, get_or, unwrap_or}
+use Rattle.std.specs.List.{list_all, list_any}
 use Rattle.std.specs.Option.{option_map, option_map_or}
 use Rattle.std.proofs.lemmas.Bool.{cases_eq, eqb-true, false≢true, lt-leb}
-use Rattle.std.proofs.lemmas.List.Elements.{All-head, All-tail}
 use Rattle.rk_types.proofs.NumberMaps.{get_other, get_same, in_order_changed, in_order_insert}
 use Rattle.rk_types.specs.NumberMap.{IsInOrder, NumberMap, changed_each, get}
 use Rattle.rk_types.specs.declared.held.Held.{Held}

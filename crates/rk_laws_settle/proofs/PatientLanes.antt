@@ -10,10 +10,9 @@ use Rattle.rk_entry.specs.declared.lists.TheConstants.{FIRST_SIDE_SEGMENT}
 use Rattle.rk_segment.specs.Segment.{NumberedBytes}
 use Rattle.rk_log.specs.Cut.{cut}
 use Rattle.rk_log.specs.Known.{Known, known_length}
-use Rattle.rk_log.specs.Log.{Log, bytes_of, known_of, numbered, segment_of, side_segments}
+use Rattle.rk_log.specs.Log.{Log, bytes_of, numbered, segment_of, side_segments}
 use Rattle.rk_world.specs.Backup.{Called}
 use Rattle.rk_world.specs.Calls.{accept, ask}
-use Rattle.rk_world.specs.Client.{Session}
 use Rattle.rk_world.specs.Cluster.{Accepts, Asks, Calls, Cluster, Happens, Joins, Occurrence, cluster_after, cluster_run, lane_at, new_cluster, session_at}
 use Rattle.rk_world.specs.ClusterRuns.{IsRun}
 use Rattle.rk_world.specs.Formed.{IsWellFormed}
@@ -23,9 +22,9 @@ use Rattle.rk_world.specs.MasterTurn.{master_turn}
 use Rattle.rk_world.specs.Refusals.{refusal}
 use Rattle.rk_world.specs.Room.{HasRoom}
 use Rattle.rk_world.specs.Runs.{world_stepped}
-use Rattle.rk_world.specs.Splits.{has_parts, with_half, with_halves, with_split}
+use Rattle.rk_world.specs.Splits.{has_parts, with_halves, with_split}
 use Rattle.rk_world.specs.Step.{step, stepped_by}
-use Rattle.rk_world.specs.World.{World, log_in, master_at, new_world, with_master}
+use Rattle.rk_world.specs.World.{World, master_at, new_world, with_master}
 use Rattle.rk_world.specs.declared.error.StepError.{StepError}
 use Rattle.rk_world.specs.declared.event.Event.{Event}
 use Rattle.rk_sound.specs.Logs.{stored_of}

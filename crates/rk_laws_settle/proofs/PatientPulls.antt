@@ -11,7 +11,7 @@ use Rattle.rk_entry.specs.Entries.{spelled_all}
 use Rattle.rk_entry.specs.Spelling.{spelled}
 use Rattle.rk_entry.specs.declared.entry.Entry.TheVariants as entries
 use Rattle.rk_entry.specs.declared.lists.TheConstants.{FIRST_SIDE_SEGMENT}
-use Rattle.rk_log.specs.Log.{Log, is_side_stored}
+use Rattle.rk_log.specs.Log.{is_side_stored}
 use Rattle.rk_log.proofs.Cuts.{spelled_some}
 use Rattle.rk_message.specs.declared.pulling.Pulled.{Pulled}
 use Rattle.rk_priority.specs.Hashes.{no_hashes}

@@ -1,12 +1,11 @@
 -- What no tablet of a master waits for has come, still after each message that it takes and after its turn.
-use Rattle.std.proofs.Common.{◌≡◌, ◌<◌, ◌≤◌, ◌+◌, ◌%◌, ◌==◌, ◌&&◌, ℕ, zero, suc, Bool, true, false, cond, not, nat_lt, List, [], ◌∷◌, ◌++◌, length, fold, map, All, Option, None, Some, refl, sym, ap, subst, ◌∙◌, ⊎_elim, arith}
-use Rattle.std.specs.Prelude.{IfSome, get_or, unwrap_or}
-use Rattle.std.specs.List.{list_all, range_with_len}
+use Rattle.std.proofs.Common.{◌≡◌, ◌<◌, ◌==◌, ◌&&◌, ℕ, Bool, true, false, cond, not, nat_lt, List, [], ◌∷◌, length, All, Option, None, Some, refl, sym, ap, subst, ◌∙◌, arith}
+use Rattle.std.specs.Prelude.{IfSome, unwrap_or}
 use Rattle.std.specs.Cmp.{unsigned_tied}
 use Rattle.std.specs.FinMap.Entries.{below_all}
 use Rattle.std.specs.Ordering.{eq_by_cmp, nat_cmp}
 use Rattle.std.proofs.lemmas.List.Elements.{All-head, All-tail, All-weaker}
-use Rattle.std.proofs.lemmas.Bool.{cases_eq, cond-true, eq-eqb, false≢true}
+use Rattle.std.proofs.lemmas.Bool.{cond-true, eq-eqb, false≢true}
 use Rattle.rk_types.proofs.NumberMaps.{in_order_changed, in_order_insert, same_number}
 use Rattle.rk_types.specs.NumberMap.{IsInOrder, NumberMap, get}
 use Rattle.rk_types.specs.Range.{meets}
@@ -37,7 +36,7 @@ use Rattle.rk_message.specs.declared.rebuilding.CopySegment.{CopySegment}
 use Rattle.rk_message.specs.declared.rebuilding.Rebuild.{Rebuild}
 use Rattle.rk_message.specs.declared.replication.Stored.{Stored}
 use Rattle.rk_table.specs.Items.{found, is_newer}
-use Rattle.rk_priority.specs.Hashes.{got, is_batch}
+use Rattle.rk_priority.specs.Hashes.{is_batch}
 use Rattle.rk_transfer.specs.Handover.{carried, closed, frozen, granted, in_role, joined, owned, prepared, rebuilt, released, role_carried, role_closed, role_frozen, role_granted, role_joined, role_owned, role_released}
 use Rattle.rk_transfer.specs.declared.handover.Handover.{Handover}
 use Rattle.rk_transfer.specs.declared.role.Role.{Role}
@@ -46,10 +45,10 @@ use Rattle.rk_world.specs.declared.choice.Choice.{Choice}
 use Rattle.rk_world.specs.declared.choice.Choice.TheVariants.{Redirects, Repeats, Ignores, Wants, Reads, Writes, Refuses}
 use Rattle.rk_world.specs.declared.work.Merged.{Merged}
 use Rattle.rk_world.specs.declared.work.Reading.{Reading}
-use Rattle.rk_world.specs.Commits.{apply_entries, apply_entry, newly_held, noting, stored_taken, told_length, with_applied, with_ended, with_entry_item}
+use Rattle.rk_world.specs.Commits.{apply_entries, apply_entry, newly_held, noting, stored_taken, with_applied, with_ended, with_entry_item}
 use Rattle.rk_world.specs.Ends.{items_of, told_by}
 use Rattle.rk_world.specs.Gather.{by_member, gather_begun, is_awaited, next_reading}
-use Rattle.rk_world.specs.Handovers.{carried_entry, close_taken, closing, given_up, grant_taken, granting, is_greater, own_taken, owning, prepare_taken, preparing, ready, ready_again, release_taken, releasing, tablet_closed, tablet_prepared, transfer, transferring, with_move, with_others_given_up}
+use Rattle.rk_world.specs.Handovers.{carried_entry, close_taken, closing, given_up, grant_taken, granting, is_greater, own_taken, owning, prepare_taken, preparing, ready, ready_again, release_taken, releasing, transfer, with_move, with_others_given_up}
 use Rattle.rk_world.specs.Lineage.{own_member}
 use Rattle.rk_world.specs.Master.{Master, is_settled, tablet_at, with_all, with_appended, with_known, with_tablet, without_items}
 use Rattle.rk_world.specs.MasterStep.{backup_message, client_message, master_step, order, peer_message, told_master}
@@ -57,16 +56,15 @@ use Rattle.rk_world.specs.MasterTurn.{duties, master_turn, reading_duty, tablet_
 use Rattle.rk_world.specs.Material.{as_entries}
 use Rattle.rk_world.specs.Merge.{merge}
 use Rattle.rk_world.specs.Pulls.{got_taken, hashes_resolved, item_replayed, pull_taken, pulled_taken, replay, replay_one, want_taken, with_pulled, with_pulling}
-use Rattle.rk_world.specs.Ranges.{has_key}
 use Rattle.rk_world.specs.Rebuilds.{begun_from, beginning, copy_taken, merging, own_material, rebuild_begun, rebuild_goes_on, rebuild_taken, rebuilding_on, rebuilt_entry, segment_gathered, with_begun, with_merged, without_foreign}
 use Rattle.rk_world.specs.Requests.{call_of, choice_of, chosen, counted_up, item_of, refusal_of, request_taken}
-use Rattle.rk_world.specs.RoleTests.{is_absent, is_frozen_at, is_gathering, is_receiving_at}
+use Rattle.rk_world.specs.RoleTests.{is_frozen_at, is_gathering, is_receiving_at}
 use Rattle.rk_world.specs.Tablet.{Tablet, no_tablet, pulling_from, with_handover, without_merged}
 use Rattle.rk_world.specs.Waiting.{all_going_on, closing_entry, freezing, going_on_in, is_sealed_stored, joined_entry, tablet_frozen}
 use Rattle.rk_world.specs.Worked.{Worked, changed, from_master, sending}
 use Rattle.rk_laws_formed.proofs.Ledgers.{kept_by_fold}
 use Rattle.rk_laws_formed.proofs.Maps.{All_pairs, above_all, first, get_first, get_later, order_tail}
-use Rattle.rk_laws_settle.proofs.Patient.{ArePatient, ArePatientBeside, IsCalmRole, Waits, WaitsIn, WaitsOn, all_patient, appended_on, appended_patient, at_other, at_put, calm_waits, changed_patient, patient_beside, patient_whole, put_beside, put_patient, put_whole, waits_on}
+use Rattle.rk_laws_settle.proofs.Patient.{ArePatient, IsCalmRole, Waits, WaitsIn, WaitsOn, all_patient, appended_on, appended_patient, at_other, at_put, calm_waits, changed_patient, patient_beside, put_beside, put_patient, put_whole, waits_on}
 
 -- ---- tests
 

@@ -1,11 +1,9 @@
 -- What lies on a wire beyond a number: nothing that is on a topic, or one message alone. And what an arrival leaves of what lay there.
-use Rattle.std.proofs.Common.{◌≡◌, ◌<◌, ◌≤◌, ◌+◌, ℕ, Bool, true, false, cond, List, [], ◌∷◌, ◌++◌, eqb, fold, map, All, Option, None, Some, refl, sym, ap, subst, ◌∙◌, ⊎_elim, arith, length}
-use Rattle.std.specs.Prelude.{Err, Ok, Result}
+use Rattle.std.proofs.Common.{◌≡◌, ◌<◌, ◌≤◌, ◌+◌, ℕ, Bool, true, false, cond, List, [], ◌∷◌, ◌++◌, eqb, fold, map, All, Option, None, Some, refl, sym, ap, subst, ◌∙◌, ⊎_elim, arith}
 use Rattle.std.proofs.lemmas.Bool.{cases_eq, cond-false, false≢true, ne_eqb}
 use Rattle.std.proofs.lemmas.List.Elements.{All-head, All-tail}
 use Rattle.rk_types.proofs.NumberMaps.{get_other, get_remove, get_removed, get_same, remove_less}
 use Rattle.rk_types.specs.NumberMap.{NumberMap, get, remove}
-use Rattle.rk_types.specs.declared.call.Call.{Call}
 use Rattle.rk_types.specs.declared.node.Node.{Node}
 use Rattle.rk_types.specs.declared.node.Node.TheVariants as nodes
 use Rattle.rk_outside.specs.Segments.{Segments}
@@ -19,14 +17,13 @@ use Rattle.rk_world.specs.MasterStep.{master_step}
 use Rattle.rk_world.specs.Replies.{filled}
 use Rattle.rk_world.specs.Refusals.{accept_refusal, refusal, wire_fault}
 use Rattle.rk_world.specs.Runs.{world_stepped, world_visited}
-use Rattle.rk_world.specs.Step.{backed_at, delivered, delivered_to, ledger_after, log_bytes_of, losing, quietly, seen_in, step, stepped_by, to_backup, to_master, with_sends, worked_at}
+use Rattle.rk_world.specs.Step.{backed_at, delivered, delivered_to, ledger_after, log_bytes_of, losing, quietly, seen_in, step, stepped_by, with_sends, worked_at}
 use Rattle.rk_world.specs.World.{World, has_crashed, is_backup, master_at, with_stored_by, with_top, with_wire}
 use Rattle.rk_world.specs.declared.error.StepError.{StepError}
 use Rattle.rk_world.specs.declared.event.Event.TheVariants as events
 use Rattle.rk_world.specs.declared.event.Taken.TheVariants as takes_of
 use Rattle.rk_settle.specs.Topics.{is_on}
-use Rattle.rk_laws_formed.proofs.Rises.{sent_all}
-use Rattle.rk_laws_wires.specs.Emptied.{Accepts, Arrival, Delivers, Loses, arrived, forgotten, taken_off}
+use Rattle.rk_laws_wires.specs.Emptied.{Accepts, Arrival, Delivers, Loses, arrived, forgotten}
 use Rattle.rk_laws_settle.proofs.ExchangeTasks.{Topic}
 
 -- ---- beyond a number

@@ -1,5 +1,5 @@
 -- A round in which a master takes its turn, and a log exchange or a batch of a pull follows: what each master has of a tablet goes on.
-use Rattle.std.proofs.Common.{◌≡◌, ◌<◌, ◌≤◌, ℕ, Bool, true, false, cond, List, [], ◌∷◌, ◌++◌, map, Option, None, Some, refl, sym, ap, subst, ◌∙◌, ⊎_elim, arith}
+use Rattle.std.proofs.Common.{◌≡◌, ◌<◌, ℕ, Bool, true, false, cond, List, [], ◌∷◌, ◌++◌, Option, None, Some, refl, sym, subst, ◌∙◌, ⊎_elim, arith}
 use Rattle.std.specs.Prelude.{unwrap_or}
 use Rattle.std.proofs.lemmas.Bool.{cases_eq, false≢true}
 use Rattle.rk_types.specs.NumberMap.{IsInOrder, get}
@@ -8,7 +8,6 @@ use Rattle.rk_types.specs.declared.node.Node.{Node}
 use Rattle.rk_types.specs.declared.node.Node.TheVariants as nodes
 use Rattle.rk_log.specs.Log.{overreach}
 use Rattle.rk_outside.specs.Segments.{Segments}
-use Rattle.rk_message.specs.Wire.{without_message}
 use Rattle.rk_message.specs.declared.message.Body.{Body}
 use Rattle.rk_message.specs.declared.message.Body.TheVariants as bodies
 use Rattle.rk_message.specs.declared.message.Message.{Message}
@@ -25,19 +24,17 @@ use Rattle.rk_world.specs.MasterTurn.{master_turn}
 use Rattle.rk_world.specs.Refusals.{accept_refusal, refusal}
 use Rattle.rk_world.specs.RoleTests.{is_frozen_at}
 use Rattle.rk_world.specs.Runs.{world_stepped, world_visited}
-use Rattle.rk_world.specs.Step.{backed_at, delivered, delivered_to, log_bytes_of, losing, quietly, seen_in, step, stepped_by, to_backup, turned, with_sends, worked_at}
+use Rattle.rk_world.specs.Step.{backed_at, delivered, delivered_to, log_bytes_of, losing, quietly, seen_in, step, stepped_by, with_sends, worked_at}
 use Rattle.rk_world.specs.Worked.{Worked, changed}
-use Rattle.rk_world.specs.World.{World, has_crashed, is_backup, master_at, tablet_in, with_stored_by, with_top, with_wire}
+use Rattle.rk_world.specs.World.{World, has_crashed, is_backup, master_at, tablet_in, with_stored_by}
 use Rattle.rk_world.specs.declared.error.StepError.{StepError}
 use Rattle.rk_world.specs.declared.event.Event.TheVariants as events
 use Rattle.rk_world.specs.declared.event.Taken.TheVariants as takes_of
 use Rattle.rk_settle.specs.Course.{Course}
 use Rattle.rk_settle.specs.Tasks.{round_of, turn_exchange}
 use Rattle.rk_settle.specs.Topics.{is_on}
-use Rattle.rk_laws_history.proofs.Clusters.{IsGoodLane}
-use Rattle.rk_laws_history.proofs.Runs.{Lasts}
 use Rattle.rk_laws_parts.proofs.Masters.{master_other, master_same}
-use Rattle.rk_laws_wires.specs.Emptied.{Accepts, Arrival, Delivers, Loses, arrived, forgotten, taken_off}
+use Rattle.rk_laws_wires.specs.Emptied.{Accepts, Arrival, Delivers, Loses, arrived, forgotten}
 use Rattle.rk_laws_settle.proofs.Delivering.{ArrivesAt}
 use Rattle.rk_laws_settle.proofs.ExchangeTasks.{Topic, log_topic, pull_topic, sorts}
 use Rattle.rk_laws_settle.proofs.Exchanged.{Sends, turning}

@@ -1,12 +1,12 @@
 -- Who sends on its turn in a migration: a target that pulls, and one that has all but is not done with its closing entry.
-use Rattle.std.proofs.Common.{◌≡◌, ◌≢◌, ◌<◌, ◌≤◌, ◌+◌, ◌-◌, ◌==◌, ◌&&◌, ◌++◌, ℕ, zero, suc, Bool, true, false, cond, not, nat_lt, List, [], ◌∷◌, length, get_or, find, map, All, Option, None, Some, is_some, refl, sym, ap, subst, ◌∙◌, ⊎_elim, arith, length-append}
+use Rattle.std.proofs.Common.{◌≡◌, ◌<◌, ◌≤◌, ◌+◌, ◌-◌, ◌==◌, ◌&&◌, ◌++◌, ℕ, zero, suc, Bool, true, false, cond, not, List, [], ◌∷◌, length, get_or, find, map, All, Option, None, Some, is_some, refl, sym, ap, subst, ◌∙◌, ⊎_elim, arith, length-append}
 use Rattle.std.specs.Prelude.{unwrap_or}
 use Rattle.std.specs.List.{list_all, range_with_len}
 use Rattle.std.specs.Option.{option_map, option_map_or, option_or}
 use Rattle.std.specs.Ordering.{eq_by_cmp, nat_cmp}
-use Rattle.std.proofs.lemmas.Bool.{cases_lt, cond-true, eq-eqb, false≢true, lt-ltb}
+use Rattle.std.proofs.lemmas.Bool.{cases_lt, eq-eqb, false≢true}
 use Rattle.std.proofs.lemmas.List.{length-map}
-use Rattle.std.proofs.lemmas.List.Elements.{All-contains, All-head, All-tail}
+use Rattle.std.proofs.lemmas.List.Elements.{All-head, All-tail}
 use Rattle.std.proofs.lemmas.List.Folds.{length-flat_map-take}
 use Rattle.std.proofs.lemmas.List.FromFn.{get_or-range_with_len, length-range_with_len}
 use Rattle.std.proofs.lemmas.Option.{none-some}
@@ -15,14 +15,14 @@ use Rattle.rk_types.specs.declared.node.Node.TheVariants as nodes
 use Rattle.rk_entry.specs.declared.lists.TheConstants.{FIRST_SIDE_SEGMENT}
 use Rattle.rk_segment.specs.Segment.{NumberedBytes}
 use Rattle.rk_log.specs.Known.{Known, is_whole}
-use Rattle.rk_log.specs.Log.{Log, is_side_stored, known_of, missing, numbered, pending, segment_of, segments, side_segments}
+use Rattle.rk_log.specs.Log.{is_side_stored, known_of, missing, numbered, pending, segment_of, segments, side_segments}
 use Rattle.rk_log.specs.Cut.{cut}
 use Rattle.rk_log.specs.Piece.{PlacedBytes}
 use Rattle.rk_message.specs.declared.message.Message.{Message}
 use Rattle.rk_transfer.specs.declared.role.Role.{Role}
 use Rattle.rk_transfer.specs.declared.role.Role.TheVariants as roles
 use Rattle.rk_world.specs.Backup.{Gave}
-use Rattle.rk_world.specs.Master.{Master, new_master, tablet_at}
+use Rattle.rk_world.specs.Master.{Master}
 use Rattle.rk_world.specs.MasterTurn.{append_of, appends, duties, master_turn, pull_of, tablet_duty, want_of, with_outstanding}
 use Rattle.rk_world.specs.Refusals.{refusal, where_true}
 use Rattle.rk_world.specs.Replies.{filled}
@@ -200,8 +200,8 @@ module _ (master : Master) (number : ℕ) (backed : 1 ≤ length master.log.know
       go None is never = absurd (false≢true never)
       go (Some segment) is some =
           by segment is (ap (λ (o : Option NumberedBytes). option_map_or (λ it. list_all (λ k. is_whole k it) known) o false) (sym is) ∙ unstored)
+      -- the first side segment that is not stored is sent on
 
-  -- the first side segment that is not stored is sent on
 sealed_sent : (master : Master) (sealed : List ℕ) → 1 ≤ length master.log.known → All (λ n. FIRST_SIDE_SEGMENT ≤ n) sealed
     → All (λ n. n < FIRST_SIDE_SEGMENT + length master.log.sides) sealed → list_all (is_side_stored master.log) sealed ≡ false → 1 ≤ length (appends master)
 sealed_sent master [] backed low high never = absurd (false≢true (sym never))

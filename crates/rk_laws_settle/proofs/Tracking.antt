@@ -1,7 +1,7 @@
 -- What holds of a lane all through an exchange, where each message on its topic that is delivered keeps it.
 use Rattle.std.proofs.Common.{◌≡◌, ◌<◌, ◌≤◌, ◌+◌, ◌-◌, ◌==◌, ◌||◌, ℕ, zero, suc, Bool, true, false, cond, not, List, [], ◌∷◌, ◌++◌, All, filter, find, map, Option, None, Some, is_some, refl, sym, ap, subst, ◌∙◌, append_assoc, ⊎_elim, arith}
 use Rattle.std.specs.List.{range_with_len}
-use Rattle.std.proofs.lemmas.Bool.{cases_eq, cases_lt, eqb-false, eqb-true, eq-eqb, false≢true, or_right, true≢false}
+use Rattle.std.proofs.lemmas.Bool.{cases_lt, eqb-true, false≢true, or_right}
 use Rattle.std.proofs.lemmas.List.Elements.{All-head, All-tail, All-weaker, filter_passes}
 use Rattle.std.proofs.lemmas.Option.{none-some}
 use Rattle.rk_types.specs.NumberMap.{get}
@@ -37,7 +37,7 @@ use Rattle.rk_laws_settle.proofs.Tasks.{Task, delivers}
 -- ---- lists
 
 -- what is in a list and passes is in the filtered one
-is_in_filtered : (test : ℕ → Bool) (list : List ℕ) (n : ℕ) → is_in n list ≡ true → test n ≡ true → is_in n (filter test list) ≡ true
+pub is_in_filtered : (test : ℕ → Bool) (list : List ℕ) (n : ℕ) → is_in n list ≡ true → test n ≡ true → is_in n (filter test list) ≡ true
 is_in_filtered test [] n none passes = none
 is_in_filtered test (first ∷ list) n some passes = go (first == n) refl some (λ later. is_in_filtered test list n later passes)
   where

@@ -1,11 +1,12 @@
 -- The course of a command where the calls of replicas are answered by how far it has come; when `settle` has ended, and when another
 -- command has.
-use Rattle.std.specs.Prelude.{◌≡◌, ◌≤◌, ◌⊎◌, ℕ, zero, suc, true, List, [], is_some}
+use Rattle.std.specs.Prelude.{◌≡◌, ◌≤◌, ◌⊎◌, ℕ, zero, suc, true, List, [], Option, None, is_some}
 use Rattle.rk_log.specs.declared.copied.TheConstants.{MOST_BACKUPS}
 use Rattle.rk_world.specs.Backup.{Called}
 use Rattle.rk_world.specs.Cluster.{Cluster, Occurrence, cluster_run, new_cluster}
 use Rattle.rk_world.specs.ClusterRuns.{IsRun}
 use Rattle.rk_world.specs.Premises.{MOST_MASTERS}
+use Rattle.rk_cluster.specs.declared.code.Code.{Code}
 use Rattle.rk_settle.specs.Commanded.{SettlingCommand}
 use Rattle.rk_settle.specs.Course.{Course, course_of, error_of, moved}
 use Rattle.rk_settle.specs.Rest.{is_at_rest}
@@ -65,3 +66,12 @@ AlwaysEnds command =
     → let cluster = cluster_run (new_cluster masters backups) before in
     let course = course_of cluster (command cluster) in
     AreAdded cluster → AllAnsweredIn answers course → Finishes answers course
+
+-- a command ends where it is not refused by a code
+abbrev pub EndsUnlessRefused : (Cluster → Option Code) → SettlingCommand → Type 0
+EndsUnlessRefused code command =
+    (masters backups : ℕ) (before : List Occurrence) (answers : Answers)
+    → masters ≤ MOST_MASTERS → 1 ≤ backups → backups ≤ MOST_BACKUPS → IsRun (new_cluster masters backups) before
+    → let cluster = cluster_run (new_cluster masters backups) before in
+    let course = course_of cluster (command cluster) in
+    AreAdded cluster → code cluster ≡ None → AllAnsweredIn answers course → Finishes answers course

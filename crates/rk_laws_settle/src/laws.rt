@@ -8,9 +8,12 @@ ghost use Rattle.rk_world.specs.Premises.{MOST_MASTERS};
 ghost use Rattle.rk_play.specs.Played.{played};
 ghost use Rattle.rk_play.specs.Runs.{IsLedTo};
 ghost use Rattle.rk_laws_duties.specs.Added.{AreAdded};
+ghost use Rattle.rk_settle.specs.Advance.{advance};
+ghost use Rattle.rk_settle.specs.Codes.{advance_code};
 ghost use Rattle.rk_settle.specs.Priority.{priority};
 ghost use Rattle.rk_settle.specs.Serve.{serve};
-ghost use Rattle.rk_laws_settle.specs.Moves.{AllAnswered, AlwaysEnds, Answers, Ends, settling};
+ghost use Rattle.rk_settle.specs.declared.reach.Reach.{Reach};
+ghost use Rattle.rk_laws_settle.specs.Moves.{AllAnswered, AlwaysEnds, Answers, Ends, EndsUnlessRefused, settling};
 ghost use Rattle.rk_laws_settle.specs.Scripts.{Settles};
 
 /// `settle` ends. It begins in a cluster to which a run of a new one has led, and where each client that has a session was added in each lane.
@@ -28,15 +31,17 @@ pub fn settle_ends()
         AreAdded cluster → AllAnswered answers cluster → Ends answers (settling cluster) }
 {}
 
-/// `priority` ends for each tablet, and `serve` for each client, also where the command would be refused: after finitely many moves no task is
-/// left, or the command stops, since a lane is worn or replicas have failed in too many rounds. It is so in each cluster to which a run of a
-/// new one has led, and where each client that has a session was added in each lane, whatever the calls of replicas come to, where replicas
-/// answer as they may, and what they store.
+/// `priority` ends for each tablet, and `serve` for each client, also where the command would be refused; and `advance` ends for each tablet and
+/// reach where it is not refused: after finitely many moves no task is left, or the command stops, since a lane is worn or replicas have failed
+/// in too many rounds. It is so in each cluster to which a run of a new one has led, and where each client that has a session was added in each
+/// lane, whatever the calls of replicas come to, where replicas answer as they may, and what they store.
 ///
-/// `AlwaysEnds` says that of a command, with the premises of `settle_ends` (Moves here).
+/// `AlwaysEnds` says that of a command, with the premises of `settle_ends`, and `EndsUnlessRefused` with one more, that the code by which the
+/// command is refused does not apply (Moves here). `advance` needs that: a target that has crashed takes no turn, however often it is asked to.
 pub fn commands_end()
     ensures priority { (tablet : ℕ) → AlwaysEnds (λ cluster. priority cluster tablet) }
     ensures serve { (client : ℕ) → AlwaysEnds (λ cluster. serve cluster client) }
+    ensures advance { (tablet : ℕ) (reach : Reach) → EndsUnlessRefused (λ cluster. advance_code cluster tablet reach) (λ cluster. advance cluster tablet reach) }
 {}
 
 /// `settle` ends where the run of a script has ended, whatever the script says and however its run ended: there each client that has a session
