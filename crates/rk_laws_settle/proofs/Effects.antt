@@ -77,7 +77,7 @@ module _ (topic : Topic) (coordinator : Coordinator) (tablet : ℕ)
             before = [];
             behind = flat_map duty_of rows;
             is = ap (λ (list : List Message). list ++ flat_map duty_of rows) (ap duty_of same ∙ duty);
-            off_before = All-nil _;
+            off_before = All-nil (λ (m : Message). is_on topic m.body ≡ false);
             off_behind = behind_off first rows (eqb-true first.tablet tablet is) lies.0;
           }
       go false is there later =

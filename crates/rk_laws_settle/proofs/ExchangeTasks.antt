@@ -53,7 +53,7 @@ call_topic = calling (λ cluster lane client. refl)
 
 -- ---- priority
 
--- what makes the tasks of a command
+-- each of these finds what makes the tasks of a list, which has no name here
 abbrev hastening : {f : ℕ → ℕ → Task} → ((cluster : Cluster) (tablet : ℕ) → priority cluster tablet ≡ map (λ lane. f lane tablet) (lane_numbers cluster)) → ℕ → ℕ → Task
 hastening {f} same = f
 
