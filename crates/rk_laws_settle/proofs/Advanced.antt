@@ -1,5 +1,5 @@
 -- `advance` ends where it is not refused.
-use Rattle.std.proofs.Common.{◌≡◌, ◌<◌, ◌≤◌, ◌+◌, ◌==◌, ◌||◌, ℕ, zero, suc, Bool, true, false, not, nat_le, List, [], ◌∷◌, length, map, Option, None, Some, refl, sym, ap, subst, ◌∙◌, inl, inr, ⊎_elim, arith}
+use Rattle.std.proofs.Common.{◌≡◌, ◌<◌, ◌≤◌, ◌+◌, ◌==◌, ◌||◌, ℕ, zero, suc, Bool, true, false, not, nat_le, List, [], ◌∷◌, length, map, Option, None, Some, refl, sym, ap, subst, ◌∙◌, inl, inr, arith}
 use Rattle.std.specs.List.{list_any, range_with_len}
 use Rattle.std.proofs.lemmas.Bool.{eqb-true, false≢true, true≢false}
 use Rattle.std.proofs.lemmas.Option.{none-some}
@@ -8,7 +8,7 @@ use Rattle.rk_tablet_map.specs.Rows.{row_of}
 use Rattle.rk_tablet_map.specs.declared.phase.Phase.{Phase}
 use Rattle.rk_tablet_map.specs.declared.phase.Phase.TheVariants.{Owned, Opening, Moving, Rebuilding}
 use Rattle.rk_tablet_map.specs.declared.row.Row.{Row}
-use Rattle.rk_world.specs.Cluster.{Cluster, cluster_run, lane_at, new_cluster}
+use Rattle.rk_world.specs.Cluster.{Cluster, lane_at}
 use Rattle.rk_world.specs.World.{World, has_crashed}
 use Rattle.rk_cluster.specs.Codes.{code_where, first_code}
 use Rattle.rk_cluster.specs.Looks.{all_lanes, is_tablet}
@@ -19,12 +19,12 @@ use Rattle.rk_settle.specs.Codes.{advance_code, has_dead_migration, has_dead_par
 use Rattle.rk_settle.specs.Course.{Course, course_of}
 use Rattle.rk_settle.specs.Reaches.{is_short_of}
 use Rattle.rk_settle.proofs.Unfolded.{advance_are}
-use Rattle.rk_laws_play.proofs.Masters.{names_masters}
 use Rattle.rk_laws_play.proofs.Reaching.{reached_eight}
-use Rattle.rk_laws_settle.specs.Moves.{EndsUnlessRefused, after_moves}
+use Rattle.rk_laws_settle.specs.Moves.{EndsUnlessRefused}
 use Rattle.rk_laws_settle.proofs.Advancing.{advancing}
 use Rattle.rk_laws_settle.proofs.ExchangeTasks.{Reach, advances}
-use Rattle.rk_laws_settle.proofs.Going.{Comes, Goes, IsDone, comes_here, goes_done, goes_on}
+use Rattle.rk_laws_settle.proofs.Finishing.{ends_unless}
+use Rattle.rk_laws_settle.proofs.Going.{Comes, Goes, comes_here, goes_done, goes_on}
 use Rattle.rk_laws_settle.proofs.Migrating.{First, migrates, migrates_by}
 use Rattle.rk_laws_settle.proofs.Noticing.{in_range, is_in}
 use Rattle.rk_laws_settle.proofs.Ordering.{IsLaneNow}
@@ -137,31 +137,7 @@ module _ (s : Setting) (tablet : ℕ) (reach : Reach) (first : (lane : ℕ) → 
       (ap (λ (count : ℕ). map (λ lane. advances lane tablet reach) (range_with_len 0 count)) (reached_eight s.masters s.backups s.start s.reached)) (λ q above. refl)
 
 pub advance_ends : (tablet : ℕ) (reach : Reach) → EndsUnlessRefused (λ cluster. advance_code cluster tablet reach) (λ cluster. advance cluster tablet reach)
-advance_ends tablet reach masters backups before answers few backed few_backups run added allowed answered =
-    record {
-      moves = there.moves;
-      over =
-          ⊎_elim (λ (done : IsDone (after_moves answers there.moves begins)). done)
-          (λ (never : Comes s s.start (after_moves answers there.moves begins) × Never (after_moves answers there.moves begins)). absurd never.1) there.is;
-    }
-  where
-    s : Setting
-    s = record {
-      answers = answers;
-      masters = masters;
-      backups = backups;
-      start = cluster_run (new_cluster masters backups) before;
-      reached = record { few_masters = few; backed = backed; few_backups = few_backups; before = before; run = run; is = refl };
-    }
-
-    begins : Course
-    begins = course_of s.start (advance s.start tablet reach)
-
-    there : Goes s s.start begins Never
-    there =
-        advanced s tablet reach (first_at s.start tablet reach (reached_eight masters backups s.start s.reached) allowed)
-        (record {
-          coursing = record { from = refl; runs = λ none. (tt, advance_are masters s.start (names_masters masters backups s.start s.reached) tablet reach) };
-          answered = answered;
-          added = added;
-        })
+advance_ends tablet reach =
+    ends_unless (λ cluster. advance_code cluster tablet reach) (λ cluster. advance cluster tablet reach)
+    (λ masters cluster names. advance_are masters cluster names tablet reach)
+    (λ s allowed sane. advanced s tablet reach (first_at s.start tablet reach (reached_eight s.masters s.backups s.start s.reached) allowed) sane)

@@ -1,8 +1,9 @@
 -- A command ends where its course goes on until it is done. Commands do the same in each lane, one after the other.
-use Rattle.std.proofs.Common.{◌≡◌, ◌<◌, ◌+◌, ℕ, zero, suc, List, [], ◌∷◌, map, refl, ap, ◌∙◌, inl, ⊎_elim, arith}
+use Rattle.std.proofs.Common.{◌≡◌, ◌<◌, ◌+◌, ℕ, zero, suc, List, [], ◌∷◌, map, Option, None, refl, ap, ◌∙◌, inl, ⊎_elim, arith}
 use Rattle.std.specs.List.{range_with_len}
 use Rattle.rk_types.specs.declared.hashing.TheConstants.{LANES}
 use Rattle.rk_world.specs.Cluster.{Cluster, cluster_run, new_cluster}
+use Rattle.rk_cluster.specs.declared.code.Code.{Code}
 use Rattle.rk_settle.specs.Commanded.{SettlingCommand}
 use Rattle.rk_settle.specs.Course.{Course, course_of}
 use Rattle.rk_settle.specs.Lawful.{AreTasks}
@@ -10,7 +11,7 @@ use Rattle.rk_settle.specs.Settle.{lane_numbers}
 use Rattle.rk_settle.proofs.Unfolded.{NamesMasters}
 use Rattle.rk_laws_play.proofs.Masters.{names_masters}
 use Rattle.rk_laws_play.proofs.Reaching.{reached_eight}
-use Rattle.rk_laws_settle.specs.Moves.{AlwaysEnds, after_moves}
+use Rattle.rk_laws_settle.specs.Moves.{AlwaysEnds, EndsUnlessRefused, after_moves}
 use Rattle.rk_laws_settle.proofs.Exchanging.{HasLeft}
 use Rattle.rk_laws_settle.proofs.Going.{Comes, Goes, IsDone, comes_here, goes_done, goes_on}
 use Rattle.rk_laws_settle.proofs.Rounds.{Never}
@@ -21,10 +22,10 @@ use Rattle.rk_laws_settle.proofs.Tasks.{Task}
 abbrev beginning : Setting → SettlingCommand → Course
 beginning s command = course_of s.start (command s.start)
 
--- a command ends where its course, which is sane at its beginning, is done some day
-pub always_ends : (command : SettlingCommand) → ((masters : ℕ) (cluster : Cluster) → NamesMasters masters cluster → AreTasks masters (command cluster))
-    → ((s : Setting) → IsSane s (beginning s command) → Goes s s.start (beginning s command) Never) → AlwaysEnds command
-always_ends command lawful goes masters backups before answers few backed few_backups run added answered =
+-- a command ends where its course, which is sane at its beginning, is done some day unless the command is refused
+pub ends_unless : (code : Cluster → Option Code) (command : SettlingCommand) → ((masters : ℕ) (cluster : Cluster) → NamesMasters masters cluster → AreTasks masters (command cluster))
+    → ((s : Setting) → code s.start ≡ None → IsSane s (beginning s command) → Goes s s.start (beginning s command) Never) → EndsUnlessRefused code command
+ends_unless code command lawful goes masters backups before answers few backed few_backups run added allowed answered =
     record {
       moves = there.moves;
       over =
@@ -44,12 +45,17 @@ always_ends command lawful goes masters backups before answers few backed few_ba
 
     there : Goes s s.start (beginning s command) Never
     there =
-        goes s
+        goes s allowed
         (record {
           coursing = record { from = refl; runs = λ none. (tt, lawful masters s.start (names_masters masters backups s.start s.reached)) };
           answered = answered;
           added = added;
         })
+
+-- so does one whose course is done some day, whether it is refused or not
+pub always_ends : (command : SettlingCommand) → ((masters : ℕ) (cluster : Cluster) → NamesMasters masters cluster → AreTasks masters (command cluster))
+    → ((s : Setting) → IsSane s (beginning s command) → Goes s s.start (beginning s command) Never) → AlwaysEnds command
+always_ends command lawful goes = ends_unless (λ cluster. None) command lawful (λ s free. goes s)
 
 module _ (s : Setting) where
   -- where no task is left the course is done

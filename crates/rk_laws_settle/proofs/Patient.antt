@@ -44,12 +44,12 @@ calm_waits master tablet roles.Closing calm = absurd calm
 calm_waits master tablet (roles.Joining None) calm = absurd calm
 calm_waits master tablet role calm = calm
 
--- what no tablet of a master waits for has come, but for one perhaps
+-- nothing that the tablets of a master wait for has come, but for one of them perhaps
 pub record ArePatientBeside (number : ℕ) (master : Master) : Type 0 where
   pub order : IsInOrder master.tablets
   pub each : (q : ℕ) → (q ≡ number → ⊥) → Waits master (tablet_at master q)
 
--- what no tablet of a master waits for has come
+-- nothing that the tablets of a master wait for has come
 pub record ArePatient (master : Master) : Type 0 where
   pub order : IsInOrder master.tablets
   pub each : (q : ℕ) → Waits master (tablet_at master q)

@@ -7,7 +7,10 @@ use Rattle.rk_world.specs.Backup.{Called}
 use Rattle.rk_world.specs.Cluster.{Cluster, new_cluster}
 use Rattle.rk_world.specs.World.{World, new_world}
 use Rattle.rk_cluster.specs.Numbers.{number_of}
+use Rattle.rk_cluster.specs.declared.code.Code.{Code}
 use Rattle.rk_cluster.specs.declared.code.Code.TheVariants.{TooLate}
+use Rattle.rk_settle.specs.Commanded.{SettlingCommand}
+use Rattle.rk_settle.specs.Course.{course_of}
 use Rattle.rk_script.specs.Script.{script_of}
 use Rattle.rk_script.specs.declared.command.Command.{Command}
 use Rattle.rk_script.specs.declared.command.Command.TheVariants as commands
@@ -20,8 +23,8 @@ use Rattle.rk_play.specs.Runs.{IsLedTo}
 use Rattle.rk_laws_duties.specs.Added.{AreAdded}
 use Rattle.rk_laws_play.specs.Historical.{IsHistorical}
 use Rattle.rk_laws_play.proofs.Playing.{scripts_historical}
-use Rattle.rk_laws_settle.specs.Moves.{AllAnswered, Answers, Ends, settling}
-use Rattle.rk_laws_settle.specs.Scripts.{Settles}
+use Rattle.rk_laws_settle.specs.Moves.{AllAnswered, AllAnsweredIn, Answers, Ends, EndsUnlessRefused, Finishes, settling}
+use Rattle.rk_laws_settle.specs.Scripts.{EndsIn, Settles}
 use Rattle.rk_laws_settle.proofs.Commands.{Leaves, within_own}
 use Rattle.rk_laws_settle.proofs.Owning.{HasOwnClients, own_added}
 use Rattle.rk_laws_settle.proofs.Settled.{reached_ends}
@@ -114,6 +117,16 @@ led_ends answers cluster led added answered =
 pub scripts_end : (script : List ℕ) (calls : List (List Called)) (answers : Answers) → IsLedTo (played script calls).cluster
     → AllAnswered answers (played script calls).cluster → Ends answers (settling (played script calls).cluster)
 scripts_end script calls answers led = led_ends answers (played script calls).cluster led (scripts_added script calls)
+
+-- so does another command that ends in each cluster to which a run has led
+pub scripts_end_commands : (script : List ℕ) (calls : List (List Called)) (answers : Answers) (code : Cluster → Option Code) (command : SettlingCommand)
+    → EndsUnlessRefused code command → EndsIn answers code command (played script calls).cluster
+scripts_end_commands script calls answers code command ends led free answered =
+    subst
+    (λ (cluster : Cluster). AreAdded cluster → code cluster ≡ None → AllAnsweredIn answers (course_of cluster (command cluster)) → Finishes answers (course_of cluster (command cluster)))
+    (sym led.leads.is)
+    (ends led.masters led.backups led.leads.occurred answers led.few_masters led.backed led.few_backups led.leads.run)
+    (scripts_added script calls) free answered
 
 pub scripts_settle : (script : List ℕ) (calls : List (List Called)) (answers : Answers) → Settles answers (played script calls)
 scripts_settle script calls answers =

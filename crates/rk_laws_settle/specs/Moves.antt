@@ -27,13 +27,13 @@ after_moves answers (suc moves) course = after_moves answers moves (moved course
 abbrev pub settling : Cluster → Course
 settling cluster = course_of cluster (settle cluster)
 
--- however many moves are made, replicas have answered as they may, and what they store
-abbrev pub AllAnswered : Answers → Cluster → Type 0
-AllAnswered answers cluster = (moves : ℕ) → AreAnswered cluster (after_moves answers moves (settling cluster)).occurred
-
--- so it is in any course that begins in a cluster
+-- however many moves a course makes that begins in a cluster, replicas have answered as they may, and what they store
 abbrev pub AllAnsweredIn : Answers → Course → Type 0
 AllAnsweredIn answers course = (moves : ℕ) → AreAnswered course.cluster (after_moves answers moves course).occurred
+
+-- so they have in the course of `settle`
+abbrev pub AllAnswered : Answers → Cluster → Type 0
+AllAnswered answers cluster = AllAnsweredIn answers (settling cluster)
 
 -- no task is left, and the cluster is at rest
 abbrev pub HasSettled : Course → Type 0
@@ -57,17 +57,8 @@ pub record Finishes (answers : Answers) (course : Course) : Type 0 where
   pub moves : ℕ
   pub over : IsOver (after_moves answers moves course)
 
--- a command ends. It begins in a cluster to which a run of a new one has led, and where each client that has a session was added in each
--- lane; replicas answer as they may, and what they store
-abbrev pub AlwaysEnds : SettlingCommand → Type 0
-AlwaysEnds command =
-    (masters backups : ℕ) (before : List Occurrence) (answers : Answers)
-    → masters ≤ MOST_MASTERS → 1 ≤ backups → backups ≤ MOST_BACKUPS → IsRun (new_cluster masters backups) before
-    → let cluster = cluster_run (new_cluster masters backups) before in
-    let course = course_of cluster (command cluster) in
-    AreAdded cluster → AllAnsweredIn answers course → Finishes answers course
-
--- a command ends where it is not refused by a code
+-- a command ends where it is not refused by a code. It begins in a cluster to which a run of a new one has led, and where each client that
+-- has a session was added in each lane; replicas answer as they may, and what they store
 abbrev pub EndsUnlessRefused : (Cluster → Option Code) → SettlingCommand → Type 0
 EndsUnlessRefused code command =
     (masters backups : ℕ) (before : List Occurrence) (answers : Answers)
@@ -75,3 +66,7 @@ EndsUnlessRefused code command =
     → let cluster = cluster_run (new_cluster masters backups) before in
     let course = course_of cluster (command cluster) in
     AreAdded cluster → code cluster ≡ None → AllAnsweredIn answers course → Finishes answers course
+
+-- a command ends, also where it would be refused
+abbrev pub AlwaysEnds : SettlingCommand → Type 0
+AlwaysEnds command = EndsUnlessRefused (λ cluster. None) command

@@ -1,20 +1,22 @@
 // The headline laws of settling. Each function does nothing: its contract is the law.
-ghost use Rattle.std.specs.Prelude.{◌≤◌, ℕ, List};
+ghost use Rattle.std.specs.Prelude.{◌≤◌, ℕ, List, Option};
 ghost use Rattle.rk_log.specs.declared.copied.TheConstants.{MOST_BACKUPS};
 ghost use Rattle.rk_world.specs.Backup.{Called};
-ghost use Rattle.rk_world.specs.Cluster.{Occurrence, cluster_run, new_cluster};
+ghost use Rattle.rk_world.specs.Cluster.{Cluster, Occurrence, cluster_run, new_cluster};
 ghost use Rattle.rk_world.specs.ClusterRuns.{IsRun};
 ghost use Rattle.rk_world.specs.Premises.{MOST_MASTERS};
 ghost use Rattle.rk_play.specs.Played.{played};
 ghost use Rattle.rk_play.specs.Runs.{IsLedTo};
 ghost use Rattle.rk_laws_duties.specs.Added.{AreAdded};
+ghost use Rattle.rk_cluster.specs.declared.code.Code.{Code};
 ghost use Rattle.rk_settle.specs.Advance.{advance};
 ghost use Rattle.rk_settle.specs.Codes.{advance_code};
+ghost use Rattle.rk_settle.specs.Commanded.{SettlingCommand};
 ghost use Rattle.rk_settle.specs.Priority.{priority};
 ghost use Rattle.rk_settle.specs.Serve.{serve};
 ghost use Rattle.rk_settle.specs.declared.reach.Reach.{Reach};
 ghost use Rattle.rk_laws_settle.specs.Moves.{AllAnswered, AlwaysEnds, Answers, Ends, EndsUnlessRefused, settling};
-ghost use Rattle.rk_laws_settle.specs.Scripts.{Settles};
+ghost use Rattle.rk_laws_settle.specs.Scripts.{EndsIn, Settles};
 
 /// `settle` ends. It begins in a cluster to which a run of a new one has led, and where each client that has a session was added in each lane.
 /// Whatever the calls of replicas come to, each by all that has occurred before it, where replicas answer as they may, and what they store:
@@ -48,11 +50,16 @@ pub fn commands_end()
 /// was added in each lane (`added`). It is so where a run of a new cluster has led there (`led`), as `play` tells of each script, unless memory
 /// was wanting or its source or its sink failed; and one has where replicas answered as they may in the script (`answered`).
 ///
-/// `IsLedTo` says that a run of a new cluster has led there (`rk_play`, Runs), and `Settles` is `answered` in full (Scripts here).
+/// There, where a run has led, each other command ends too that ends in each cluster to which one has (`commands`, by `commands_end`).
+///
+/// `IsLedTo` says that a run of a new cluster has led there (`rk_play`, Runs), `Settles` is `answered` in full, and `EndsIn` is `commands` in
+/// full (Scripts here).
 pub fn scripts_settle()
     ensures added { (script : List ℕ) (calls : List (List Called)) → AreAdded (played script calls).cluster }
     ensures led { (script : List ℕ) (calls : List (List Called)) (answers : Answers)
         → let cluster = (played script calls).cluster in
         IsLedTo cluster → AllAnswered answers cluster → Ends answers (settling cluster) }
+    ensures commands { (script : List ℕ) (calls : List (List Called)) (answers : Answers) (code : Cluster → Option Code) (command : SettlingCommand)
+        → EndsUnlessRefused code command → EndsIn answers code command (played script calls).cluster }
     ensures answered { (script : List ℕ) (calls : List (List Called)) (answers : Answers) → Settles answers (played script calls) }
 {}
