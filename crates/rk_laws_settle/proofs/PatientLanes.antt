@@ -1,4 +1,4 @@
--- What no tablet of a master waits for has come: in each lane of a cluster to which a run of a new one has led.
+-- Nothing that the tablets of a master wait for has come: in each lane of a cluster to which a run of a new one has led.
 use Rattle.std.proofs.Common.{◌≡◌, ◌<◌, ◌≤◌, ◌+◌, ◌==◌, ℕ, zero, suc, Bool, true, false, cond, List, [], ◌∷◌, ◌++◌, length, Option, None, Some, refl, sym, ap, subst, ◌∙◌, ⊎_elim, arith, length-append}
 use Rattle.std.specs.Prelude.{get_or, unwrap_or}
 use Rattle.std.specs.Option.{option_map_or}

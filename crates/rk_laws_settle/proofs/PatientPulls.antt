@@ -1,4 +1,4 @@
--- What no tablet of a master waits for has come, still after a target took a batch that it pulled: where it has all by then, it waits for its
+-- Nothing that the tablets of a master wait for has come, still after a target took a batch that it pulled: where it has all by then, it waits for its
 -- side segments, which no backup is known to hold.
 use Rattle.std.proofs.Common.{◌≡◌, ◌≤◌, ◌+◌, ◌%◌, ◌==◌, ◌&&◌, ℕ, zero, suc, Bool, true, false, cond, nat_le, List, [], ◌∷◌, ◌++◌, length, fold, map, sum, All, Option, None, Some, refl, sym, ap, subst, ◌∙◌, arith, length-append}
 use Rattle.std.specs.List.{list_all, range_with_len}

@@ -1,4 +1,4 @@
--- What no tablet of a master waits for has come, still after each message that it takes and after its turn.
+-- Nothing that the tablets of a master wait for has come, still after each message that it takes and after its turn.
 use Rattle.std.proofs.Common.{◌≡◌, ◌<◌, ◌==◌, ◌&&◌, ℕ, Bool, true, false, cond, not, nat_lt, List, [], ◌∷◌, length, All, Option, None, Some, refl, sym, ap, subst, ◌∙◌, arith}
 use Rattle.std.specs.Prelude.{IfSome, unwrap_or}
 use Rattle.std.specs.Cmp.{unsigned_tied}
