@@ -11,17 +11,16 @@ use Rattle.rk_outside.specs.Segments.{Segments}
 use Rattle.rk_tablet_map.specs.declared.row.Row.{Row}
 use Rattle.rk_world.specs.Client.{Session, busy, new_session, next_call, session_calling, with_next_call}
 use Rattle.rk_world.specs.Cluster.{Calls, Cluster, called_by_client, lane_at}
-use Rattle.rk_world.specs.ClusterRuns.{Leads}
 use Rattle.rk_world.specs.Formed.{IsFormedRow}
 use Rattle.rk_world.specs.Limits.{Limits, limits_of}
 use Rattle.rk_world.specs.Premises.{IsLawfulCall, MayAct}
 use Rattle.rk_world.specs.Runs.{IsFormedWithRoom}
 use Rattle.rk_world.specs.World.{World, new_world}
 use Rattle.rk_lane.specs.LaneState.{LaneState, Running, world_with}
-use Rattle.rk_cluster.specs.Acted.{quietly}
+use Rattle.rk_cluster.specs.Acted.{acted_well}
 use Rattle.rk_cluster.specs.Calling.{IsAsked}
 use Rattle.rk_cluster.specs.Codes.{MOST_CALLS, call_code, code_where, first_code}
-use Rattle.rk_cluster.specs.Effects.{ActsBy, ActsOne, HasCode, IsActedAs}
+use Rattle.rk_cluster.specs.Effects.{ActsBy, ActsOne, HasCode, IsActedAs, RunsTo}
 use Rattle.rk_cluster.specs.Looks.{calls_asked, calls_of, has_table, is_client, rows_of}
 use Rattle.rk_cluster.specs.Makes.{call_makes}
 use Rattle.rk_cluster.specs.State.{IsOf, IsWorld}
@@ -138,7 +137,7 @@ module _ {R : Type 0} (segments : R → Option Segments) (lanes : List (LaneStat
     calls_one lawful cluster is =
         let here : get cluster.sessions client ≡ Some asked.session = ap (λ (known : NumberMap Session). get known client) is.sessions ∙ asked.found in
         let free : busy asked.session ≡ None = ap (λ call. option_map (λ c. c.seq) call) asked.free in
-        subst (λ (found : Option Session). IsActedAs segments cluster (state_of lanes later) [] None (quietly (called_by_client cluster client table key op found))) (sym here)
+        subst (λ (found : Option Session). IsActedAs segments cluster (state_of lanes later) [] None (acted_well (Calls client table key op) (called_by_client cluster client table key op found))) (sym here)
         (record {
           cluster = record {
             lanes = is.lanes;
@@ -146,7 +145,7 @@ module _ {R : Type 0} (segments : R → Option Segments) (lanes : List (LaneStat
                 (λ i. insert (is.sessions i) client (session_calling asked.session table key op (free i))) ∙ sym asked.asked;
           };
           leads =
-              subst (λ (found : Option Session). Leads cluster (called_by_client cluster client table key op found)) here
+              subst (λ (found : Option Session). RunsTo cluster (Calls client table key op ∷ []) (called_by_client cluster client table key op found)) here
               (leads_by cluster (Calls client table key op)
               (subst (λ (found : Option Session). IsLawfulCall (next_call (unwrap_or found (new_session client)) table key op)) (sym here) lawful) tt tt);
           said = refl;

@@ -4,7 +4,7 @@ use Rattle.rk_types.specs.declared.node.Said.{Said}
 use Rattle.rk_outside.specs.Segments.{Segments}
 use Rattle.rk_world.specs.Cluster.{Cluster, Occurrence}
 use Rattle.rk_cluster.specs.Acted.{Acted, acted, all_acted, going_on}
-use Rattle.rk_cluster.specs.Effects.{Acts, ActsOne, Carries, IsActedAs}
+use Rattle.rk_cluster.specs.Effects.{Acts, ActsOne, Carries, IsActedAs, RunsTo}
 use Rattle.rk_cluster.specs.State.{ClusterState}
 use Rattle.rk_cluster.proofs.Leading.{leads_nowhere, leads_on}
 
@@ -17,7 +17,7 @@ module _ {R : Type 0} (segments : R → Option Segments) where
       subst (λ (o : Option ℕ). IsActedAs segments before final told broken (going_on it o (λ cluster. all_acted cluster later))) (sym is.worn)
       (record {
         cluster = after.cluster;
-        leads = leads_on before it.cluster (all_acted it.cluster later).cluster is.leads after.leads;
+        leads = leads_on before it.cluster (all_acted it.cluster later).cluster it.came (all_acted it.cluster later).came is.leads after.leads;
         said = ap (λ (said : List Said). said ++ (all_acted it.cluster later).said) is.said ∙ after.said;
         worn = after.worn;
       })
@@ -40,11 +40,16 @@ module _ {R : Type 0} (segments : R → Option Segments) where
   worn_acts old next occurrence later number one cluster is = worn_stays cluster next [] number later (acted cluster occurrence) (one cluster is)
 
   -- one occurrence alone, and none
-  last_stays : (before : Cluster) (next : ClusterState R) (told : List Said) (it : Acted) → IsActedAs segments before next told None it
+  pub last_stays : (before : Cluster) (next : ClusterState R) (told : List Said) (it : Acted) → IsActedAs segments before next told None it
       → IsActedAs segments before next told None (going_on it it.worn (λ cluster. all_acted cluster []))
   last_stays before next told it is =
       subst (λ (o : Option ℕ). IsActedAs segments before next told None (going_on it o (λ cluster. all_acted cluster []))) (sym is.worn)
-      (record { cluster = is.cluster; leads = is.leads; said = append-nil it.said ∙ is.said; worn = refl })
+      (record {
+        cluster = is.cluster;
+        leads = subst (λ (came : List Occurrence). RunsTo before came it.cluster) (sym (append-nil it.came)) is.leads;
+        said = append-nil it.said ∙ is.said;
+        worn = refl;
+      })
 
   pub only_acts : (old next : ClusterState R) (occurrence : Occurrence) (told : List Said) → ActsOne segments old next occurrence told None
       → Acts segments old next (occurrence ∷ []) told None

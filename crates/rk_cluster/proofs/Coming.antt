@@ -1,5 +1,5 @@
 -- A client's turn or answer in a lane is one in the cluster.
-use Rattle.std.proofs.Common.{◌≡◌, ◌≢◌, ◌<◌, ℕ, List, [], length, Option, None, Some, Result, Ok, Err, IfErr, IfOk, IfSome, IsSomeAnd, OnErr, is_some, slice_get, slice_set, unwrap_or, refl, sym, ap, subst, ◌∙◌, ⊎_elim, arith}
+use Rattle.std.proofs.Common.{◌≡◌, ◌≢◌, ◌<◌, ℕ, List, [], ◌∷◌, length, Option, None, Some, Result, Ok, Err, IfErr, IfOk, IfSome, IsSomeAnd, OnErr, is_some, slice_get, slice_set, unwrap_or, refl, sym, ap, subst, ◌∙◌, inl, inr, ⊎_elim, arith}
 use Rattle.std.proofs.lemmas.Bool.{cases_eq}
 use Rattle.std.proofs.lemmas.List.Elements.{All-nil}
 use Rattle.std.proofs.lemmas.Option.{slice_get_within}
@@ -11,23 +11,27 @@ use Rattle.rk_outside.specs.Segments.{Segments}
 use Rattle.rk_world.specs.Base.{Base, no_base}
 use Rattle.rk_world.specs.Calls.{Visited, accept, accept_by, ask, ask_by}
 use Rattle.rk_world.specs.Client.{Session, new_session}
-use Rattle.rk_world.specs.Cluster.{Accepts, Asks, Cluster, cluster_visited, lane_at, session_at}
-use Rattle.rk_world.specs.ClusterRuns.{Leads}
+use Rattle.rk_world.specs.Cluster.{Accepts, Asks, Cluster, ClusterMay, KeepsCalm, Occurrence, cluster_after, cluster_visited, lane_at, session_at}
+use Rattle.rk_world.specs.ClusterRuns.{ReplicasTell}
 use Rattle.rk_world.specs.Premises.{IsAfterStart}
 use Rattle.rk_world.specs.Refusals.{accept_refusal, ask_refusal}
+use Rattle.rk_world.specs.Replicas.{AllTell}
+use Rattle.rk_world.specs.Runs.{world_visited}
 use Rattle.rk_world.specs.World.{World, new_world}
 use Rattle.rk_world.specs.declared.error.StepError.{StepError}
 use Rattle.rk_world.specs.declared.error.StepError.TheVariants as causes
 use Rattle.rk_world.specs.declared.event.Seen.{Seen}
 use Rattle.rk_lane.specs.LaneState.{AreTold, LaneState, Running, world_with}
 use Rattle.rk_lane.specs.Visits.{IsRefusedFor, IsVisitOf}
-use Rattle.rk_cluster.specs.Acted.{said_by, said_in, worn_in}
-use Rattle.rk_cluster.specs.Effects.{ActsOne, IsActedAs}
+use Rattle.rk_cluster.specs.Acted.{acted_by, came_in, said_by, said_in, worn_in}
+use Rattle.rk_cluster.specs.Effects.{ActsOne, IsActedAs, RunsTo}
 use Rattle.rk_cluster.specs.Saying.{said_then}
 use Rattle.rk_cluster.specs.State.{IsOf, IsWorld}
 use Rattle.rk_cluster.specs.Steps.{state_of}
-use Rattle.rk_cluster.specs.Visits.{HasSession}
-use Rattle.rk_cluster.proofs.Leading.{leads_by}
+use Rattle.rk_cluster.specs.Visits.{AcceptsShort, HasSession}
+use Rattle.rk_inv_tablets.proofs.steady.Lanes.{tell_accepted, tell_asked}
+use Rattle.rk_cluster.proofs.Leading.{leads_by, leads_nowhere}
+use Rattle.rk_cluster.proofs.Tells.{all_visited}
 use Rattle.rk_cluster.proofs.Worlds.{same_count, set_there, world_at, world_set}
 
 -- what is put in the place of itself changes nothing
@@ -54,16 +58,19 @@ module _ {R : Type 0} (segments : R → Option Segments) where
   abbrev pub VisitsLane : (World → Result Visited StepError) → LaneState R → LaneState R → Session → Session → Result Seen StepError → Type 0
   VisitsLane visit old new session later answer = (w : World) → IsWorld segments old w → HasVisited old new session later answer (visit w)
 
-  taken : (visit : World → Result Visited StepError) (old new : LaneState R) (session later : Session) (seen : Seen) → IsVisitOf visit old new later seen
-      → VisitsLane visit old new session later (Ok seen)
-  taken visit old new session later seen it w is =
+  taken : (visit : World → Result Visited StepError) → ((v : World) → AllTell v → AllTell (world_visited v (visit v))) → (old new : LaneState R) (session later : Session) (seen : Seen)
+      → IsVisitOf visit old new later seen → VisitsLane visit old new session later (Ok seen)
+  taken visit keeps old new session later seen it w is =
       let same : Some it.before ≡ Some is.running = sym it.was ∙ is.runs in
       let running_is : is.running ≡ it.before = cc same in
       let told = is.told in
       let world_is : w ≡ world_with old it.before is.stored = is.is ∙ ap (λ (running : Running). world_with old running is.stored) running_is in
+      let all : AllTell (world_with new it.after is.stored) =
+      all_visited (world_with old it.before is.stored) (record { world = world_with new it.after is.stored; session = later; seen = seen }) (visit (world_with old it.before is.stored))
+      (keeps (world_with old it.before is.stored) (subst AllTell world_is is.all)) (it.visited is.stored) in
       subst (HasVisited old new session later (Ok seen))
       (sym (ap visit world_is ∙ it.visited is.stored))
-      (record { running = it.after; runs = it.is; stored = is.stored; told = subst (λ backups. AreTold segments backups is.stored) (sym it.backups) told; is = refl }, refl, refl)
+      (record { running = it.after; runs = it.is; stored = is.stored; told = subst (λ backups. AreTold segments backups is.stored) (sym it.backups) told; is = refl; all = all }, refl, refl)
 
   -- why a visit is refused is the same in each world that a lane stands for
   known_there : (refusal : World → Option StepError) (old : LaneState R) (error : StepError) → IsRefusedFor refusal old error → (running : Running) → old.running ≡ Some running
@@ -91,7 +98,7 @@ module _ {R : Type 0} (segments : R → Option Segments) where
       → IfErr answer (λ e. e ≢ causes.NoMemory → IsRefusedFor (λ w. ask_refusal w session) old e)
       → OnErr answer (new ≡ old) → IfErr answer (λ e. e ≢ causes.NoMemory → later ≡ session)
       → VisitsLane (λ w. ask w session) old new session later answer
-  asks_lane old new session later (Ok seen) memory ok refused lane stays = taken (λ w. ask w session) old new session later seen ok
+  asks_lane old new session later (Ok seen) memory ok refused lane stays = taken (λ w. ask w session) (λ v all. tell_asked v session all) old new session later seen ok
   asks_lane old new session later (Err error) memory ok refused lane stays =
       refused_ask old new session later error (refused (λ e. memory (ap Err e))) lane (stays (λ e. memory (ap Err e)))
 
@@ -100,7 +107,7 @@ module _ {R : Type 0} (segments : R → Option Segments) where
       → IfErr answer (λ e. e ≢ causes.NoMemory → IsRefusedFor (λ w. accept_refusal w number session.client (get w.wire.messages number)) old e)
       → OnErr answer (new ≡ old) → OnErr answer (later ≡ session)
       → VisitsLane (λ w. accept w number session) old new session later answer
-  accepts_lane number old new session later (Ok seen) memory ok refused lane stays = taken (λ w. accept w number session) old new session later seen ok
+  accepts_lane number old new session later (Ok seen) memory ok refused lane stays = taken (λ w. accept w number session) (λ v all. tell_accepted v number session all) old new session later seen ok
   accepts_lane number old new session later (Err error) memory ok refused lane stays =
       refused_accept number old new session later error (refused (λ e. memory (ap Err e))) lane stays
 
@@ -153,10 +160,16 @@ module _ {R : Type 0} (segments : R → Option Segments) where
         subst (λ (base : Base). IfSome (session_at cluster client).outstanding (IsAfterStart base)) (sym (ap (λ (w : World). w.base) world_is.is))
         (after_nothing (session_at cluster client).outstanding)
 
+    -- where the client is not refused that came, and else nothing did
+    visit_leads : (occurrence : Occurrence) → ClusterMay cluster occurrence → KeepsCalm cluster occurrence → ReplicasTell cluster occurrence → (visited : Result Visited StepError)
+        → cluster_after cluster occurrence ≡ cluster_visited cluster place client visited → RunsTo cluster (came_in occurrence visited) (cluster_visited cluster place client visited)
+    visit_leads occurrence may calm tell (Ok visited) same = subst (RunsTo cluster (occurrence ∷ [])) same (leads_by cluster occurrence may calm tell)
+    visit_leads occurrence may calm tell (Err error) same = leads_nowhere cluster
+
     asked_by_known : (answer : Result Seen StepError) → VisitsLane (λ w. ask w session) old new session later answer → (known : Session) → known ≡ session
-        → Leads cluster (cluster_visited cluster place client (ask (lane_at cluster place) known))
+        → RunsTo cluster (came_in (Asks place client) (ask (lane_at cluster place) known)) (cluster_visited cluster place client (ask (lane_at cluster place) known))
         → IsActedAs segments cluster (state_of (slice_set lanes place new) (insert sessions client later)) [] (worn_in answer)
-        (record { cluster = cluster_visited cluster place client (ask (lane_at cluster place) known); said = []; worn = worn_in (ask (lane_at cluster place) known) })
+        (acted_by (Asks place client) (cluster_visited cluster place client (ask (lane_at cluster place) known)) [] (ask (lane_at cluster place) known))
     asked_by_known answer visits known known_is leads =
         let has = visits (lane_at cluster place) world_is in
         record {
@@ -169,13 +182,10 @@ module _ {R : Type 0} (segments : R → Option Segments) where
         }
 
     accepted_by_known : (number : ℕ) (answer : Result Seen StepError) → VisitsLane (λ w. accept w number session) old new session later answer → (known : Session) → known ≡ session
-        → Leads cluster (cluster_visited cluster place client (accept (lane_at cluster place) number known))
+        → RunsTo cluster (came_in (Accepts place number client) (accept (lane_at cluster place) number known)) (cluster_visited cluster place client (accept (lane_at cluster place) number known))
         → IsActedAs segments cluster (state_of (slice_set lanes place new) (insert sessions client later)) (said_then session.outstanding later.receipts answer) (worn_in answer)
-        (record {
-          cluster = cluster_visited cluster place client (accept (lane_at cluster place) number known);
-          said = said_in known (accept (lane_at cluster place) number known);
-          worn = worn_in (accept (lane_at cluster place) number known);
-        })
+        (acted_by (Accepts place number client) (cluster_visited cluster place client (accept (lane_at cluster place) number known))
+        (said_in known (accept (lane_at cluster place) number known)) (accept (lane_at cluster place) number known))
     accepted_by_known number answer visits known known_is leads =
         let has = visits (lane_at cluster place) world_is in
         record {
@@ -195,9 +205,9 @@ module _ {R : Type 0} (segments : R → Option Segments) where
   asks lanes sessions place client old new session later answer there found order visits cluster is =
       asked_by_known cluster lanes sessions place client old new session later there found order is answer visits
       (session_at cluster client) (session_is cluster lanes sessions place client old new session later there found order is)
-      (leads_by cluster (Asks place client)
+      (visit_leads cluster lanes sessions place client old new session later there found order is (Asks place client)
       (within_cluster cluster lanes sessions place client old new session later there found order is, after_start cluster lanes sessions place client old new session later there found order is)
-      tt tt)
+      tt tt (ask (lane_at cluster place) (session_at cluster client)) refl)
 
   pub accepts : (lanes : List (LaneState R)) (sessions : NumberMap Session) (place number client : ℕ) (old new : LaneState R) (session later : Session) (answer : Result Seen StepError)
       → slice_get lanes place ≡ Some old → get sessions client ≡ Some session → IsInOrder sessions → VisitsLane (λ w. accept w number session) old new session later answer
@@ -205,7 +215,28 @@ module _ {R : Type 0} (segments : R → Option Segments) where
   accepts lanes sessions place number client old new session later answer there found order visits cluster is =
       accepted_by_known cluster lanes sessions place client old new session later there found order is number answer visits
       (session_at cluster client) (session_is cluster lanes sessions place client old new session later there found order is)
-      (leads_by cluster (Accepts place number client) (within_cluster cluster lanes sessions place client old new session later there found order is) tt tt)
+      (visit_leads cluster lanes sessions place client old new session later there found order is (Accepts place number client)
+      (within_cluster cluster lanes sessions place client old new session later there found order is) tt tt (accept (lane_at cluster place) number (session_at cluster client)) refl)
+
+  -- if memory was wanting, the client has taken nothing, or all
+  pub accepts_short : (lanes : List (LaneState R)) (sessions : NumberMap Session) (place number client : ℕ) (old new : LaneState R) (session later : Session) (answer : Result Seen StepError)
+      → slice_get lanes place ≡ Some old → get sessions client ≡ Some session → IsInOrder sessions
+      → IfOk answer (λ seen. IsVisitOf (λ w. accept w number session) old new later seen)
+      → IfErr answer (λ e. e ≢ causes.NoMemory → IsRefusedFor (λ w. accept_refusal w number session.client (get w.wire.messages number)) old e)
+      → OnErr answer (new ≡ old) → OnErr answer (later ≡ session)
+      → AcceptsShort segments (state_of lanes sessions) (state_of (slice_set lanes place new) (insert sessions client later)) place number client
+  accepts_short lanes sessions place number client old new session later (Ok seen) there found order ok refused kept stays =
+      inr (
+        said_then session.outstanding later.receipts (Ok seen),
+        accepts lanes sessions place number client old new session later (Ok seen) there found order
+            (accepts_lane number old new session later (Ok seen) (λ never. absurd (cc never)) ok refused kept stays),
+      )
+  accepts_short lanes sessions place number client old new session later (Err error) there found order ok refused kept stays =
+      inl
+      (record {
+        lanes = inl (ap (slice_set lanes place) kept ∙ set_there lanes place old there);
+        sessions = inl (ap (insert sessions client) stays ∙ insert_there sessions client session order found);
+      })
 
 -- who has a session keeps one
 pub has_after : (sessions : NumberMap Session) (client : ℕ) (later : Session) (other : ℕ) → HasSession sessions other → HasSession (insert sessions client later) other

@@ -35,38 +35,11 @@ use Rattle.rk_cluster.proofs.Faults.{lanes_same, lanes_then}
 use Rattle.rk_cluster.proofs.Noticing.{count_is, dead_is}
 use Rattle.rk_cluster.proofs.Worlds.{all_at, masters_at}
 
--- ---- one lane
-
--- that a master has crashed already wears no number
-dead_alone : (dead : Bool) (master : ℕ) (error : StepError) → where_true dead (causes.Dead master) ≡ Some error → worn_by error ≡ None
-dead_alone true master error refused = let same : causes.Dead master ≡ error = cc refused in ap worn_by (sym same)
-dead_alone false master error refused = absurd (cc refused)
-
-not_worn : {R : Type 0} (lane : LaneState R) (running : Option Running) (master : ℕ) (error : StepError)
-    → IsSomeAnd running (λ it. refusal (world_with lane it []) (events.Crash master) ≡ Some error) → worn_by error ≡ None
-not_worn lane (Some running) master error refused = dead_alone (has_crashed (world_with lane running []) master) master error refused
-not_worn lane None master error refused = absurd refused
-
--- no crash is refused by a lane that is worn
-pub crash_well : {R : Type 0} (faults : R → ℕ) (old new : LaneState R) (master : ℕ) (answer : Result Seen StepError) → (answer ≡ Err causes.NoMemory → ⊥)
-    → IfErr answer (IsRefused faults (events.Crash master) old new) → worn_in answer ≡ None
-crash_well faults old new master (Ok seen) memory refused = refl
-crash_well faults old new master (Err error) memory refused = not_worn old old.running master error (refused.cause (λ e. memory (ap Err e)))
-
-crash_same : (w : World) (master : ℕ) (called : Called) (refused : Option StepError)
-    → stepped_by w (events.Crash master) called refused ≡ stepped_by w (events.Crash master) (Gave None) refused
-crash_same w master called None = refl
-crash_same w master called (Some error) = refl
-
 module _ {R : Type 0} (segments : R → Option Segments) where
   -- a crash calls no replica
-  pub happens_crash : (old new : List (LaneState R)) (lane master : ℕ) → IsHappening segments old new lane (events.Crash master) None
+  pub happens_crash : {faults : R → ℕ} (old new : List (LaneState R)) (lane master : ℕ) → IsHappening segments faults old new lane (events.Crash master) None
       → (sessions : NumberMap Session) → ActsOne segments (state_of old sessions) (state_of new sessions) (Happens lane (events.Crash master) (Gave None)) [] None
-  happens_crash old new lane master it sessions cluster is =
-      subst (λ (stepped : Result Stepped StepError). IsActedAs segments cluster (state_of new sessions) [] None
-      (record { cluster = cluster_stepped cluster lane stepped; said = []; worn = worn_in stepped }))
-      (crash_same (lane_at cluster lane) master it.called (refusal (lane_at cluster lane) (events.Crash master)))
-      (it.acts sessions cluster is)
+  happens_crash old new lane master it sessions = it.acts sessions
 
   -- ---- one lane after the other
 
@@ -80,7 +53,7 @@ module _ {R : Type 0} (segments : R → Option Segments) where
     pub lanes : AreLanes masters 0 now
     pub count : length now ≡ length old
     pub backups : backup_counts now ≡ backup_counts old
-    pub counts : LanesGoOn faults 0 old now
+    pub counts : LanesGoOn faults [] old now
     pub rest : (place : ℕ) → lane ≤ place → slice_get now place ≡ slice_get old place
 
   pub crashing_none : (faults : R → ℕ) (lanes : List (LaneState R)) (masters master : ℕ) → AreLanes masters 0 lanes → IsCrashing faults lanes lanes masters master 0
@@ -98,9 +71,9 @@ module _ {R : Type 0} (segments : R → Option Segments) where
       let left : LANES - lane ≡ suc (LANES - (lane + 1)) = omega (arith, within) in
       ap (λ (count : ℕ). map (λ (n : ℕ). record { lane = n; event = events.Crash master }) (range_with_len lane count)) left
 
-  pub crashing_one : (faults : R → ℕ) (old now next : List (LaneState R)) (masters master lane : ℕ) → lane < LANES → IsHappening segments now next lane (events.Crash master) None
+  pub crashing_one : (faults : R → ℕ) (old now next : List (LaneState R)) (masters master lane : ℕ) → lane < LANES → IsHappening segments faults now next lane (events.Crash master) None
       → IsSameBeside lane now next → ((count : ℕ) → AreLanes count 0 now → AreLanes count 0 next) → length next ≡ length now → backup_counts next ≡ backup_counts now
-      → LanesGoOn faults 0 now next → IsCrashing faults old now masters master lane → IsCrashing faults old next masters master (lane + 1)
+      → LanesGoOn faults [] now next → IsCrashing faults old now masters master lane → IsCrashing faults old next masters master (lane + 1)
   crashing_one faults old now next masters master lane within happening beside keeps same backed on before = record {
     carries = λ sessions. carries_one segments (state_of old sessions) (state_of now sessions) (state_of next sessions) (occurrences (crashes master))
         (occurrences (crashes_from master (lane + 1))) (Happens lane (events.Crash master) (Gave None)) (happens_crash now next lane master happening sessions)

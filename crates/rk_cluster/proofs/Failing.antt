@@ -1,6 +1,7 @@
 -- What a lane's answer to an event tells of how often its replicas failed.
-use Rattle.std.proofs.Common.{◌≡◌, ℕ, zero, suc, Bool, true, false, List, [], ◌∷◌, cond, slice_get, slice_set, Option, None, Some, IfSome, Result, Ok, Err, IfErr, IfOk, OnErr, refl, sym, ap, subst, ◌∙◌, ⊎_elim, arith}
+use Rattle.std.proofs.Common.{◌≡◌, ℕ, zero, suc, Bool, true, false, List, [], ◌∷◌, ◌+◌, ◌&&◌, ◌==◌, cond, slice_get, slice_set, Option, None, Some, IfSome, Result, Ok, Err, IfErr, IfOk, OnErr, refl, sym, ap, subst, ◌∙◌, ⊎_elim, arith}
 use Rattle.std.specs.Option.{option_map}
+use Rattle.std.proofs.lemmas.Bool.{eq-eqb}
 use Rattle.rk_types.specs.NumberMap.{get}
 use Rattle.rk_types.specs.declared.node.Node.{Node}
 use Rattle.rk_types.specs.declared.node.Node.TheVariants as nodes
@@ -11,22 +12,23 @@ use Rattle.rk_message.specs.declared.message.Body.TheVariants as bodies
 use Rattle.rk_message.specs.declared.message.Message.{Message}
 use Rattle.rk_world.specs.Calls.{Visited}
 use Rattle.rk_world.specs.Client.{Session}
-use Rattle.rk_world.specs.Backup.{Appended, Backed, Called, Failed, Gave, backup_step}
+use Rattle.rk_world.specs.Backup.{Appended, Backed, Called, Failed, Gave, backup_step, called_by, calls_replica}
 use Rattle.rk_world.specs.Refusals.{comes_anyway, refusal}
-use Rattle.rk_world.specs.Step.{Stepped, backed_at, delivered, delivered_to, losing, quietly, stepped_by, with_sends}
-use Rattle.rk_world.specs.World.{World, is_backup as has_backup}
+use Rattle.rk_world.specs.Step.{Stepped, backed_at, delivered, delivered_to, losing, quietly, stepped_by, told_by_replica, told_for, told_to, with_sends}
+use Rattle.rk_world.specs.World.{World, backup_at, is_backup as has_backup}
 use Rattle.rk_world.specs.declared.error.StepError.{StepError}
 use Rattle.rk_world.specs.declared.error.StepError.TheVariants as causes
 use Rattle.rk_world.specs.declared.event.Event.{Event}
 use Rattle.rk_world.specs.declared.event.Event.TheVariants as events
 use Rattle.rk_world.specs.declared.event.Seen.{Seen}
-use Rattle.rk_lane.specs.Events.{HasCause, IsFailed, IsRefused, IsStepOf, OneFailed, fault_counts}
+use Rattle.rk_lane.specs.Events.{HasCause, IsAnswerOf, IsFailed, IsRefused, IsStepOf, OneFailed, fault_counts, receiver_by}
 use Rattle.rk_lane.specs.LaneState.{LaneState, Running, world_with}
 use Rattle.rk_lane.specs.Visits.{IsVisitOf}
 use Rattle.rk_cluster.specs.Delivering.{IsForBackup, is_backup}
-use Rattle.rk_cluster.specs.Faults.{GoOn, LanesGoOn, counts_in}
+use Rattle.rk_cluster.specs.Faults.{LanesGoOn, SomeLaneFailed, counts_in}
+use Rattle.rk_cluster.specs.Replicas.{Fate, Kept, Lost, left_by}
 use Rattle.rk_cluster.specs.Steps.{lost_by}
-use Rattle.rk_cluster.proofs.Faults.{go_on_before, go_on_behind, go_on_less, go_on_one, go_on_same}
+use Rattle.rk_cluster.proofs.Faults.{go_on_kept, go_on_none, lanes_failed_once, lanes_kept}
 
 -- ---- a message that was lost at a backup
 
@@ -81,107 +83,141 @@ for_backup {R = R} lanes place number lane wire to there known to_is is other at
     subst (λ (it : LaneState R). IfSome it.running (λ running. is_backup (receiver_of number running.wire) ≡ true)) same
     (for_by number wire to lane.running known to_is is)
 
+-- ---- what a replica that tells its segments answers where it fails
+
+if_failed : (calls : Bool) (kept left length : ℕ) → cond calls (Failed kept) (Appended length) ≡ Failed left → cond calls (Failed left) (Appended length) ≡ Failed left
+if_failed true kept left length is = refl
+if_failed false kept left length is = is
+
+called_left : (stored : Segments) (sender : Node) (body : Body) (kept left : ℕ) → called_by stored sender body (Some kept) ≡ Failed left → called_by stored sender body (Some left) ≡ Failed left
+called_left stored (nodes.Master master) (bodies.Append append) kept left is = if_failed (calls_replica _ append) kept left _ is
+called_left stored (nodes.Master master) (bodies.Read read) kept left is = is
+called_left stored (nodes.Master master) _ kept left is = absurd (cc is)
+called_left stored _ body kept left is = absurd (cc is)
+
+told_to_left : (w : World) (message : Message) (to : Node) (kept left : ℕ) → told_to w message to (Some kept) ≡ Failed left → told_to w message to (Some left) ≡ Failed left
+told_to_left w message (nodes.Backup backup) kept left is = called_left (backup_at w backup) message.from message.body kept left is
+told_to_left w message _ kept left is = absurd (cc is)
+
+told_for_left : (w : World) (found : Option Message) (kept left : ℕ) → told_for w found (Some kept) ≡ Failed left → told_for w found (Some left) ≡ Failed left
+told_for_left w None kept left is = absurd (cc is)
+told_for_left w (Some message) kept left is = told_to_left w message message.to kept left is
+
+-- it leaves just what is left
+told_left : (w : World) (event : Event) (kept left : ℕ) → told_by_replica w event (Some kept) ≡ Failed left → told_by_replica w event (Some left) ≡ Failed left
+told_left w (events.Deliver number) kept left is = told_for_left w (get w.wire.messages number) kept left is
+told_left w _ kept left is = absurd (cc is)
+
+-- what a fault leaves at the receiver whose replica it strikes
+left_there : (lane place left : ℕ) (receiver : Option Node) → receiver ≡ Some (nodes.Backup (place + 1)) → left_by (Lost lane place left) lane receiver ≡ Some left
+left_there lane place left receiver whose =
+    ap (left_by (Lost lane place left) lane) whose
+    ∙ (λ i. cond (eq-eqb lane lane refl i && eq-eqb (place + 1) (place + 1) refl i) (Some left) None)
+
 -- ---- a lane
 
-go_on_equal : (before now : List ℕ) → now ≡ before → GoOn 0 before now
-go_on_equal before now same = subst (GoOn 0 before) (sym same) (go_on_same before)
+module _ {R : Type 0} (faults : R → ℕ) (lanes : List (LaneState R)) (place : ℕ) (old new : LaneState R) (there : slice_get lanes place ≡ Some old) where
+  -- what became of the call of a replica by an event whose message, if it has one, has this receiver
+  pub record HasFate (receiver : Option Node) (called : Called) : Type 0 where
+    pub fate : Fate
+    pub counts : LanesGoOn faults (fate ∷ []) lanes (slice_set lanes place new)
+    pub answers : (w : World) (event : Event) → IsAnswerOf (told_by_replica w event) called → told_by_replica w event (left_by fate place receiver) ≡ called
 
-module _ {R : Type 0} (faults : R → ℕ) where
-  module _ (old new : LaneState R) where
-    once : OneFailed faults old.backups new.backups → GoOn 1 (fault_counts faults old.backups) (fault_counts faults new.backups)
-    once it =
-        subst (GoOn 1 (fault_counts faults old.backups)) (sym it.counts)
-        (go_on_one (fault_counts faults old.backups) it.place it.before it.now it.there it.rose)
+  kept_fate : (receiver : Option Node) (called : Called) → (IsFailed called → ⊥) → fault_counts faults new.backups ≡ fault_counts faults old.backups → HasFate receiver called
+  kept_fate receiver called fine same = record {
+    fate = Kept;
+    counts = go_on_kept (counts_in faults lanes) (counts_in faults (slice_set lanes place new)) (lanes_kept faults lanes place old new there same);
+    answers = λ w event answer. sym (answer.fine fine);
+  }
 
-    caused : (called : Called) → HasCause faults called old.backups new.backups → GoOn 0 (fault_counts faults old.backups) (fault_counts faults new.backups)
-    caused called cause =
-        ⊎_elim (λ (it : IsFailed called × OneFailed faults old.backups new.backups).
-        go_on_less 0 1 (fault_counts faults old.backups) (fault_counts faults new.backups) (omega arith) (once it.1))
-        (λ (it : (IsFailed called → ⊥) × (fault_counts faults new.backups ≡ fault_counts faults old.backups)).
-        go_on_equal (fault_counts faults old.backups) (fault_counts faults new.backups) it.1) cause
+  lost_fate : (receiver : Option Node) (left : ℕ) → OneFailed faults receiver old.backups new.backups → HasFate receiver (Failed left)
+  lost_fate receiver left it = record {
+    fate = Lost place it.place left;
+    counts = lanes_failed_once faults lanes place left receiver old new there it;
+    answers = λ w event answer.
+        let kept = answer.failed tt in
+        ap (told_by_replica w event) (left_there place it.place left receiver it.whose) ∙ told_left w event kept.0 left (sym kept.1);
+  }
 
-    caused_once : (called : Called) → IsFailed called → HasCause faults called old.backups new.backups
-        → GoOn 1 (fault_counts faults old.backups) (fault_counts faults new.backups)
-    caused_once called failed cause =
-        ⊎_elim (λ (it : IsFailed called × OneFailed faults old.backups new.backups). once it.1)
-        (λ (it : (IsFailed called → ⊥) × (fault_counts faults new.backups ≡ fault_counts faults old.backups)). absurd (it.0 failed)) cause
+  failed_fate : (receiver : Option Node) (called : Called) → IsFailed called → OneFailed faults receiver old.backups new.backups → HasFate receiver called
+  failed_fate receiver (Failed left) failed it = lost_fate receiver left it
+  failed_fate receiver (Appended length) failed it = absurd failed
+  failed_fate receiver (Gave bytes) failed it = absurd failed
 
-    same_backups : new.backups ≡ old.backups → GoOn 0 (fault_counts faults old.backups) (fault_counts faults new.backups)
-    same_backups same = go_on_equal (fault_counts faults old.backups) (fault_counts faults new.backups) (ap (fault_counts faults) same)
+  pub has_fate : (receiver : Option Node) (called : Called) → HasCause faults receiver called old.backups new.backups → HasFate receiver called
+  has_fate receiver called cause =
+      ⊎_elim (λ (it : IsFailed called × OneFailed faults receiver old.backups new.backups). failed_fate receiver called it.0 it.1)
+      (λ (it : (IsFailed called → ⊥) × (fault_counts faults new.backups ≡ fault_counts faults old.backups)). kept_fate receiver called it.0 it.1) cause
 
-    -- an event
-    stepped_on : (segments : R → Option Segments) (event : Event) (running : Option Running) (answer : Result Seen StepError)
-        → IfSome running (λ _. IfOk answer (IsStepOf segments faults event old new)) → IfErr answer (IsRefused faults event old new) → (running ≡ None → new ≡ old)
-        → GoOn 0 (fault_counts faults old.backups) (fault_counts faults new.backups)
-    stepped_on segments event None answer ok refused spent = same_backups (ap (λ (lane : LaneState R). lane.backups) (spent refl))
-    stepped_on segments event (Some running) (Ok seen) ok refused spent = caused ok.called ok.cause
-    stepped_on segments event (Some running) (Err error) ok refused spent =
-        go_on_equal (fault_counts faults old.backups) (fault_counts faults new.backups) refused.counts
+  -- no replica of the lane has failed
+  same_backups : new.backups ≡ old.backups → LanesGoOn faults [] lanes (slice_set lanes place new)
+  same_backups same = lanes_kept faults lanes place old new there (ap (fault_counts faults) same)
 
-    -- a client's turn or answer calls no replica
-    visited_on : (visit : World → Result Visited StepError) (session : Session) (answer : Result Seen StepError)
-        → IfOk answer (IsVisitOf visit old new session) → OnErr answer (new ≡ old) → GoOn 0 (fault_counts faults old.backups) (fault_counts faults new.backups)
-    visited_on visit session (Ok seen) ok kept = same_backups ok.backups
-    visited_on visit session (Err error) ok kept = same_backups (ap (λ (lane : LaneState R). lane.backups) kept)
+  pub refused_on : (event : Event) (error : StepError) → IsRefused faults event old new error → LanesGoOn faults [] lanes (slice_set lanes place new)
+  refused_on event error refused = lanes_kept faults lanes place old new there refused.counts
 
-    -- a message that was delivered to a backup was lost only where its replica failed
-    lost_on : (segments : R → Option Segments) (number : ℕ) (seen : Seen) (running : Option Running) → old.running ≡ running
-        → IfSome running (λ it. is_backup (receiver_of number it.wire) ≡ true) → seen.lost ≡ true → IsStepOf segments faults (events.Deliver number) old new seen
-        → GoOn 1 (fault_counts faults old.backups) (fault_counts faults new.backups)
-    lost_on segments number seen None was is lost step =
-        absurd (let never : None ≡ Some step.before = sym was ∙ step.was in cc never)
-    lost_on segments number seen (Some running) was is lost step =
-        let both : Some running ≡ Some step.before = sym was ∙ step.was in
-        let same : running ≡ step.before = cc both in
-        let from = step.stepped [] (λ number stored none. absurd (cc none)) in
-        caused_once step.called
-        (lost_then (world_with old step.before []) number step.called (refusal (world_with old step.before []) (events.Deliver number))
-        (record { world = world_with new step.after from.backups; seen = seen })
-        (subst (λ (it : Running). is_backup (receiver_of number it.wire) ≡ true) same is) from.stepped lost)
-        step.cause
+  pub spent_on : new ≡ old → LanesGoOn faults [] lanes (slice_set lanes place new)
+  spent_on same = same_backups (ap (λ (lane : LaneState R). lane.backups) same)
 
-    failed_on : (segments : R → Option Segments) (number : ℕ) (running : Option Running) (answer : Result Seen StepError) → old.running ≡ running
-        → IfSome running (λ _. IfOk answer (IsStepOf segments faults (events.Deliver number) old new))
-        → (running ≡ None → comes_anyway (events.Deliver number) ≡ false → answer ≡ Err causes.NoMemory)
-        → IfSome running (λ it. is_backup (receiver_of number it.wire) ≡ true) → lost_by answer ≡ true
-        → GoOn 1 (fault_counts faults old.backups) (fault_counts faults new.backups)
-    failed_on segments number None answer was ok never is lost =
-        absurd (let found : false ≡ true = sym (ap lost_by (never refl refl)) ∙ lost in cc found)
-    failed_on segments number (Some running) (Ok seen) was ok never is lost = lost_on segments number seen (Some running) was is lost ok
-    failed_on segments number (Some running) (Err error) was ok never is lost = absurd (cc lost)
+  -- an event came to it
+  stepped_on : (segments : R → Option Segments) (event : Event) (running : Option Running) (answer : Result Seen StepError)
+      → IfSome running (λ _. IfOk answer (IsStepOf segments faults event old new)) → IfErr answer (IsRefused faults event old new) → (running ≡ None → new ≡ old)
+      → LanesGoOn faults [] lanes (slice_set lanes place new)
+  stepped_on segments event None answer ok refused spent = spent_on (spent refl)
+  stepped_on segments event (Some running) (Ok seen) ok refused spent =
+      let its = has_fate (receiver_by event ok.before.wire) ok.called ok.cause in
+      go_on_none (its.fate ∷ []) (counts_in faults lanes) (counts_in faults (slice_set lanes place new)) its.counts
+  stepped_on segments event (Some running) (Err error) ok refused spent = refused_on event error refused
 
-  -- ---- lanes
+  pub lanes_stepped : (segments : R → Option Segments) (event : Event) (answer : Result Seen StepError)
+      → IfSome old.running (λ _. IfOk answer (IsStepOf segments faults event old new))
+      → IfErr answer (IsRefused faults event old new) → (old.running ≡ None → new ≡ old) → LanesGoOn faults [] lanes (slice_set lanes place new)
+  lanes_stepped segments event answer ok refused spent = stepped_on segments event old.running answer ok refused spent
 
-  lanes_on : (more : ℕ) (lanes : List (LaneState R)) (place : ℕ) (old new : LaneState R) → slice_get lanes place ≡ Some old
-      → GoOn more (fault_counts faults old.backups) (fault_counts faults new.backups) → LanesGoOn faults more lanes (slice_set lanes place new)
-  lanes_on more [] place old new there on = absurd (cc there)
-  lanes_on more (first ∷ lanes) zero old new there on =
-      let same : first ≡ old = cc there in
-      go_on_before more (fault_counts faults first.backups) (fault_counts faults new.backups) (counts_in faults lanes)
-      (subst (λ (lane : LaneState R). GoOn more (fault_counts faults lane.backups) (fault_counts faults new.backups)) (sym same) on)
-  lanes_on more (first ∷ lanes) (suc place) old new there on =
-      go_on_behind more (fault_counts faults first.backups) (counts_in faults lanes) (counts_in faults (slice_set lanes place new))
-      (lanes_on more lanes place old new there on)
+  -- a client's turn or answer calls no replica
+  pub lanes_visited : (visit : World → Result Visited StepError) (session : Session) (answer : Result Seen StepError)
+      → IfOk answer (IsVisitOf visit old new session) → OnErr answer (new ≡ old) → LanesGoOn faults [] lanes (slice_set lanes place new)
+  lanes_visited visit session (Ok seen) ok kept = same_backups ok.backups
+  lanes_visited visit session (Err error) ok kept = spent_on kept
 
-  -- to one of them came an event
-  pub lanes_stepped : (segments : R → Option Segments) (lanes : List (LaneState R)) (place : ℕ) (event : Event) (old new : LaneState R) (answer : Result Seen StepError)
-      → slice_get lanes place ≡ Some old → IfSome old.running (λ _. IfOk answer (IsStepOf segments faults event old new))
-      → IfErr answer (IsRefused faults event old new) → (old.running ≡ None → new ≡ old) → LanesGoOn faults 0 lanes (slice_set lanes place new)
-  lanes_stepped segments lanes place event old new answer there ok refused spent =
-      lanes_on 0 lanes place old new there (stepped_on old new segments event old.running answer ok refused spent)
+  -- ---- a message that was delivered to a backup was lost only where its replica failed
 
-  -- it delivered a message to a backup, and showed that the message was lost
-  pub lanes_failed : (segments : R → Option Segments) (lanes : List (LaneState R)) (place : ℕ) (event : Event) (old new : LaneState R) (answer : Result Seen StepError)
-      → slice_get lanes place ≡ Some old → IfSome old.running (λ _. IfOk answer (IsStepOf segments faults event old new))
+  once : (receiver : Option Node) (called : Called) → IsFailed called → HasCause faults receiver called old.backups new.backups → SomeLaneFailed faults lanes (slice_set lanes place new)
+  once receiver called failed cause =
+      ⊎_elim
+      (λ (it : IsFailed called × OneFailed faults receiver old.backups new.backups).
+      record { lane = place; place = it.1.place; left = 0; rose = lanes_failed_once faults lanes place 0 receiver old new there it.1 })
+      (λ (it : (IsFailed called → ⊥) × (fault_counts faults new.backups ≡ fault_counts faults old.backups)). absurd (it.0 failed)) cause
+
+  lost_on : (segments : R → Option Segments) (number : ℕ) (seen : Seen) (running : Option Running) → old.running ≡ running
+      → IfSome running (λ it. is_backup (receiver_of number it.wire) ≡ true) → seen.lost ≡ true → IsStepOf segments faults (events.Deliver number) old new seen
+      → SomeLaneFailed faults lanes (slice_set lanes place new)
+  lost_on segments number seen None was is lost step =
+      absurd (let never : None ≡ Some step.before = sym was ∙ step.was in cc never)
+  lost_on segments number seen (Some running) was is lost step =
+      let both : Some running ≡ Some step.before = sym was ∙ step.was in
+      let same : running ≡ step.before = cc both in
+      let from = step.stepped [] (λ number stored none. absurd (cc none)) in
+      once (receiver_by (events.Deliver number) step.before.wire) step.called
+      (lost_then (world_with old step.before []) number step.called (refusal (world_with old step.before []) (events.Deliver number))
+      (record { world = world_with new step.after from.backups; seen = seen })
+      (subst (λ (it : Running). is_backup (receiver_of number it.wire) ≡ true) same is) from.stepped lost)
+      step.cause
+
+  failed_on : (segments : R → Option Segments) (number : ℕ) (running : Option Running) (answer : Result Seen StepError) → old.running ≡ running
+      → IfSome running (λ _. IfOk answer (IsStepOf segments faults (events.Deliver number) old new))
+      → (running ≡ None → comes_anyway (events.Deliver number) ≡ false → answer ≡ Err causes.NoMemory)
+      → IfSome running (λ it. is_backup (receiver_of number it.wire) ≡ true) → lost_by answer ≡ true
+      → SomeLaneFailed faults lanes (slice_set lanes place new)
+  failed_on segments number None answer was ok never is lost =
+      absurd (let found : false ≡ true = sym (ap lost_by (never refl refl)) ∙ lost in cc found)
+  failed_on segments number (Some running) (Ok seen) was ok never is lost = lost_on segments number seen (Some running) was is lost ok
+  failed_on segments number (Some running) (Err error) was ok never is lost = absurd (cc lost)
+
+  pub lanes_failed : (segments : R → Option Segments) (event : Event) (answer : Result Seen StepError)
+      → IfSome old.running (λ _. IfOk answer (IsStepOf segments faults event old new))
       → (old.running ≡ None → comes_anyway event ≡ false → answer ≡ Err causes.NoMemory) → IsForBackup lanes place event → lost_by answer ≡ true
-      → LanesGoOn faults 1 lanes (slice_set lanes place new)
-  lanes_failed segments lanes place (events.Deliver number) old new answer there ok never is_for lost =
-      lanes_on 1 lanes place old new there (failed_on old new segments number old.running answer refl ok never (is_for old there) lost)
-  lanes_failed segments lanes place _ old new answer there ok never is_for lost = absurd is_for
-
-  -- to one of them came a client
-  pub lanes_visited : (visit : World → Result Visited StepError) (lanes : List (LaneState R)) (place : ℕ) (old new : LaneState R) (session : Session)
-      (answer : Result Seen StepError) → slice_get lanes place ≡ Some old → IfOk answer (IsVisitOf visit old new session) → OnErr answer (new ≡ old)
-      → LanesGoOn faults 0 lanes (slice_set lanes place new)
-  lanes_visited visit lanes place old new session answer there ok kept =
-      lanes_on 0 lanes place old new there (visited_on old new visit session answer ok kept)
+      → SomeLaneFailed faults lanes (slice_set lanes place new)
+  lanes_failed segments (events.Deliver number) answer ok never is_for lost =
+      failed_on segments number old.running answer refl ok never (is_for old there) lost
+  lanes_failed segments _ answer ok never is_for lost = absurd is_for

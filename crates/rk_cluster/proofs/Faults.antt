@@ -1,149 +1,170 @@
 -- How counts of faults go on.
-use Rattle.std.proofs.Common.{◌≡◌, ◌⊎◌, ◌≤◌, ◌+◌, ◌++◌, ◌||◌, ℕ, zero, suc, Bool, true, false, nat_le, List, [], ◌∷◌, slice_get, slice_set, Some, sum, refl, sym, subst, ◌∙◌, inl, inr, ⊎_elim, arith}
-use Rattle.std.proofs.lemmas.Bool.{le-leb, leb-false, leb-true}
-use Rattle.std.proofs.lemmas.List.Sums.{sum_by-append, sum_by-cons}
-use Rattle.std.proofs.lemmas.List.Folds.{list_any-append}
+use Rattle.std.proofs.Common.{◌≡◌, ◌≢◌, ◌⊎◌, ◌≤◌, ◌+◌, ◌++◌, ◌==◌, ◌&&◌, ℕ, zero, suc, Bool, true, false, List, [], ◌∷◌, slice_get, slice_set, Option, None, Some, refl, sym, ap, subst, ◌∙◌, inl, inr, ⊎_elim, arith}
+use Rattle.std.specs.Prelude.{if◌then◌else◌}
+use Rattle.std.proofs.lemmas.Bool.{cases_eq, eq-eqb, ne_eqb}
+use Rattle.rk_types.specs.declared.node.Node.{Node}
 use Rattle.rk_outside.specs.Faults.{Rose}
+use Rattle.rk_lane.specs.Events.{OneFailed, fault_counts}
 use Rattle.rk_lane.specs.LaneState.{LaneState}
-use Rattle.rk_cluster.specs.Faults.{CountsGoOn, GoOn, LanesGoOn, MOST_COUNT, NoneFell, counts_in, has_full}
+use Rattle.rk_cluster.specs.Faults.{Counts, CountsGoOn, GoOn, LanesGoOn, MOST_COUNT, RoseBy, counts_in, lane_counts, times_lost}
+use Rattle.rk_cluster.specs.Replicas.{Fate, Kept, Lost, is_of}
 use Rattle.rk_cluster.specs.State.{ClusterState}
+use Rattle.rk_cluster.proofs.Worlds.{set_beside}
 
--- ---- none fell
+-- ---- one count
 
-none_same : (counts : List ℕ) → NoneFell counts counts
-none_same [] = tt
-none_same (count ∷ counts) = (omega arith, none_same counts)
+pub rose_same : (count : Option ℕ) → RoseBy 0 count count
+rose_same None = refl
+rose_same (Some count) = inl (omega arith)
 
-none_then : (before mid now : List ℕ) → NoneFell before mid → NoneFell mid now → NoneFell before now
-none_then [] [] [] first second = tt
-none_then [] [] (is ∷ now) first second = second
-none_then [] (mean ∷ mid) now first second = absurd first
-none_then (was ∷ before) [] now first second = absurd first
-none_then (was ∷ before) (mean ∷ mid) [] first second = absurd second
-none_then (was ∷ before) (mean ∷ mid) (is ∷ now) first second =
-    (omega (arith, first.0, second.0), none_then before mid now first.1 second.1)
+pub rose_less : (less more : ℕ) (before now : Option ℕ) → less ≤ more → RoseBy more before now → RoseBy less before now
+rose_less less more None None fewer none = omega (arith, fewer, none)
+rose_less less more None (Some now) fewer rose = absurd rose
+rose_less less more (Some before) None fewer rose = absurd rose
+rose_less less more (Some before) (Some now) fewer rose =
+    ⊎_elim (λ (risen : before + more ≤ now). inl (omega (arith, fewer, risen))) (λ (full : MOST_COUNT ≤ now). inr full) rose
 
-none_behind : (before now back : List ℕ) → NoneFell before now → NoneFell (before ++ back) (now ++ back)
-none_behind [] [] back none = none_same back
-none_behind [] (is ∷ now) back none = absurd none
-none_behind (was ∷ before) [] back none = absurd none
-none_behind (was ∷ before) (is ∷ now) back none = (none.0, none_behind before now back none.1)
+pub rose_then : (some more : ℕ) (before mid now : Option ℕ) → RoseBy some before mid → RoseBy more mid now → RoseBy (some + more) before now
+rose_then some more None None None first second = omega (arith, first, second)
+rose_then some more None None (Some now) first second = absurd second
+rose_then some more None (Some mid) now first second = absurd first
+rose_then some more (Some before) None now first second = absurd first
+rose_then some more (Some before) (Some mid) None first second = absurd second
+rose_then some more (Some before) (Some mid) (Some now) first second =
+    ⊎_elim
+    (λ (late : mid + more ≤ now).
+    ⊎_elim (λ (early : before + some ≤ mid). inl (omega (arith, early, late))) (λ (full : MOST_COUNT ≤ mid). inr (omega (arith, full, late))) first)
+    (λ (full : MOST_COUNT ≤ now). inr full) second
 
--- ---- what is as great as a count can be
+-- one more fault
+pub rose_once : (before now : ℕ) → Rose before now → RoseBy 1 (Some before) (Some now)
+rose_once before now rose = grind (arith, rose)
 
-pub or_left : (a b : Bool) → a ≡ true → (a || b) ≡ true
-or_left true b is = refl
-or_left false b is = absurd (cc is)
+-- ---- how often a replica fails
 
-pub or_right : (a b : Bool) → b ≡ true → (a || b) ≡ true
-or_right true b is = refl
-or_right false b is = is
+pub times_both : (lane place : ℕ) (first second : List Fate) → times_lost lane place (first ++ second) ≡ times_lost lane place first + times_lost lane place second
+times_both lane place [] second = omega arith
+times_both lane place (fate ∷ first) second = omega (arith, times_both lane place first second)
 
-pub either : (a b : Bool) → (a || b) ≡ true → (a ≡ true) ⊎ (b ≡ true)
-either true b is = inl refl
-either false b is = inr is
+-- ---- counts
 
-full_stays : (before now : List ℕ) → NoneFell before now → has_full before ≡ true → has_full now ≡ true
-full_stays [] now none full = absurd (cc full)
-full_stays (was ∷ before) [] none full = absurd none
-full_stays (was ∷ before) (is ∷ now) none full =
-    ⊎_elim (λ (first : nat_le MOST_COUNT was ≡ true).
-    or_left (nat_le MOST_COUNT is) (has_full now) (le-leb MOST_COUNT is (omega (arith, none.0, leb-true MOST_COUNT was first))))
-    (λ (later : has_full before ≡ true). or_right (nat_le MOST_COUNT is) (has_full now) (full_stays before now none.1 later))
-    (either (nat_le MOST_COUNT was) (has_full before) full)
+pub go_on_same : (counts : Counts) → GoOn [] counts counts
+go_on_same counts lane place = rose_same (counts lane place)
 
-full_behind : (counts back : List ℕ) → has_full counts ≡ true → has_full (counts ++ back) ≡ true
-full_behind counts back full =
-    list_any-append (λ count. nat_le MOST_COUNT count) counts back ∙ or_left (has_full counts) (has_full back) full
+pub go_on_then : (first second : List Fate) (before mid now : Counts) → GoOn first before mid → GoOn second mid now → GoOn (first ++ second) before now
+go_on_then first second before mid now one two lane place =
+    subst (λ (n : ℕ). RoseBy n (before lane place) (now lane place)) (sym (times_both lane place first second))
+    (rose_then (times_lost lane place first) (times_lost lane place second) (before lane place) (mid lane place) (now lane place) (one lane place) (two lane place))
 
-pub sum_first : (count : ℕ) (counts : List ℕ) → sum (count ∷ counts) ≡ count + sum counts
-sum_first count counts = sum_by-cons (λ x. x) count counts
+-- none of them falls
+pub go_on_none : (fates : List Fate) (before now : Counts) → GoOn fates before now → GoOn [] before now
+go_on_none fates before now on lane place =
+    rose_less 0 (times_lost lane place fates) (before lane place) (now lane place) (omega arith) (on lane place)
 
-pub sum_both : (front back : List ℕ) → sum (front ++ back) ≡ sum front + sum back
-sum_both front back = sum_by-append (λ x. x) front back
+-- a call that goes well adds nothing
+pub go_on_kept : (before now : Counts) → GoOn [] before now → GoOn (Kept ∷ []) before now
+go_on_kept before now on lane place = on lane place
 
--- ---- counts go on
+-- ---- lanes
 
-pub go_on_same : (counts : List ℕ) → GoOn 0 counts counts
-go_on_same counts = record { none_fell = none_same counts; rose = inl (omega arith) }
-
-pub go_on_less : (less more : ℕ) (before now : List ℕ) → less ≤ more → GoOn more before now → GoOn less before now
-go_on_less less more before now fewer on = record {
-  none_fell = on.none_fell;
-  rose = ⊎_elim (λ (rose : sum before + more ≤ sum now). inl (omega (arith, fewer, rose))) (λ (full : has_full now ≡ true). inr full) on.rose;
-}
-
-pub go_on_then : (some more : ℕ) (before mid now : List ℕ) → GoOn some before mid → GoOn more mid now → GoOn (some + more) before now
-go_on_then some more before mid now first second = record {
-  none_fell = none_then before mid now first.none_fell second.none_fell;
-  rose = ⊎_elim
-      (λ (early : sum before + some ≤ sum mid).
-      ⊎_elim (λ (late : sum mid + more ≤ sum now). inl (omega (arith, early, late))) (λ (full : has_full now ≡ true). inr full) second.rose)
-      (λ (full : has_full mid ≡ true). inr (full_stays mid now second.none_fell full)) first.rose;
-}
-
--- behind a count
-pub go_on_after : (more count : ℕ) (before now : List ℕ) → GoOn more before now → GoOn more (count ∷ before) (count ∷ now)
-go_on_after more count before now on = record {
-  none_fell = (omega arith, on.none_fell);
-  rose = ⊎_elim (λ (rose : sum before + more ≤ sum now). inl (omega (arith, rose, sum_first count before, sum_first count now)))
-      (λ (full : has_full now ≡ true). inr (or_right (nat_le MOST_COUNT count) (has_full now) full)) on.rose;
-}
-
--- behind counts
-pub go_on_behind : (more : ℕ) (front before now : List ℕ) → GoOn more before now → GoOn more (front ++ before) (front ++ now)
-go_on_behind more [] before now on = on
-go_on_behind more (count ∷ front) before now on = go_on_after more count (front ++ before) (front ++ now) (go_on_behind more front before now on)
-
--- and before counts
-pub go_on_before : (more : ℕ) (before now back : List ℕ) → GoOn more before now → GoOn more (before ++ back) (now ++ back)
-go_on_before more before now back on = record {
-  none_fell = none_behind before now back on.none_fell;
-  rose = ⊎_elim (λ (rose : sum before + more ≤ sum now). inl (omega (arith, rose, sum_both before back, sum_both now back)))
-      (λ (full : has_full now ≡ true). inr (full_behind now back full)) on.rose;
-}
-
--- ---- one count rises
-
-risen_by : (was is : ℕ) (full : Bool) → nat_le MOST_COUNT is ≡ full → Rose was is → (was + 1 ≤ is) ⊎ (MOST_COUNT ≤ is)
-risen_by was is true told rose = inr (leb-true MOST_COUNT is told)
-risen_by was is false told rose = inl (omega (arith, rose, leb-false MOST_COUNT is told))
-
-pub go_on_once : (was is : ℕ) (counts : List ℕ) → Rose was is → GoOn 1 (was ∷ counts) (is ∷ counts)
-go_on_once was is counts rose = record {
-  none_fell = (omega (arith, rose), none_same counts);
-  rose = ⊎_elim (λ (more : was + 1 ≤ is). inl (omega (arith, more, sum_first was counts, sum_first is counts)))
-      (λ (full : MOST_COUNT ≤ is). inr (or_left (nat_le MOST_COUNT is) (has_full counts) (le-leb MOST_COUNT is full))) (risen_by was is (nat_le MOST_COUNT is) refl rose);
-}
-
-pub go_on_one : (counts : List ℕ) (place was is : ℕ) → slice_get counts place ≡ Some was → Rose was is → GoOn 1 counts (slice_set counts place is)
-go_on_one [] place was is there rose = absurd (cc there)
-go_on_one (count ∷ counts) zero was is there rose =
-    let same : count ≡ was = cc there in
-    go_on_once count is counts (subst (λ (n : ℕ). Rose n is) (sym same) rose)
-go_on_one (count ∷ counts) (suc place) was is there rose =
-    go_on_after 1 count counts (slice_set counts place is) (go_on_one counts place was is there rose)
-
--- ---- the counts of lanes and of a cluster
+get_set : {X : Type 0} (xs : List X) (place : ℕ) (old new : X) → slice_get xs place ≡ Some old → slice_get (slice_set xs place new) place ≡ Some new
+get_set [] place old new there = absurd (cc there)
+get_set (x ∷ xs) zero old new there = refl
+get_set (x ∷ xs) (suc place) old new there = get_set xs place old new there
 
 module _ {R : Type 0} (faults : R → ℕ) where
-  pub lanes_same : (lanes : List (LaneState R)) → LanesGoOn faults 0 lanes lanes
+  -- the counts of one lane go on, and no other lane has failed
+  pub lanes_on : (fates : List Fate) (lanes : List (LaneState R)) (place : ℕ) (old new : LaneState R) → slice_get lanes place ≡ Some old
+      → ((backup : ℕ) → RoseBy (times_lost place backup fates) (slice_get (fault_counts faults old.backups) backup) (slice_get (fault_counts faults new.backups) backup))
+      → ((lane backup : ℕ) → lane ≢ place → times_lost lane backup fates ≡ 0) → LanesGoOn faults fates lanes (slice_set lanes place new)
+  lanes_on fates lanes place old new there on others lane backup =
+      ⊎_elim
+      (λ (here : lane ≡ place).
+      subst (λ (n : ℕ). RoseBy (times_lost n backup fates) (lane_counts faults (slice_get lanes n) backup) (lane_counts faults (slice_get (slice_set lanes place new) n) backup)) (sym here)
+      (subst (λ (o : Option (LaneState R)). RoseBy (times_lost place backup fates) (lane_counts faults o backup) (lane_counts faults (slice_get (slice_set lanes place new) place) backup)) (sym there)
+      (subst (λ (o : Option (LaneState R)). RoseBy (times_lost place backup fates) (lane_counts faults (Some old) backup) (lane_counts faults o backup)) (sym (get_set lanes place old new there))
+      (on backup))))
+      (λ (apart : lane ≡ place → ⊥).
+      subst (λ (n : ℕ). RoseBy n (lane_counts faults (slice_get lanes lane) backup) (lane_counts faults (slice_get (slice_set lanes place new) lane) backup)) (sym (others lane backup apart))
+      (subst (λ (o : Option (LaneState R)). RoseBy 0 (lane_counts faults (slice_get lanes lane) backup) (lane_counts faults o backup)) (sym (set_beside lanes place new lane apart))
+      (rose_same (lane_counts faults (slice_get lanes lane) backup))))
+      (cases_eq lane place)
+
+  -- no replica of a lane has failed
+  pub lanes_kept : (lanes : List (LaneState R)) (place : ℕ) (old new : LaneState R) → slice_get lanes place ≡ Some old
+      → fault_counts faults new.backups ≡ fault_counts faults old.backups → LanesGoOn faults [] lanes (slice_set lanes place new)
+  lanes_kept lanes place old new there same =
+      lanes_on [] lanes place old new there
+      (λ backup. subst (λ (counts : List ℕ). RoseBy 0 (slice_get (fault_counts faults old.backups) backup) (slice_get counts backup)) (sym same)
+      (rose_same (slice_get (fault_counts faults old.backups) backup)))
+      (λ lane backup apart. refl)
+
+  pub lanes_same : (lanes : List (LaneState R)) → LanesGoOn faults [] lanes lanes
   lanes_same lanes = go_on_same (counts_in faults lanes)
 
-  pub lanes_then : (old mid new : List (LaneState R)) → LanesGoOn faults 0 old mid → LanesGoOn faults 0 mid new → LanesGoOn faults 0 old new
-  lanes_then old mid new first second = go_on_then 0 0 (counts_in faults old) (counts_in faults mid) (counts_in faults new) first second
+  pub lanes_then : (old mid new : List (LaneState R)) → LanesGoOn faults [] old mid → LanesGoOn faults [] mid new → LanesGoOn faults [] old new
+  lanes_then old mid new first second = go_on_then [] [] (counts_in faults old) (counts_in faults mid) (counts_in faults new) first second
 
-  pub counts_same : (state : ClusterState R) → CountsGoOn faults 0 state state
+  pub counts_same : (state : ClusterState R) → CountsGoOn faults [] state state
   counts_same state = lanes_same state.lanes
 
-  pub counts_less : (less more : ℕ) (old new : ClusterState R) → less ≤ more → CountsGoOn faults more old new → CountsGoOn faults less old new
-  counts_less less more old new fewer on = go_on_less less more (counts_in faults old.lanes) (counts_in faults new.lanes) fewer on
+  pub counts_none : (fates : List Fate) (old new : ClusterState R) → CountsGoOn faults fates old new → CountsGoOn faults [] old new
+  counts_none fates old new on = go_on_none fates (counts_in faults old.lanes) (counts_in faults new.lanes) on
 
-  pub counts_then : (some more : ℕ) (old mid new : ClusterState R) → CountsGoOn faults some old mid → CountsGoOn faults more mid new → CountsGoOn faults (some + more) old new
-  counts_then some more old mid new first second =
-      go_on_then some more (counts_in faults old.lanes) (counts_in faults mid.lanes) (counts_in faults new.lanes) first second
+  pub counts_then : (first second : List Fate) (old mid new : ClusterState R) → CountsGoOn faults first old mid → CountsGoOn faults second mid new
+      → CountsGoOn faults (first ++ second) old new
+  counts_then first second old mid new one two =
+      go_on_then first second (counts_in faults old.lanes) (counts_in faults mid.lanes) (counts_in faults new.lanes) one two
 
   -- from a cluster that is known by what is inside
-  pub counts_from : (more : ℕ) (inside old : ClusterState R) (lanes : List (LaneState R)) → inside ≡ old → LanesGoOn faults more inside.lanes lanes
-      → LanesGoOn faults more old.lanes lanes
-  counts_from more inside old lanes is on = subst (λ (state : ClusterState R). LanesGoOn faults more state.lanes lanes) is on
+  pub counts_from : (fates : List Fate) (inside old : ClusterState R) (lanes : List (LaneState R)) → inside ≡ old → LanesGoOn faults fates inside.lanes lanes
+      → LanesGoOn faults fates old.lanes lanes
+  counts_from fates inside old lanes is on = subst (λ (state : ClusterState R). LanesGoOn faults fates state.lanes lanes) is on
+
+-- ---- one replica failed
+
+pub is_of_it : (lane place left : ℕ) → is_of lane place (Lost lane place left) ≡ true
+is_of_it lane place left = λ i. eq-eqb lane lane refl i && eq-eqb place place refl i
+
+not_first : (a b : Bool) → a ≡ false → (a && b) ≡ false
+not_first a b is = ap (λ (it : Bool). it && b) is
+
+not_second : (a b : Bool) → b ≡ false → (a && b) ≡ false
+not_second true b is = is
+not_second false b is = refl
+
+pub is_of_other_lane : (lane place left other place' : ℕ) → (lane ≡ other → ⊥) → is_of other place' (Lost lane place left) ≡ false
+is_of_other_lane lane place left other place' apart = not_first (lane == other) (place == place') (ne_eqb lane other apart)
+
+pub is_of_other_place : (lane place left other : ℕ) → (place ≡ other → ⊥) → is_of lane other (Lost lane place left) ≡ false
+is_of_other_place lane place left other apart = not_second (lane == lane) (place == other) (ne_eqb place other apart)
+
+-- how often a replica fails, where there is one fate
+abbrev times_by : Bool → ℕ
+times_by b = (if b then 1 else 0) + 0
+
+module _ {R : Type 0} (faults : R → ℕ) where
+  -- the replica of a backup failed, and no other one of its lane
+  one_counts : (lane left : ℕ) (receiver : Option Node) (old new : LaneState R) (it : OneFailed faults receiver old.backups new.backups) (backup : ℕ)
+      → RoseBy (times_lost lane backup (Lost lane it.place left ∷ [])) (slice_get (fault_counts faults old.backups) backup) (slice_get (fault_counts faults new.backups) backup)
+  one_counts lane left receiver old new it backup =
+      subst (λ (counts : List ℕ). RoseBy (times_lost lane backup (Lost lane it.place left ∷ [])) (slice_get (fault_counts faults old.backups) backup) (slice_get counts backup)) (sym it.counts)
+      (⊎_elim
+      (λ (here : it.place ≡ backup).
+      subst (λ (n : ℕ). RoseBy (times_lost lane n (Lost lane it.place left ∷ [])) (slice_get (fault_counts faults old.backups) n) (slice_get (slice_set (fault_counts faults old.backups) it.place it.now) n)) here
+      (subst (λ (b : Bool). RoseBy (times_by b) (slice_get (fault_counts faults old.backups) it.place) (slice_get (slice_set (fault_counts faults old.backups) it.place it.now) it.place))
+      (sym (is_of_it lane it.place left))
+      (subst (λ (o : Option ℕ). RoseBy 1 o (slice_get (slice_set (fault_counts faults old.backups) it.place it.now) it.place)) (sym it.there)
+      (subst (λ (o : Option ℕ). RoseBy 1 (Some it.before) o) (sym (get_set (fault_counts faults old.backups) it.place it.before it.now it.there)) (rose_once it.before it.now it.rose)))))
+      (λ (apart : it.place ≡ backup → ⊥).
+      subst (λ (b : Bool). RoseBy (times_by b) (slice_get (fault_counts faults old.backups) backup) (slice_get (slice_set (fault_counts faults old.backups) it.place it.now) backup))
+      (sym (is_of_other_place lane it.place left backup apart))
+      (subst (λ (o : Option ℕ). RoseBy 0 (slice_get (fault_counts faults old.backups) backup) o)
+      (sym (set_beside (fault_counts faults old.backups) it.place it.now backup (λ same. apart (sym same)))) (rose_same (slice_get (fault_counts faults old.backups) backup))))
+      (cases_eq it.place backup))
+
+  pub lanes_failed_once : (lanes : List (LaneState R)) (place left : ℕ) (receiver : Option Node) (old new : LaneState R) → slice_get lanes place ≡ Some old
+      → (it : OneFailed faults receiver old.backups new.backups) → LanesGoOn faults (Lost place it.place left ∷ []) lanes (slice_set lanes place new)
+  lanes_failed_once lanes place left receiver old new there it =
+      lanes_on faults (Lost place it.place left ∷ []) lanes place old new there (one_counts place left receiver old new it)
+      (λ lane backup apart. ap times_by (is_of_other_lane place it.place left lane backup (λ same. apart (sym same))))

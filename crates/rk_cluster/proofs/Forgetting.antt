@@ -42,16 +42,9 @@ module _ {R : Type 0} (segments : R → Option Segments) (lanes : List (LaneStat
           subst (λ (o : Option ℕ). IsActedAs segments cluster (state_of new sessions) [] broken (all_acted cluster (forget_by place o)))
           (sym (ap (number_at number) (wire_is cluster is) ∙ found)) (acts cluster is)
 
-      pub forgets : IsHappening segments lanes new place (events.Forget message) None
+      pub forgets : {faults : R → ℕ} → IsHappening segments faults lanes new place (events.Forget message) None
           → ActsBy segments (state_of lanes sessions) (state_of new sessions) (λ cluster. forget_makes cluster place number) [] None
       forgets happening =
           makes_it None
           (only_acts segments (state_of lanes sessions) (state_of new sessions) (Happens place (events.Forget message) (Gave None)) []
           (happens_plain segments lanes new place (events.Forget message) None tt happening sessions))
-
-      pub forgets_worn : (broken : ℕ) → IsHappening segments lanes new place (events.Forget message) (Some broken)
-          → ActsBy segments (state_of lanes sessions) (state_of new sessions) (λ cluster. forget_makes cluster place number) [] (Some broken)
-      forgets_worn broken happening =
-          makes_it (Some broken)
-          (worn_acts segments (state_of lanes sessions) (state_of new sessions) (Happens place (events.Forget message) (Gave None)) [] broken
-          (happens_plain segments lanes new place (events.Forget message) (Some broken) tt happening sessions))

@@ -1,5 +1,5 @@
 -- An event that came to a lane came to the cluster.
-use Rattle.std.proofs.Common.{◌≡◌, ◌≢◌, ◌<◌, ℕ, Bool, false, List, [], length, Option, None, Some, Result, Ok, Err, IfErr, IfOk, IfSome, IsSomeAnd, slice_get, slice_set, refl, sym, ap, subst, ◌∙◌, arith}
+use Rattle.std.proofs.Common.{◌≡◌, ◌≢◌, ◌<◌, ℕ, Bool, false, List, [], ◌∷◌, length, Option, None, Some, Result, Ok, Err, IfErr, IfOk, IfSome, IsSomeAnd, slice_get, slice_set, refl, sym, ap, subst, ◌∙◌, arith}
 use Rattle.std.specs.Option.{option_map, option_or}
 use Rattle.std.proofs.Common.{cond}
 use Rattle.rk_types.specs.NumberMap.{NumberMap}
@@ -8,7 +8,7 @@ use Rattle.rk_outside.specs.Segments.{Segments}
 use Rattle.rk_world.specs.Backup.{Called, Gave}
 use Rattle.rk_world.specs.Client.{Session}
 use Rattle.rk_world.specs.Cluster.{Cluster, Happens, cluster_stepped, lane_at}
-use Rattle.rk_world.specs.ClusterRuns.{Leads}
+use Rattle.rk_world.specs.ClusterRuns.{ReplicasTell}
 use Rattle.rk_world.specs.Premises.{MayCome, MayHappen}
 use Rattle.rk_world.specs.Refusals.{comes_anyway, fault_of, refusal, worn}
 use Rattle.rk_world.specs.Replicas.{AllTell, IsTold}
@@ -20,16 +20,20 @@ use Rattle.rk_world.specs.declared.error.StepError.TheVariants as causes
 use Rattle.rk_world.specs.declared.event.Event.{Event}
 use Rattle.rk_world.specs.declared.event.Event.TheVariants as events
 use Rattle.rk_world.specs.declared.event.Seen.{Seen}
-use Rattle.rk_lane.specs.Events.{IsAnswerOf, IsRefused, IsStepFrom, IsStepOf}
+use Rattle.rk_lane.specs.Events.{IsRefused, IsStepFrom, IsStepOf, receiver_by}
 use Rattle.rk_lane.specs.LaneState.{LaneState, Running, world_with}
-use Rattle.rk_lane.proofs.Backed.{by_failing}
 use Rattle.rk_lane.proofs.Steps.{calm_same, may_happen_same}
 use Rattle.std.proofs.lemmas.Option.{slice_get_within}
-use Rattle.rk_cluster.specs.Acted.{lost_in, worn_by, worn_in}
-use Rattle.rk_cluster.specs.Effects.{ActsOne, IsActedAs}
+use Rattle.rk_cluster.specs.Acted.{acted_by, came_in, lost_in, worn_by, worn_in}
+use Rattle.rk_cluster.specs.Effects.{ActsAs, IsActedAs, RunsTo}
+use Rattle.rk_cluster.specs.Faults.{LanesGoOn, counts_in}
+use Rattle.rk_cluster.specs.Replicas.{Fate, Kept, answer_of, happening as happening_of, left_by}
 use Rattle.rk_cluster.specs.State.{IsOf, IsWorld}
 use Rattle.rk_cluster.specs.Steps.{IsLosing, lost_by, state_of}
+use Rattle.rk_cluster.proofs.Failing.{HasFate, has_fate, refused_on, spent_on}
+use Rattle.rk_cluster.proofs.Faults.{go_on_kept}
 use Rattle.rk_cluster.proofs.Leading.{leads_by, leads_nowhere}
+use Rattle.rk_cluster.proofs.Tells.{all_after}
 use Rattle.rk_cluster.proofs.Worlds.{same_count, set_there, world_at, world_set}
 
 -- ---- a refusal reads no backup
@@ -63,13 +67,10 @@ pub record MightCome (w : World) (event : Event) (called : Called) : Type 0 wher
   pub may : MayHappen w event
   pub come : MayCome called
   pub calm : IsCalmEvent w event
-  pub told : AllTell w → IsTold w event called
 
-told_so : (w : World) (event : Event) (called : Called) → IsAnswerOf (told_by_replica w event) called → IsTold w event called
-told_so w event called answers =
-    by_failing called (IsTold w event called)
-    (λ failed. let kept = answers.failed failed in record { fault = Some kept.0; told = kept.1 })
-    (λ fine. record { fault = None; told = answers.fine fine })
+-- what its replica answers in a world, if it calls one
+abbrev pub answer_in : World → ℕ → Event → Fate → Called
+answer_in w place event fate = told_by_replica w event (left_by fate place (receiver_by event w.wire))
 
 module _ {R : Type 0} (segments : R → Option Segments) (faults : R → ℕ) where
   -- what comes of an event in a lane: it took it, and it might come there, or it refused it
@@ -78,57 +79,88 @@ module _ {R : Type 0} (segments : R → Option Segments) (faults : R → ℕ) wh
   HasStepped old new broken w event called (Err error) = (new ≡ old) × (broken ≡ worn_by error)
 
   -- so it is in each world that a lane stands for
-  abbrev pub StepsLane : LaneState R → LaneState R → Event → Called → Option ℕ → Type 0
-  StepsLane old new event called broken = (w : World) → IsWorld segments old w → HasStepped old new broken w event called (step w event called)
+  abbrev pub StepsLane : ℕ → LaneState R → LaneState R → Event → Fate → Option ℕ → Type 0
+  StepsLane place old new event fate broken =
+      (w : World) → IsWorld segments old w → HasStepped old new broken w event (answer_in w place event fate) (step w event (answer_in w place event fate))
 
   -- so it shows in each of them whether a message was lost
-  abbrev pub ShowsLost : LaneState R → Event → Called → Bool → Type 0
-  ShowsLost old event called lost = (w : World) → IsWorld segments old w → lost_in (step w event called) ≡ lost
+  abbrev pub ShowsLost : ℕ → LaneState R → Event → Fate → Bool → Type 0
+  ShowsLost place old event fate lost = (w : World) → IsWorld segments old w → lost_in (step w event (answer_in w place event fate)) ≡ lost
 
-  -- where a lane took an event
-  pub taken : (old new : LaneState R) (event : Event) (seen : Seen) → (it : IsStepOf segments faults event old new seen) → StepsLane old new event it.called None
-  taken old new event seen it w is =
-      let same : Some it.before ≡ Some is.running = sym it.was ∙ is.runs in
-      let running_is : is.running ≡ it.before = cc same in
-      let from : IsStepFrom segments (world_with old it.before is.stored) event it.called new it.after seen = it.stepped is.stored is.told in
-      let world_is : w ≡ world_with old it.before is.stored = is.is ∙ ap (λ (running : Running). world_with old running is.stored) running_is in
-      let before : World = world_with old it.before is.stored in
-      let might : MightCome before event it.called = record {
-        may = may_happen_same (world_with old it.before []) before event refl it.comes.may;
-        come = it.may;
-        calm = calm_same before (length old.backups) [] event it.comes.calm;
-        told = λ tell. told_so before event it.called (from.given tell);
-      } in
-      subst (λ (v : World). HasStepped old new None v event it.called (step v event it.called)) (sym world_is)
-      (subst (HasStepped old new None before event it.called) (sym from.stepped)
-      (record { running = it.after; runs = it.is; stored = from.backups; told = from.told; is = refl }, refl, might))
+  module _ (lanes : List (LaneState R)) (place : ℕ) (old new : LaneState R) (there : slice_get lanes place ≡ Some old) (event : Event) where
+    -- where a lane took an event
+    module _ (seen : Seen) (it : IsStepOf segments faults event old new seen) where
+      abbrev its_fate : HasFate faults lanes place old new there (receiver_by event it.before.wire) it.called
+      its_fate = has_fate faults lanes place old new there (receiver_by event it.before.wire) it.called it.cause
 
-  pub taken_shows : (old new : LaneState R) (event : Event) (seen : Seen) → (it : IsStepOf segments faults event old new seen) → ShowsLost old event it.called seen.lost
-  taken_shows old new event seen it w is =
-      let same : Some it.before ≡ Some is.running = sym it.was ∙ is.runs in
-      let running_is : is.running ≡ it.before = cc same in
-      let from : IsStepFrom segments (world_with old it.before is.stored) event it.called new it.after seen = it.stepped is.stored is.told in
-      let world_is : w ≡ world_with old it.before is.stored = is.is ∙ ap (λ (running : Running). world_with old running is.stored) running_is in
-      ap (λ (v : World). lost_in (step v event it.called)) world_is ∙ ap lost_in from.stepped
+      module _ (w : World) (is : IsWorld segments old w) where
+        from : IsStepFrom segments (world_with old it.before is.stored) event it.called new it.after seen
+        from = it.stepped is.stored is.told
 
-  -- where it refused one
-  refused_in : (old new : LaneState R) (event : Event) (error : StepError) → (error ≢ causes.NoMemory) → IsRefused faults event old new error
-      → (w : World) → IsWorld segments old w → refusal w event ≡ Some error
-  refused_in old new event error other it w is =
-      let cause : IsSomeAnd old.running (λ running. refusal (world_with old running []) event ≡ Some error) = it.cause other in
-      let known : refusal (world_with old is.running []) event ≡ Some error =
-      subst (λ (running : Option Running). IsSomeAnd running (λ it. refusal (world_with old it []) event ≡ Some error)) is.runs cause in
-      ap (λ (v : World). refusal v event) is.is ∙ refusal_same (world_with old is.running []) is.stored event ∙ known
+        world_is : w ≡ world_with old it.before is.stored
+        world_is =
+            let same : Some it.before ≡ Some is.running = sym it.was ∙ is.runs in
+            let running_is : is.running ≡ it.before = cc same in
+            is.is ∙ ap (λ (running : Running). world_with old running is.stored) running_is
 
-  pub refused : (old new : LaneState R) (event : Event) (error : StepError) → (error ≢ causes.NoMemory) → IsRefused faults event old new error
-      → StepsLane old new event (Gave None) (worn_by error)
-  refused old new event error other it w is =
-      subst (HasStepped old new (worn_by error) w event (Gave None)) (sym (ap (stepped_by w event (Gave None)) (refused_in old new event error other it w is))) (it.same other, refl)
+        all_tell : AllTell (world_with old it.before is.stored)
+        all_tell = subst AllTell world_is is.all
 
-  refused_shows : (old new : LaneState R) (event : Event) (error : StepError) → (error ≢ causes.NoMemory) → IsRefused faults event old new error
-      → ShowsLost old event (Gave None) false
-  refused_shows old new event error other it w is =
-      ap (λ (found : Option StepError). lost_in (stepped_by w event (Gave None) found)) (refused_in old new event error other it w is)
+        answer_is : answer_in (world_with old it.before is.stored) place event its_fate.fate ≡ it.called
+        answer_is = its_fate.answers (world_with old it.before is.stored) event (from.given all_tell)
+
+        -- the world after it, in which all replicas still tell
+        after_is : IsWorld segments new (world_with new it.after from.backups)
+        after_is = record {
+          running = it.after;
+          runs = it.is;
+          stored = from.backups;
+          told = from.told;
+          is = refl;
+          all = all_after (world_with old it.before is.stored) event it.called (record { world = world_with new it.after from.backups; seen = seen }) all_tell from.stepped;
+        }
+
+        might : MightCome (world_with old it.before is.stored) event it.called
+        might = record {
+          may = may_happen_same (world_with old it.before []) (world_with old it.before is.stored) event refl it.comes.may;
+          come = it.may;
+          calm = calm_same (world_with old it.before is.stored) (length old.backups) [] event it.comes.calm;
+        }
+
+        taken_there : HasStepped old new None w event (answer_in w place event its_fate.fate) (step w event (answer_in w place event its_fate.fate))
+        taken_there =
+            subst (λ (v : World). HasStepped old new None v event (answer_in v place event its_fate.fate) (step v event (answer_in v place event its_fate.fate))) (sym world_is)
+            (subst (λ (called : Called). HasStepped old new None (world_with old it.before is.stored) event called (step (world_with old it.before is.stored) event called)) (sym answer_is)
+            (subst (HasStepped old new None (world_with old it.before is.stored) event it.called) (sym from.stepped) (after_is, refl, might)))
+
+        taken_lost : lost_in (step w event (answer_in w place event its_fate.fate)) ≡ seen.lost
+        taken_lost =
+            ap (λ (v : World). lost_in (step v event (answer_in v place event its_fate.fate))) world_is
+            ∙ ap (λ (called : Called). lost_in (step (world_with old it.before is.stored) event called)) answer_is
+            ∙ ap lost_in from.stepped
+
+      pub taken : StepsLane place old new event its_fate.fate None
+      taken w is = taken_there w is
+
+      pub taken_shows : ShowsLost place old event its_fate.fate seen.lost
+      taken_shows w is = taken_lost w is
+
+    -- where it refused one
+    module _ (error : StepError) (other : error ≢ causes.NoMemory) (it : IsRefused faults event old new error) where
+      refused_in : (w : World) → IsWorld segments old w → refusal w event ≡ Some error
+      refused_in w is =
+          let cause : IsSomeAnd old.running (λ running. refusal (world_with old running []) event ≡ Some error) = it.cause other in
+          let known : refusal (world_with old is.running []) event ≡ Some error =
+          subst (λ (running : Option Running). IsSomeAnd running (λ it. refusal (world_with old it []) event ≡ Some error)) is.runs cause in
+          ap (λ (v : World). refusal v event) is.is ∙ refusal_same (world_with old is.running []) is.stored event ∙ known
+
+      pub refused : StepsLane place old new event Kept (worn_by error)
+      refused w is =
+          subst (HasStepped old new (worn_by error) w event (answer_in w place event Kept)) (sym (ap (stepped_by w event (answer_in w place event Kept)) (refused_in w is))) (it.same other, refl)
+
+      pub refused_shows : ShowsLost place old event Kept false
+      refused_shows w is =
+          ap (λ (found : Option StepError). lost_in (stepped_by w event (answer_in w place event Kept) found)) (refused_in w is)
 
   -- ---- in a cluster
 
@@ -140,15 +172,17 @@ module _ {R : Type 0} (segments : R → Option Segments) (faults : R → ℕ) wh
     within_cluster : place < length cluster.lanes
     within_cluster = omega (arith, slice_get_within lanes place old there, same_count segments lanes cluster.lanes is.lanes)
 
-    step_leads : (stepped : Result Stepped StepError) → step (lane_at cluster place) event called ≡ stepped → Stood stepped → Leads cluster (cluster_stepped cluster place stepped)
-    step_leads (Ok stepped) stepped_is has =
-        subst (λ (it : Result Stepped StepError). Leads cluster (cluster_stepped cluster place it)) stepped_is
-        (leads_by cluster (Happens place event called) (within_cluster, has.2.may, has.2.come) has.2.calm has.2.told)
-    step_leads (Err error) stepped_is has = leads_nowhere cluster
+    step_leads : (stepped : Result Stepped StepError) → step (lane_at cluster place) event called ≡ stepped → Stood stepped
+        → ReplicasTell cluster (Happens place event called)
+        → RunsTo cluster (came_in (Happens place event called) stepped) (cluster_stepped cluster place stepped)
+    step_leads (Ok stepped) stepped_is has tell =
+        subst (λ (it : Result Stepped StepError). RunsTo cluster (Happens place event called ∷ []) (cluster_stepped cluster place it)) stepped_is
+        (leads_by cluster (Happens place event called) (within_cluster, has.2.may, has.2.come) has.2.calm tell)
+    step_leads (Err error) stepped_is has tell = leads_nowhere cluster
 
-    step_acted : (stepped : Result Stepped StepError) → Stood stepped → Leads cluster (cluster_stepped cluster place stepped)
+    step_acted : (stepped : Result Stepped StepError) → Stood stepped → RunsTo cluster (came_in (Happens place event called) stepped) (cluster_stepped cluster place stepped)
         → IsActedAs segments cluster (state_of (slice_set lanes place new) sessions) [] broken
-        (record { cluster = cluster_stepped cluster place stepped; said = []; worn = worn_in stepped })
+        (acted_by (Happens place event called) (cluster_stepped cluster place stepped) [] stepped)
     step_acted (Ok stepped) has leads = record {
       cluster = record { lanes = world_set segments lanes cluster.lanes place new stepped.world is.lanes has.0; sessions = is.sessions };
       leads = leads;
@@ -164,38 +198,47 @@ module _ {R : Type 0} (segments : R → Option Segments) (faults : R → ℕ) wh
       worn = sym has.1;
     }
 
-  pub happening : (lanes : List (LaneState R)) (place : ℕ) (old new : LaneState R) (event : Event) (called : Called) (broken : Option ℕ)
-      → slice_get lanes place ≡ Some old → StepsLane old new event called broken → (sessions : NumberMap Session)
-      → ActsOne segments (state_of lanes sessions) (state_of (slice_set lanes place new) sessions) (Happens place event called) [] broken
-  happening lanes place old new event called broken there steps sessions cluster is =
-      let stepped = step (lane_at cluster place) event called in
-      let has = steps (lane_at cluster place) (world_at segments lanes cluster.lanes place old (new_world place 0 0) is.lanes there) in
-      step_acted cluster lanes sessions place old new event called broken there is stepped has
-      (step_leads cluster lanes sessions place old new event called broken there is stepped refl has)
-
   module _ (lanes : List (LaneState R)) (place : ℕ) (old new : LaneState R) (event : Event) (there : slice_get lanes place ≡ Some old) where
-    losing : (called : Called) (broken : Option ℕ) (lost : Bool) → MayCome called → StepsLane old new event called broken → ShowsLost old event called lost
-        → IsLosing segments lanes (slice_set lanes place new) place event broken lost
-    losing called broken lost may steps shows = record {
-      happening = record { called = called; may = may; acts = happening lanes place old new event called broken there steps };
+    acts_there : (fate : Fate) (broken : Option ℕ) → StepsLane place old new event fate broken → (sessions : NumberMap Session)
+        → ActsAs segments (state_of lanes sessions) (state_of (slice_set lanes place new) sessions) (λ cluster. happening_of cluster place event fate) [] broken
+    acts_there fate broken steps sessions cluster is =
+        let called = answer_of cluster place event fate in
+        let stepped = step (lane_at cluster place) event called in
+        let has = steps (lane_at cluster place) (world_at segments lanes cluster.lanes place old (new_world place 0 0) is.lanes there) in
+        step_acted cluster lanes sessions place old new event called broken there is stepped has
+        (step_leads cluster lanes sessions place old new event called broken there is stepped refl has
+        (λ all. record { fault = left_by fate place (receiver_by event (lane_at cluster place).wire); told = refl }))
+
+    losing : (fate : Fate) (broken : Option ℕ) (lost : Bool) → LanesGoOn faults (fate ∷ []) lanes (slice_set lanes place new) → StepsLane place old new event fate broken
+        → ShowsLost place old event fate lost → IsLosing segments faults lanes (slice_set lanes place new) place event broken lost
+    losing fate broken lost counts steps shows = record {
+      happens = record { fate = fate; counts = counts; acts = acts_there fate broken steps };
       shows = λ sessions cluster is.
           shows (lane_at cluster place) (world_at segments lanes cluster.lanes place old (new_world place 0 0) is.lanes there);
     }
+
+    -- no replica is called where nothing changes
+    none_lost : LanesGoOn faults [] lanes (slice_set lanes place new) → LanesGoOn faults (Kept ∷ []) lanes (slice_set lanes place new)
+    none_lost on = go_on_kept (counts_in faults lanes) (counts_in faults (slice_set lanes place new)) on
 
     -- nothing comes of a lane that is spent
     spent_stands : old.running ≡ None → (w : World) → IsWorld segments old w → ⊥
     spent_stands runs w is = let never : None ≡ Some is.running = sym runs ∙ is.runs in absurd (cc never)
 
     taken_here : (running : Option Running) → old.running ≡ running → (seen : Seen) → IfSome running (λ _. IsStepOf segments faults event old new seen)
-        → IsLosing segments lanes (slice_set lanes place new) place event None seen.lost
-    taken_here (Some running) runs seen it =
-        losing it.called None seen.lost it.may (taken old new event seen it) (taken_shows old new event seen it)
-    taken_here None runs seen it =
-        losing (Gave None) None seen.lost tt (λ w is. absurd (spent_stands runs w is)) (λ w is. absurd (spent_stands runs w is))
+        → (old.running ≡ None → new ≡ old) → IsLosing segments faults lanes (slice_set lanes place new) place event None seen.lost
+    taken_here (Some running) runs seen it spent =
+        let its = has_fate faults lanes place old new there (receiver_by event it.before.wire) it.called it.cause in
+        losing its.fate None seen.lost its.counts (taken lanes place old new there event seen it) (taken_shows lanes place old new there event seen it)
+    taken_here None runs seen it spent =
+        losing Kept None seen.lost (none_lost (spent_on faults lanes place old new there (spent runs)))
+        (λ w is. absurd (spent_stands runs w is)) (λ w is. absurd (spent_stands runs w is))
 
     pub happened : (answer : Result Seen StepError) → (answer ≡ Err causes.NoMemory → ⊥) → IfSome old.running (λ _. IfOk answer (IsStepOf segments faults event old new))
-        → IfErr answer (IsRefused faults event old new) → IsLosing segments lanes (slice_set lanes place new) place event (worn_in answer) (lost_by answer)
-    happened (Ok seen) memory ok err = taken_here old.running refl seen ok
-    happened (Err error) memory ok err =
-        losing (Gave None) (worn_by error) false tt (refused old new event error (λ e. memory (ap Err e)) err)
-        (refused_shows old new event error (λ e. memory (ap Err e)) err)
+        → IfErr answer (IsRefused faults event old new) → (old.running ≡ None → new ≡ old)
+        → IsLosing segments faults lanes (slice_set lanes place new) place event (worn_in answer) (lost_by answer)
+    happened (Ok seen) memory ok err spent = taken_here old.running refl seen ok spent
+    happened (Err error) memory ok err spent =
+        let other : error ≢ causes.NoMemory = λ e. memory (ap Err e) in
+        losing Kept (worn_by error) false (none_lost (refused_on faults lanes place old new there event error err))
+        (refused lanes place old new there event error other err) (refused_shows lanes place old new there event error other err)

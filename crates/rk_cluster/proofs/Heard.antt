@@ -1,9 +1,17 @@
 -- What a call hears of a lane's answer.
-use Rattle.std.proofs.Common.{◌≡◌, ℕ, Option, None, Some, Result, Ok, Err, refl, ap}
+use Rattle.std.proofs.Common.{◌≡◌, ℕ, Bool, true, false, [], Option, None, Some, IsSomeAnd, Result, Ok, Err, IfErr, refl, sym, ap}
+use Rattle.rk_types.specs.NumberMap.{get}
+use Rattle.rk_message.specs.declared.message.Message.{Message}
+use Rattle.rk_world.specs.Refusals.{comes_anyway, refusal, where_true, wire_fault}
+use Rattle.rk_world.specs.World.{World, has_crashed}
+use Rattle.rk_world.specs.declared.event.Event.{Event}
+use Rattle.rk_world.specs.declared.event.Event.TheVariants as events
 use Rattle.rk_world.specs.declared.error.StepError.{StepError}
 use Rattle.rk_world.specs.declared.error.StepError.TheVariants as causes
 use Rattle.rk_world.specs.declared.event.Seen.{Seen}
-use Rattle.rk_cluster.specs.Acted.{worn_in}
+use Rattle.rk_lane.specs.Events.{IsRefused}
+use Rattle.rk_lane.specs.LaneState.{LaneState, Running, world_with}
+use Rattle.rk_cluster.specs.Acted.{worn_by, worn_in}
 use Rattle.rk_cluster.specs.Steps.{WhereWorn, failure_of}
 use Rattle.rk_cluster.specs.declared.code.Code.{Code}
 use Rattle.rk_cluster.specs.declared.error.ClusterError.{ClusterError}
@@ -66,3 +74,30 @@ pub worn_weaker : (Holds Gives : ℕ → Type 0) (e : ClusterError) → ((number
 worn_weaker Holds Gives errors.NoMemory gives holds = tt
 worn_weaker Holds Gives (errors.Code code) gives holds = holds
 worn_weaker Holds Gives (errors.Worn number) gives holds = gives number holds
+
+-- ---- an event that also a lane takes that is worn
+
+-- why it is refused wears no number
+crash_alone : (dead : Bool) (master : ℕ) (error : StepError) → where_true dead (causes.Dead master) ≡ Some error → worn_by error ≡ None
+crash_alone true master error refused = let same : causes.Dead master ≡ error = cc refused in ap worn_by (sym same)
+crash_alone false master error refused = absurd (cc refused)
+
+forget_alone : (number : ℕ) (found : Option Message) (error : StepError) → wire_fault number found ≡ Some error → worn_by error ≡ None
+forget_alone number None error refused = let same : causes.NoMessage number ≡ error = cc refused in ap worn_by (sym same)
+forget_alone number (Some message) error refused = absurd (cc refused)
+
+anyway_alone : (w : World) (event : Event) (error : StepError) → comes_anyway event ≡ true → refusal w event ≡ Some error → worn_by error ≡ None
+anyway_alone w (events.Crash master) error anyway refused = crash_alone (has_crashed w master) master error refused
+anyway_alone w (events.Forget number) error anyway refused = forget_alone number (get w.wire.messages number) error refused
+anyway_alone w _ error anyway refused = absurd (cc anyway)
+
+anyway_here : {R : Type 0} (lane : LaneState R) (running : Option Running) (event : Event) (error : StepError) → comes_anyway event ≡ true
+    → IsSomeAnd running (λ it. refusal (world_with lane it []) event ≡ Some error) → worn_by error ≡ None
+anyway_here lane (Some running) event error anyway refused = anyway_alone (world_with lane running []) event error anyway refused
+anyway_here lane None event error anyway refused = absurd refused
+
+pub anyway_well : {R : Type 0} (faults : R → ℕ) (old new : LaneState R) (event : Event) (answer : Result Seen StepError) → comes_anyway event ≡ true
+    → (answer ≡ Err causes.NoMemory → ⊥) → IfErr answer (IsRefused faults event old new) → worn_in answer ≡ None
+anyway_well faults old new event (Ok seen) anyway memory refused = refl
+anyway_well faults old new event (Err error) anyway memory refused =
+    anyway_here old old.running event error anyway (refused.cause (λ e. memory (ap Err e)))

@@ -1,5 +1,5 @@
 -- How a client gets a session.
-use Rattle.std.proofs.Common.{◌≡◌, ◌≤◌, ◌<◌, ◌^◌, ℕ, Bool, true, false, List, [], ◌∷◌, ◌++◌, All, length, map, is_some, nat_le, Option, None, Some, refl, sym, ap, subst, ◌∙◌, arith}
+use Rattle.std.proofs.Common.{◌≡◌, ◌≤◌, ◌<◌, ◌^◌, ℕ, Bool, true, false, List, [], ◌∷◌, ◌++◌, All, length, map, is_some, nat_le, Option, None, Some, refl, sym, ap, subst, ◌∙◌, inl, arith}
 use Rattle.std.proofs.lemmas.Bool.Decides.{nat_tests}
 use Rattle.std.proofs.lemmas.List.Elements.{All-from_recursion, All-nil, All-replicate}
 use Rattle.std.specs.Int.{w32}
@@ -10,20 +10,19 @@ use Rattle.rk_entry.specs.Numbers.{IsNumber}
 use Rattle.rk_outside.specs.Segments.{Segments}
 use Rattle.rk_world.specs.Client.{Session, new_session}
 use Rattle.rk_world.specs.Cluster.{Cluster, Joins, Occurrence, joined_by}
-use Rattle.rk_world.specs.ClusterRuns.{Leads}
 use Rattle.rk_world.specs.Premises.{IsCached, MayAct, MayHappen}
 use Rattle.rk_world.specs.Refusals.{MOST_CLIENTS}
 use Rattle.rk_world.specs.World.{new_world}
 use Rattle.rk_world.specs.declared.event.Event.{Event}
 use Rattle.rk_world.specs.declared.event.Event.TheVariants as events
 use Rattle.rk_lane.specs.LaneState.{LaneState}
-use Rattle.rk_cluster.specs.Acted.{all_acted, quietly}
+use Rattle.rk_cluster.specs.Acted.{acted_well, all_acted}
 use Rattle.rk_cluster.specs.Codes.{client_code, code_where, first_code}
-use Rattle.rk_cluster.specs.Effects.{ActsBy, ActsOne, EndsIn, HasCode, IsActedAs}
+use Rattle.rk_cluster.specs.Effects.{ActsBy, ActsOne, CutShortBy, EndsIn, HasCode, IsActedAs, RunsTo}
 use Rattle.rk_cluster.specs.Looks.{all_lanes}
 use Rattle.rk_cluster.specs.Makes.{client_makes, in_lanes}
 use Rattle.rk_cluster.specs.State.{ClusterState, IsOf}
-use Rattle.rk_cluster.specs.Steps.{CarriesSteps, IsDeed, IsPlain, StepsEndWorn, WhereWorn, occurrences, state_of}
+use Rattle.rk_cluster.specs.Steps.{AreStepsCutShort, CarriesSteps, IsDeed, IsPlain, StepsEndWorn, WhereWorn, occurrences, state_of}
 use Rattle.rk_cluster.specs.declared.code.Code.{Code}
 use Rattle.rk_cluster.specs.declared.code.Code.TheVariants.{Limit, Taken}
 use Rattle.rk_cluster.specs.declared.error.ClusterError.{ClusterError}
@@ -31,6 +30,7 @@ use Rattle.rk_cluster.specs.declared.error.ClusterError.TheVariants as errors
 use Rattle.rk_cluster.specs.declared.steps.Deed.{Deed}
 use Rattle.rk_cluster.proofs.Carrying.{only_acts}
 use Rattle.rk_cluster.proofs.Leading.{leads_by}
+use Rattle.rk_cluster.proofs.Shortage.{before_short, came_short, made_short}
 use Rattle.rk_cluster.proofs.Worlds.{same_count}
 
 -- ---- tests
@@ -118,11 +118,11 @@ module _ {R : Type 0} (segments : R → Option Segments) where
       → ActsOne segments (state_of lanes sessions) (state_of lanes (insert sessions client (new_session client))) (Joins client) [] None
   joins lanes sessions client number absent cluster is =
       let none : get cluster.sessions client ≡ None = ap (λ (known : NumberMap Session). get known client) is.sessions ∙ absent in
-      subst (λ (found : Option Session). IsActedAs segments cluster (state_of lanes (insert sessions client (new_session client))) [] None (quietly (joined_by cluster client found))) (sym none)
+      subst (λ (found : Option Session). IsActedAs segments cluster (state_of lanes (insert sessions client (new_session client))) [] None (acted_well (Joins client) (joined_by cluster client found))) (sym none)
       (record {
         cluster = record { lanes = is.lanes; sessions = ap (λ (known : NumberMap Session). insert known client (new_session client)) is.sessions };
         leads =
-            subst (λ (found : Option Session). Leads cluster (joined_by cluster client found)) none
+            subst (λ (found : Option Session). RunsTo cluster (Joins client ∷ []) (joined_by cluster client found)) none
             (leads_by cluster (Joins client) number tt tt);
         said = refl;
         worn = refl;
@@ -154,10 +154,35 @@ module _ {R : Type 0} (segments : R → Option Segments) where
       subst (λ (made : List Occurrence). IsActedAs segments cluster (state_of new sessions) [] (Some number) (all_acted cluster (made ++ more)))
       (made_in_all old sessions event count cluster is) (worn sessions more cluster is)
 
+  -- or was cut short
+  pub all_short : (old new : List (LaneState R)) (sessions : NumberMap Session) (event : Event) → length old ≡ LANES → AreStepsCutShort segments old new (deeds_in event)
+      → CutShortBy segments (state_of old sessions) (state_of new sessions) (λ cluster. in_lanes (all_lanes cluster) event)
+  all_short old new sessions event count short =
+      made_short segments (state_of old sessions) (state_of new sessions) (λ cluster. in_lanes (all_lanes cluster) event) (occurrences (deeds_in event))
+      (λ cluster is. sym (made_in_all old sessions event count cluster is)) (short sessions)
+
+  pub all_short_before : (old new : List (LaneState R)) (sessions : NumberMap Session) (event : Event) (more : List Occurrence) → length old ≡ LANES
+      → AreStepsCutShort segments old new (deeds_in event)
+      → CutShortBy segments (state_of old sessions) (state_of new sessions) (λ cluster. in_lanes (all_lanes cluster) event ++ more)
+  all_short_before old new sessions event more count short =
+      made_short segments (state_of old sessions) (state_of new sessions) (λ cluster. in_lanes (all_lanes cluster) event ++ more) (occurrences (deeds_in event) ++ more)
+      (λ cluster is. ap (λ (made : List Occurrence). made ++ more) (sym (made_in_all old sessions event count cluster is)))
+      (before_short segments (state_of old sessions) (state_of new sessions) (occurrences (deeds_in event)) more (short sessions))
+
+  -- it came in all lanes, and memory was wanting for the session
+  pub joins_short : (old new : List (LaneState R)) (sessions later : NumberMap Session) (client : ℕ) → length old ≡ LANES → later ≡ sessions
+      → CarriesSteps segments old new (deeds_in (events.AddClient client)) []
+      → CutShortBy segments (state_of old sessions) (state_of new later) (λ cluster. client_makes cluster client)
+  joins_short old new sessions later client count same carries =
+      made_short segments (state_of old sessions) (state_of new later) (λ cluster. client_makes cluster client) (occurrences (deeds_in (events.AddClient client)) ++ Joins client ∷ [])
+      (λ cluster is. ap (λ (made : List Occurrence). made ++ Joins client ∷ []) (sym (made_in_all old sessions (events.AddClient client) count cluster is)))
+      (came_short segments (state_of old sessions) (state_of new sessions) (state_of new later) (occurrences (deeds_in (events.AddClient client))) (Joins client ∷ []) (carries sessions)
+      (record { lanes = inl refl; sessions = inl same }))
+
   -- how a call ends in an error, where it has no code
   pub ends_in : (Holds : ℕ → Type 0) (old new : ClusterState R) (code_of : Cluster → Option Code) (makes : Cluster → List Occurrence) (e : ClusterError)
       → HasCode segments old code_of None → ((number : ℕ) → Holds number → ActsBy segments old new makes [] (Some number)) → WhereWorn Holds e
-      → EndsIn segments old new code_of makes e
-  ends_in Holds old new code_of makes errors.NoMemory code gives worn = tt
-  ends_in Holds old new code_of makes (errors.Code c) code gives worn = absurd worn
-  ends_in Holds old new code_of makes (errors.Worn number) code gives worn = (code, gives number worn)
+      → CutShortBy segments old new makes → EndsIn segments old new code_of makes e
+  ends_in Holds old new code_of makes errors.NoMemory code gives worn short = short
+  ends_in Holds old new code_of makes (errors.Code c) code gives worn short = absurd worn
+  ends_in Holds old new code_of makes (errors.Worn number) code gives worn short = (code, gives number worn)

@@ -1,7 +1,8 @@
--- Runs that lead from one cluster to another, one after the other.
+-- Runs that lead from one cluster to another, one after the other, with what occurred.
 use Rattle.std.proofs.Common.{◌≡◌, List, [], ◌∷◌, ◌++◌, refl, ap, subst, sym, ◌∙◌}
 use Rattle.rk_world.specs.Cluster.{Cluster, ClusterMay, KeepsCalm, Occurrence, cluster_after, cluster_run}
-use Rattle.rk_world.specs.ClusterRuns.{IsRun, Leads, ReplicasTell}
+use Rattle.rk_world.specs.ClusterRuns.{IsRun, ReplicasTell}
+use Rattle.rk_cluster.specs.Effects.{RunsTo}
 
 -- a run goes on where the first part of it ended
 pub runs_join : (cluster : Cluster) (before after : List Occurrence) → cluster_run cluster (before ++ after) ≡ cluster_run (cluster_run cluster before) after
@@ -14,22 +15,19 @@ run_on cluster (occurrence ∷ before) after first second =
     (first.0, first.1, first.2, run_on (cluster_after cluster occurrence) before after first.3 second)
 
 -- where nothing occurs
-pub leads_nowhere : (cluster : Cluster) → Leads cluster cluster
-leads_nowhere cluster = record { occurred = []; run = tt; is = refl }
+pub leads_nowhere : (cluster : Cluster) → RunsTo cluster [] cluster
+leads_nowhere cluster = record { run = tt; is = refl }
 
 -- where one thing occurs
 pub leads_by : (cluster : Cluster) (occurrence : Occurrence) → ClusterMay cluster occurrence → KeepsCalm cluster occurrence → ReplicasTell cluster occurrence
-    → Leads cluster (cluster_after cluster occurrence)
-leads_by cluster occurrence may calm tell = record { occurred = occurrence ∷ []; run = (may, calm, tell, tt); is = refl }
+    → RunsTo cluster (occurrence ∷ []) (cluster_after cluster occurrence)
+leads_by cluster occurrence may calm tell = record { run = (may, calm, tell, tt); is = refl }
 
 -- where one run follows another
-pub leads_on : (before middle after : Cluster) → Leads before middle → Leads middle after → Leads before after
-leads_on before middle after first second = record {
-  occurred = first.occurred ++ second.occurred;
-  run =
-      run_on before first.occurred second.occurred first.run
-      (subst (λ (cluster : Cluster). IsRun cluster second.occurred) first.is second.run);
+pub leads_on : (before middle after : Cluster) (first second : List Occurrence) → RunsTo before first middle → RunsTo middle second after → RunsTo before (first ++ second) after
+leads_on before middle after first second one two = record {
+  run = run_on before first second one.run (subst (λ (cluster : Cluster). IsRun cluster second) one.is two.run);
   is =
-      second.is ∙ ap (λ (cluster : Cluster). cluster_run cluster second.occurred) first.is
-      ∙ sym (runs_join before first.occurred second.occurred);
+      two.is ∙ ap (λ (cluster : Cluster). cluster_run cluster second) one.is
+      ∙ sym (runs_join before first second);
 }

@@ -1,10 +1,12 @@
 pub mod Worlds
 pub mod Leading
+pub mod Tells
 pub mod Faults
 pub mod Failing
 pub mod Happenings
 pub mod Heard
 pub mod Carrying
+pub mod Shortage
 pub mod Deeds
 pub mod Coming
 pub mod Joining

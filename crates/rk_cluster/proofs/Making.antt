@@ -15,7 +15,7 @@ use Rattle.rk_cluster.specs.Effects.{ActsBy, EndsIn, HasCode, IsActedAs, IsCarri
 use Rattle.rk_cluster.specs.Looks.{all_lanes}
 use Rattle.rk_cluster.specs.Makes.{in_lanes, next_tablet}
 use Rattle.rk_cluster.specs.State.{ClusterState, IsOf}
-use Rattle.rk_cluster.specs.Steps.{CarriesSteps, IsDeed, IsPlain, StepsEndWorn, WhereWorn, occurrences, state_of}
+use Rattle.rk_cluster.specs.Steps.{AreStepsCutShort, CarriesSteps, IsDeed, IsPlain, StepsEndWorn, WhereWorn, occurrences, state_of}
 use Rattle.rk_cluster.specs.Told.{LanesTell, WhereRefused}
 use Rattle.rk_cluster.specs.declared.code.Code.{Code}
 use Rattle.rk_cluster.specs.declared.error.ClusterError.{ClusterError}
@@ -23,6 +23,7 @@ use Rattle.rk_cluster.specs.declared.error.ClusterError.TheVariants as errors
 use Rattle.rk_cluster.specs.declared.steps.Deed.{Deed}
 use Rattle.rk_cluster.proofs.Carrying.{none_acts}
 use Rattle.rk_cluster.proofs.Joining.{deeds_in, ends_in, made_in_all}
+use Rattle.rk_cluster.proofs.Shortage.{made_short, nothing_done, same_short}
 
 -- the same event in some lanes
 abbrev pub deeds_of : Event → List ℕ → List Deed
@@ -79,13 +80,15 @@ module _ {R : Type 0} (segments : R → Option Segments) where
         subst (λ (it : List Occurrence). IsActedAs segments cluster (state_of new sessions) [] (Some number) (all_acted cluster it))
         (append-nil (occurrences deeds) ∙ sym (made cluster is)) (worn sessions [] cluster is)
 
-    -- some were done, up to one that found its lane worn
-    pub stopped : (e : ClusterError) → WhereWorn (StepsEndWorn segments lanes new deeds) e → EndsIn segments (state_of lanes sessions) (state_of new sessions) code_of makes e
-    stopped e worn = ends_in segments (StepsEndWorn segments lanes new deeds) (state_of lanes sessions) (state_of new sessions) code_of makes e code stops worn
+    -- some were done, up to one that found its lane worn, or for which memory was wanting
+    pub stopped : (e : ClusterError) → WhereWorn (StepsEndWorn segments lanes new deeds) e → AreStepsCutShort segments lanes new deeds → EndsIn segments (state_of lanes sessions) (state_of new sessions) code_of makes e
+    stopped e worn short =
+        ends_in segments (StepsEndWorn segments lanes new deeds) (state_of lanes sessions) (state_of new sessions) code_of makes e code stops worn
+        (made_short segments (state_of lanes sessions) (state_of new sessions) makes (occurrences deeds) made (short sessions))
 
   -- a call that is refused ends in its code
   pub refused : (state : ClusterState R) (code_of : Cluster → Option Code) (makes : Cluster → List Occurrence) (Holds : Code → Type 0) (e : ClusterError)
       → ((code : Code) → Holds code → HasCode segments state code_of (Some code)) → WhereRefused Holds e → EndsIn segments state state code_of makes e
-  refused state code_of makes Holds errors.NoMemory gives holds = tt
+  refused state code_of makes Holds errors.NoMemory gives holds = nothing_done segments state state makes (same_short state)
   refused state code_of makes Holds (errors.Code code) gives holds = (gives code holds, refl)
   refused state code_of makes Holds (errors.Worn number) gives holds = absurd holds

@@ -18,6 +18,7 @@ use Rattle.rk_cluster.specs.Fresh.{AreEmpty, AreMadeOf, IsHand, IsMadeOf, IsNewL
 use Rattle.rk_cluster.specs.Masters.{HasBackups}
 use Rattle.rk_cluster.specs.State.{AreWorlds, ClusterState, IsOf, IsWorld}
 use Rattle.rk_cluster.specs.Steps.{AreLanes, state_of}
+use Rattle.rk_inv_tablets.proofs.steady.Lanes.{tell_new}
 use Rattle.rk_cluster.proofs.Worlds.{all_at, something_within}
 
 -- ---- hands
@@ -144,6 +145,7 @@ module _ {R : Type 0} (segments : R → Option Segments) (masters : ℕ) where
         stored = new_backups (length replicas);
         told = made.told empty;
         is = ap (λ (w : World). record w { backups = new_backups (length replicas) }) (sym made.new.world);
+        all = tell_new number masters (length replicas);
       })
 
   pub made_worlds : (backups from : ℕ) (hands : List (Vec R)) (lanes : List (LaneState R)) → All (λ (hand : Vec R). length hand.items ≡ backups) hands

@@ -12,7 +12,7 @@ use Rattle.rk_world.specs.Backup.{Called, Gave}
 use Rattle.rk_world.specs.Refusals.{refusal}
 use Rattle.rk_world.specs.Room.{MOST_NUMBER}
 use Rattle.rk_world.specs.Runs.{IsFormedWithRoom, world_stepped}
-use Rattle.rk_world.specs.Step.{delivered, delivered_to, sent_again, step, stepped_by, Stepped}
+use Rattle.rk_world.specs.Step.{sent_again, step, stepped_by, Stepped, told_for, told_to}
 use Rattle.rk_world.specs.World.{World, new_world, standing}
 use Rattle.rk_world.specs.declared.error.StepError.{StepError}
 use Rattle.rk_world.specs.declared.event.Event.TheVariants as events
@@ -21,39 +21,30 @@ use Rattle.rk_world.specs.Cluster.{Cluster, Happens, Occurrence, cluster_stepped
 use Rattle.rk_lane.specs.LaneState.{LaneState, Running, world_with}
 use Rattle.rk_lane.specs.Requests.{AreForMasters, IsOfMaster}
 use Rattle.rk_cluster.specs.Acted.{acted, all_acted, worn_in}
-use Rattle.rk_cluster.specs.Again.{IsNextIn, IsSentAgain, again_at}
+use Rattle.rk_cluster.specs.Again.{IsAgainCutShort, IsNextIn, IsSentAgain, again_at}
 use Rattle.rk_cluster.specs.Codes.{again_code, code_where, first_code}
-use Rattle.rk_cluster.specs.Effects.{Acts, ActsBy, ActsOne, HasCode, IsActedAs}
+use Rattle.rk_cluster.specs.Effects.{Acts, ActsBy, ActsOne, CutShortBy, HasCode, IsActedAs}
 use Rattle.rk_cluster.specs.Looks.{is_client}
 use Rattle.rk_cluster.specs.Makes.{again_by, again_in, again_makes, in_lane, request_lane}
+use Rattle.rk_cluster.specs.Spending.{AreButOne}
 use Rattle.rk_cluster.specs.State.{ClusterState, IsOf, IsWorld}
 use Rattle.rk_cluster.specs.Steps.{IsHappening, state_of}
 use Rattle.rk_cluster.specs.declared.code.Code.{Code}
 use Rattle.rk_cluster.specs.declared.code.Code.TheVariants.{NothingSent, Unknown}
-use Rattle.rk_cluster.proofs.Carrying.{gone_on, only_acts, worn_acts, worn_stays}
+use Rattle.rk_cluster.proofs.Carrying.{gone_on, last_stays, only_acts, worn_acts, worn_stays}
 use Rattle.rk_cluster.proofs.Deeds.{happens_plain}
+use Rattle.rk_cluster.proofs.Shortage.{lanes_short, made_short, none_short}
 use Rattle.rk_cluster.proofs.Worlds.{all_at, same_count, world_at}
 
 -- ---- a message for a master calls no replica
 
-reached_same : (w : World) (message : Message) (to : Node) (called : Called) → IsOfMaster to → delivered_to w message to called ≡ delivered_to w message to (Gave None)
-reached_same w message (nodes.Client client) called is = absurd is
-reached_same w message nodes.Coordinator called is = absurd is
-reached_same w message (nodes.Master master) called is = refl
-reached_same w message (nodes.Backup backup) called is = absurd is
+told_none_to : (w : World) (message : Message) (to : Node) (fault : Option ℕ) → IsOfMaster to → told_to w message to fault ≡ Gave None
+told_none_to w message (nodes.Backup backup) fault is = absurd is
+told_none_to w message _ fault is = refl
 
-delivered_same : (w : World) (message : Option Message) (called : Called) → IfSome message (λ it. IsOfMaster it.to) → delivered w message called ≡ delivered w message (Gave None)
-delivered_same w None called is = refl
-delivered_same w (Some message) called is = reached_same w message message.to called is
-
-stepped_same : (w : World) (number : ℕ) (called : Called) (refused : Option StepError) → IfSome (get w.wire.messages number) (λ it. IsOfMaster it.to)
-    → stepped_by w (events.Deliver number) called refused ≡ stepped_by w (events.Deliver number) (Gave None) refused
-stepped_same w number called None is = ap Ok (delivered_same w (get w.wire.messages number) called is)
-stepped_same w number called (Some error) is = refl
-
-pub deliver_same : (w : World) (number : ℕ) (called : Called) → IfSome (get w.wire.messages number) (λ it. IsOfMaster it.to)
-    → step w (events.Deliver number) called ≡ step w (events.Deliver number) (Gave None)
-deliver_same w number called is = stepped_same w number called (refusal w (events.Deliver number)) is
+told_none : (w : World) (found : Option Message) (fault : Option ℕ) → IfSome found (λ it. IsOfMaster it.to) → told_for w found fault ≡ Gave None
+told_none w None fault is = refl
+told_none w (Some message) fault is = told_none_to w message message.to fault is
 
 -- ---- what is sent again is for a master
 
@@ -105,13 +96,12 @@ module _ {R : Type 0} (segments : R → Option Segments) where
   last_acts old new occurrence (Some number) one = worn_acts segments old new occurrence [] number one
 
   -- a message for a master calls no replica
-  delivers : (old new : List (LaneState R)) (sessions : NumberMap Session) (lane number : ℕ) (broken : Option ℕ) (cluster : Cluster) → IsOf segments (state_of old sessions) cluster
-      → IsHappening segments old new lane (events.Deliver number) broken → IfSome (get (lane_at cluster lane).wire.messages number) (λ it. IsOfMaster it.to)
+  delivers : {faults : R → ℕ} (old new : List (LaneState R)) (sessions : NumberMap Session) (lane number : ℕ) (broken : Option ℕ) (cluster : Cluster) → IsOf segments (state_of old sessions) cluster
+      → IsHappening segments faults old new lane (events.Deliver number) broken → IfSome (get (lane_at cluster lane).wire.messages number) (λ it. IsOfMaster it.to)
       → IsActedAs segments cluster (state_of new sessions) [] broken (acted cluster (Happens lane (events.Deliver number) (Gave None)))
   delivers old new sessions lane number broken cluster is it for =
-      subst (λ (stepped : Result Stepped StepError). IsActedAs segments cluster (state_of new sessions) [] broken
-      (record { cluster = cluster_stepped cluster lane stepped; said = []; worn = worn_in stepped }))
-      (deliver_same (lane_at cluster lane) number it.called for) (it.acts sessions cluster is)
+      subst (λ (called : Called). IsActedAs segments cluster (state_of new sessions) [] broken (acted cluster (Happens lane (events.Deliver number) called)))
+      (told_none (lane_at cluster lane) (get (lane_at cluster lane).wire.messages number) _ for) (it.acts sessions cluster is)
 
   module _ (old : List (LaneState R)) (lane client number : ℕ) (its : LaneState R) (there : slice_get old lane ≡ Some its) (next : IsNextIn number its)
       (sessions : NumberMap Session) (cluster : Cluster) (is : IsOf segments (state_of old sessions) cluster) where
@@ -147,11 +137,11 @@ module _ {R : Type 0} (segments : R → Option Segments) where
 
     -- ---- event by event
 
-    module _ (now : List (LaneState R)) (sent : IsHappening segments old now lane (events.Again client) None) where
+    module _ {faults : R → ℕ} (now : List (LaneState R)) (sent : IsHappening segments faults old now lane (events.Again client) None) where
       sends_one : IsActedAs segments cluster (state_of now sessions) [] None (acted cluster (Happens lane (events.Again client) (Gave None)))
       sends_one = happens_plain segments old now lane (events.Again client) None tt sent sessions cluster is
 
-      pub again_undelivered : (new : List (LaneState R)) (broken : ℕ) → IsHappening segments now new lane (events.Deliver number) (Some broken)
+      pub again_undelivered : (new : List (LaneState R)) (broken : ℕ) → IsHappening segments faults now new lane (events.Deliver number) (Some broken)
           → IsActedAs segments cluster (state_of new sessions) [] (Some broken) (all_acted cluster (again_at lane client number))
       again_undelivered new broken reached =
           let first = acted cluster (Happens lane (events.Again client) (Gave None)) in
@@ -159,8 +149,16 @@ module _ {R : Type 0} (segments : R → Option Segments) where
           (worn_stays segments first.cluster (state_of new sessions) [] broken (in_lane lane (events.Forget number) ∷ []) (acted first.cluster (Happens lane (events.Deliver number) (Gave None)))
           (delivers now new sessions lane number (Some broken) first.cluster sends_one.cluster reached for_master))
 
-      pub again_to_end : (later new : List (LaneState R)) (broken : Option ℕ) → IsHappening segments now later lane (events.Deliver number) None
-          → IsHappening segments later new lane (events.Forget number) broken → IsActedAs segments cluster (state_of new sessions) [] broken (all_acted cluster (again_at lane client number))
+      pub again_delivered : (later : List (LaneState R)) → IsHappening segments faults now later lane (events.Deliver number) None
+          → IsActedAs segments cluster (state_of later sessions) [] None (all_acted cluster (in_lane lane (events.Again client) ∷ in_lane lane (events.Deliver number) ∷ []))
+      again_delivered later reached =
+          let first = acted cluster (Happens lane (events.Again client) (Gave None)) in
+          gone_on segments cluster (state_of now sessions) (state_of later sessions) [] None (in_lane lane (events.Deliver number) ∷ []) first sends_one
+          (last_stays segments first.cluster (state_of later sessions) [] (acted first.cluster (Happens lane (events.Deliver number) (Gave None)))
+          (delivers now later sessions lane number None first.cluster sends_one.cluster reached for_master))
+
+      pub again_to_end : (later new : List (LaneState R)) (broken : Option ℕ) → IsHappening segments faults now later lane (events.Deliver number) None
+          → IsHappening segments faults later new lane (events.Forget number) broken → IsActedAs segments cluster (state_of new sessions) [] broken (all_acted cluster (again_at lane client number))
       again_to_end later new broken reached forgotten =
           let first = acted cluster (Happens lane (events.Again client) (Gave None)) in
           let second = acted first.cluster (Happens lane (events.Deliver number) (Gave None)) in
@@ -172,24 +170,54 @@ module _ {R : Type 0} (segments : R → Option Segments) where
 
   -- ---- what comes of it, in every cluster
 
-  pub unsent : (old new : List (LaneState R)) (lane client number broken : ℕ) → IsHappening segments old new lane (events.Again client) (Some broken)
+  pub unsent : {faults : R → ℕ} (old new : List (LaneState R)) (lane client number broken : ℕ) → IsHappening segments faults old new lane (events.Again client) (Some broken)
       → IsSentAgain segments old new lane client number (Some broken)
   unsent old new lane client number broken sent sessions =
       worn_acts segments (state_of old sessions) (state_of new sessions) (Happens lane (events.Again client) (Gave None))
       (in_lane lane (events.Deliver number) ∷ in_lane lane (events.Forget number) ∷ []) broken
       (happens_plain segments old new lane (events.Again client) (Some broken) tt sent sessions)
 
-  pub undelivered : (old now new : List (LaneState R)) (lane client number : ℕ) (its : LaneState R) → slice_get old lane ≡ Some its → IsNextIn number its
-      → IsHappening segments old now lane (events.Again client) None → (broken : ℕ) → IsHappening segments now new lane (events.Deliver number) (Some broken)
+  pub undelivered : {faults : R → ℕ} (old now new : List (LaneState R)) (lane client number : ℕ) (its : LaneState R) → slice_get old lane ≡ Some its → IsNextIn number its
+      → IsHappening segments faults old now lane (events.Again client) None → (broken : ℕ) → IsHappening segments faults now new lane (events.Deliver number) (Some broken)
       → IsSentAgain segments old new lane client number (Some broken)
   undelivered old now new lane client number its there next sent broken reached sessions cluster is =
       again_undelivered old lane client number its there next sessions cluster is now sent new broken reached
 
-  pub to_end : (old now later new : List (LaneState R)) (lane client number : ℕ) (its : LaneState R) → slice_get old lane ≡ Some its → IsNextIn number its
-      → IsHappening segments old now lane (events.Again client) None → IsHappening segments now later lane (events.Deliver number) None → (broken : Option ℕ)
-      → IsHappening segments later new lane (events.Forget number) broken → IsSentAgain segments old new lane client number broken
+  pub to_end : {faults : R → ℕ} (old now later new : List (LaneState R)) (lane client number : ℕ) (its : LaneState R) → slice_get old lane ≡ Some its → IsNextIn number its
+      → IsHappening segments faults old now lane (events.Again client) None → IsHappening segments faults now later lane (events.Deliver number) None → (broken : Option ℕ)
+      → IsHappening segments faults later new lane (events.Forget number) broken → IsSentAgain segments old new lane client number broken
   to_end old now later new lane client number its there next sent reached broken forgotten sessions cluster is =
       again_to_end old lane client number its there next sessions cluster is now sent later new broken reached forgotten
+
+  -- ---- if memory was wanting
+
+  pub unsent_short : (old new : List (LaneState R)) (lane client number : ℕ) → AreButOne old new → IsAgainCutShort segments old new lane client number
+  unsent_short old new lane client number but sessions =
+      none_short segments (state_of old sessions) (state_of new sessions) (again_at lane client number) (lanes_short old new sessions but)
+
+  pub undelivered_short : {faults : R → ℕ} (old now new : List (LaneState R)) (lane client number : ℕ) → IsHappening segments faults old now lane (events.Again client) None
+      → AreButOne now new → IsAgainCutShort segments old new lane client number
+  undelivered_short old now new lane client number sent but sessions = record {
+    done = in_lane lane (events.Again client) ∷ [];
+    left = in_lane lane (events.Deliver number) ∷ in_lane lane (events.Forget number) ∷ [];
+    whole = refl;
+    between = state_of now sessions;
+    acts = only_acts segments (state_of old sessions) (state_of now sessions) (in_lane lane (events.Again client)) []
+        (happens_plain segments old now lane (events.Again client) None tt sent sessions);
+    since = lanes_short now new sessions but;
+  }
+
+  pub unforgotten_short : {faults : R → ℕ} (old now later new : List (LaneState R)) (lane client number : ℕ) (its : LaneState R) → slice_get old lane ≡ Some its → IsNextIn number its
+      → IsHappening segments faults old now lane (events.Again client) None → IsHappening segments faults now later lane (events.Deliver number) None → AreButOne later new
+      → IsAgainCutShort segments old new lane client number
+  unforgotten_short old now later new lane client number its there next sent reached but sessions = record {
+    done = in_lane lane (events.Again client) ∷ in_lane lane (events.Deliver number) ∷ [];
+    left = in_lane lane (events.Forget number) ∷ [];
+    whole = refl;
+    between = state_of later sessions;
+    acts = λ cluster is. again_delivered old lane client number its there next sessions cluster is now sent later reached;
+    since = lanes_short later new sessions but;
+  }
 
   -- ---- the whole call
 
@@ -215,16 +243,29 @@ module _ {R : Type 0} (segments : R → Option Segments) where
         ap (λ (it : Session). is_none it.request) (session_is session found cluster is) ∙ ap (λ (o : Option Message). is_none o) asked in
         (λ i. first_code (code_where (not (one i)) Unknown ∷ code_where (two i) NothingSent ∷ [])) ∙ only_code (code_where (is_none request) NothingSent)
 
+    again_made : (session : Session) (message : Message) (lane number : ℕ) (its : LaneState R) → get sessions client ≡ Some session
+        → session.request ≡ Some message → request_lane message.body ≡ lane → slice_get lanes lane ≡ Some its → IsNextIn number its
+        → (cluster : Cluster) → IsOf segments (state_of lanes sessions) cluster → again_makes cluster client ≡ again_at lane client number
+    again_made session message lane number its found asked place there next cluster is =
+        let request : (session_at cluster client).request ≡ Some message = ap (λ (it : Session). it.request) (session_is session found cluster is) ∙ asked in
+        ap (again_by cluster client) request ∙ ap (again_in cluster client) place
+        ∙ ap (again_at lane client) (sym (number_is lanes lane client number its there next sessions cluster is))
+
+    pub again_short : (session : Session) (message : Message) (lane number : ℕ) (its : LaneState R) (new : List (LaneState R)) → get sessions client ≡ Some session
+        → session.request ≡ Some message → request_lane message.body ≡ lane → slice_get lanes lane ≡ Some its → IsNextIn number its
+        → IsAgainCutShort segments lanes new lane client number
+        → CutShortBy segments (state_of lanes sessions) (state_of new sessions) (λ cluster. again_makes cluster client)
+    again_short session message lane number its new found asked place there next short =
+        made_short segments (state_of lanes sessions) (state_of new sessions) (λ cluster. again_makes cluster client) (again_at lane client number)
+        (again_made session message lane number its found asked place there next) (short sessions)
+
     pub again_acts : (session : Session) (message : Message) (lane number : ℕ) (its : LaneState R) (new : List (LaneState R)) (broken : Option ℕ) → get sessions client ≡ Some session
         → session.request ≡ Some message → request_lane message.body ≡ lane → slice_get lanes lane ≡ Some its → IsNextIn number its
         → IsSentAgain segments lanes new lane client number broken
         → ActsBy segments (state_of lanes sessions) (state_of new sessions) (λ cluster. again_makes cluster client) [] broken
     again_acts session message lane number its new broken found asked place there next sent cluster is =
-        let request : (session_at cluster client).request ≡ Some message = ap (λ (it : Session). it.request) (session_is session found cluster is) ∙ asked in
-        let made : again_makes cluster client ≡ again_at lane client number =
-        ap (again_by cluster client) request ∙ ap (again_in cluster client) place
-        ∙ ap (again_at lane client) (sym (number_is lanes lane client number its there next sessions cluster is)) in
-        subst (λ (list : List Occurrence). IsActedAs segments cluster (state_of new sessions) [] broken (all_acted cluster list)) (sym made) (sent sessions cluster is)
+        subst (λ (list : List Occurrence). IsActedAs segments cluster (state_of new sessions) [] broken (all_acted cluster list))
+        (sym (again_made session message lane number its found asked place there next cluster is)) (sent sessions cluster is)
 
 -- ---- the lane
 

@@ -8,7 +8,7 @@ use Rattle.rk_world.specs.Cluster.{Occurrence}
 use Rattle.rk_world.specs.declared.event.Event.TheVariants as events
 use Rattle.rk_lane.specs.LaneState.{LaneState}
 use Rattle.rk_lane.specs.Requests.{AreForMasters}
-use Rattle.rk_cluster.specs.Effects.{Acts}
+use Rattle.rk_cluster.specs.Effects.{Acts, AreCutShort}
 use Rattle.rk_cluster.specs.Makes.{in_lane}
 use Rattle.rk_cluster.specs.Steps.{state_of}
 
@@ -31,3 +31,8 @@ IsNextAt {R} lanes place number = (lane : LaneState R) → slice_get lanes place
 abbrev pub IsSentAgain : {R : Type 0} → (R → Option Segments) → List (LaneState R) → List (LaneState R) → ℕ → ℕ → ℕ → Option ℕ → Type 0
 IsSentAgain segments old new lane client number broken =
     (sessions : NumberMap Session) → Acts segments (state_of old sessions) (state_of new sessions) (again_at lane client number) [] broken
+
+-- or that was cut short by want of memory
+abbrev pub IsAgainCutShort : {R : Type 0} → (R → Option Segments) → List (LaneState R) → List (LaneState R) → ℕ → ℕ → ℕ → Type 0
+IsAgainCutShort segments old new lane client number =
+    (sessions : NumberMap Session) → AreCutShort segments (state_of old sessions) (state_of new sessions) (again_at lane client number)

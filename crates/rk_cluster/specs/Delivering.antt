@@ -6,15 +6,16 @@ use Rattle.rk_types.specs.declared.node.Node.TheVariants as nodes
 use Rattle.rk_types.specs.declared.node.Said.{Said}
 use Rattle.rk_outside.specs.Segments.{Segments}
 use Rattle.rk_message.specs.Wire.{receiver_of}
-use Rattle.rk_world.specs.Backup.{Called}
 use Rattle.rk_world.specs.Cluster.{Cluster, lane_at}
 use Rattle.rk_world.specs.Step.{step}
 use Rattle.rk_world.specs.declared.event.Event.{Event}
 use Rattle.rk_world.specs.declared.event.Event.TheVariants as events
 use Rattle.rk_lane.specs.LaneState.{LaneState}
 use Rattle.rk_cluster.specs.Acted.{lost_in}
-use Rattle.rk_cluster.specs.Effects.{ActsBy, BySomeCall}
+use Rattle.rk_cluster.specs.Effects.{ActsBy, CutShortBy}
+use Rattle.rk_cluster.specs.Faults.{BySomeFate}
 use Rattle.rk_cluster.specs.Makes.{deliver_in_makes}
+use Rattle.rk_cluster.specs.Replicas.{Fate, answer_of}
 use Rattle.rk_cluster.specs.State.{ClusterState, IsOf}
 use Rattle.rk_cluster.specs.declared.delivering.Delivered.{Delivered}
 
@@ -31,18 +32,23 @@ IsForBackup {R} lanes place (events.Deliver number) =
 IsForBackup lanes place event = ⊥
 
 -- whether the message of a number is for a backup, and lost where it is delivered, since the backup's replica failed
-abbrev pub is_lost_at_backup : Cluster → ℕ → ℕ → Called → Bool
-is_lost_at_backup cluster lane number called =
+abbrev pub is_lost_at_backup : Cluster → ℕ → ℕ → Fate → Bool
+is_lost_at_backup cluster lane number fate =
     is_backup (receiver_of number (lane_at cluster lane).wire)
-    && lost_in (step (lane_at cluster lane) (events.Deliver number) called)
+    && lost_in (step (lane_at cluster lane) (events.Deliver number) (answer_of cluster lane (events.Deliver number) fate))
 
--- the message of a number was delivered in a lane, by what the call of a replica came to, if one was called
-abbrev pub Delivers : {R : Type 0} → (R → Option Segments) → ClusterState R → ClusterState R → ℕ → ℕ → List Said → Option ℕ → Type 0
-Delivers segments old new lane number told broken =
-    BySomeCall (λ called. ActsBy segments old new (λ cluster. deliver_in_makes cluster lane number called) told broken)
+-- the message of a number was delivered in a lane, by the fate of the call of a replica, if one was called
+abbrev pub Delivers : {R : Type 0} → (R → Option Segments) → (R → ℕ) → ClusterState R → ClusterState R → ℕ → ℕ → List Said → Option ℕ → Type 0
+Delivers segments faults old new lane number told broken =
+    BySomeFate faults old.lanes new.lanes (λ fate. ActsBy segments old new (λ cluster. deliver_in_makes cluster lane number fate) told broken)
 
--- where the call of a replica came to this, the message of a number was delivered in a lane, and this came of it: what was said, and
--- whether the message was lost at a backup
-pub record IsDelivery {R : Type 0} (segments : R → Option Segments) (old new : ClusterState R) (lane number : ℕ) (delivered : Delivered) (called : Called) : Type 0 where
-  pub acts : ActsBy segments old new (λ cluster. deliver_in_makes cluster lane number called) (option_to_list delivered.said) None
-  pub failed : (cluster : Cluster) → IsOf segments old cluster → is_lost_at_backup cluster lane number called ≡ delivered.failed
+-- or this was cut short by want of memory
+abbrev pub DeliversShort : {R : Type 0} → (R → Option Segments) → (R → ℕ) → ClusterState R → ClusterState R → ℕ → ℕ → Type 0
+DeliversShort segments faults old new lane number =
+    BySomeFate faults old.lanes new.lanes (λ fate. CutShortBy segments old new (λ cluster. deliver_in_makes cluster lane number fate))
+
+-- by this fate of the call of a replica the message of a number was delivered in a lane, and this came of it: what was said, and whether the
+-- message was lost at a backup
+pub record IsDelivery {R : Type 0} (segments : R → Option Segments) (old new : ClusterState R) (lane number : ℕ) (delivered : Delivered) (fate : Fate) : Type 0 where
+  pub acts : ActsBy segments old new (λ cluster. deliver_in_makes cluster lane number fate) (option_to_list delivered.said) None
+  pub failed : (cluster : Cluster) → IsOf segments old cluster → is_lost_at_backup cluster lane number fate ≡ delivered.failed

@@ -1,9 +1,11 @@
 pub mod Numbers
 pub mod Looks
+pub mod Replicas
 pub mod Codes
 pub mod Makes
 pub mod Acted
 pub mod State
+pub mod Spending
 pub mod Effects
 pub mod Steps
 pub mod Inside

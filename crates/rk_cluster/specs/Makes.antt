@@ -1,5 +1,5 @@
--- What each call of a user makes: a list of events in lanes and of what sessions do there, one after the other. `called` is what the
--- call of a replica comes to, where a message for a backup is delivered.
+-- What each call of a user makes: a list of events in lanes and of what sessions do there, one after the other. `fate` is what becomes of
+-- the call of a replica, where a message for a backup is delivered.
 use Rattle.std.specs.Prelude.{ℕ, ◌+◌, ◌==◌, Bool, true, if◌then◌else◌, List, [], ◌∷◌, ◌++◌, length, map, Option, Some, None}
 use Rattle.std.specs.List.{flat_map}
 use Rattle.rk_types.specs.Hashing.{hash_of, lane_of}
@@ -15,11 +15,12 @@ use Rattle.rk_message.specs.declared.message.Body.TheVariants as bodies
 use Rattle.rk_message.specs.declared.message.Message.{Message}
 use Rattle.rk_world.specs.declared.event.Event.{Event}
 use Rattle.rk_world.specs.declared.event.Event.TheVariants as events
-use Rattle.rk_world.specs.Backup.{Called, Gave}
+use Rattle.rk_world.specs.Backup.{Gave}
 use Rattle.rk_world.specs.Client.{Session, call_lane}
 use Rattle.rk_world.specs.Cluster.{Accepts, Asks, Calls, Cluster, Happens, Joins, Occurrence, lane_at, session_at}
 use Rattle.rk_world.specs.World.{live_masters}
 use Rattle.rk_cluster.specs.Looks.{all_lanes, is_client, lanes_without, rows_of}
+use Rattle.rk_cluster.specs.Replicas.{Fate, happening}
 
 -- an event of a lane that calls no replica
 abbrev pub in_lane : ℕ → Event → Occurrence
@@ -72,29 +73,29 @@ has_receiver cluster (nodes.Client client) = is_client cluster client
 has_receiver cluster to = true
 
 -- a message reaches its receiver: a client takes it itself
-abbrev pub delivery : ℕ → ℕ → Called → Node → Occurrence
-delivery lane number called (nodes.Client client) = Accepts lane number client
-delivery lane number called to = Happens lane (events.Deliver number) called
+abbrev pub delivery : Cluster → ℕ → ℕ → Fate → Node → Occurrence
+delivery cluster lane number fate (nodes.Client client) = Accepts lane number client
+delivery cluster lane number fate to = happening cluster lane (events.Deliver number) fate
 
 -- a message, if it is there and somebody takes it, is delivered
-abbrev pub delivery_of : Cluster → ℕ → ℕ → Called → Option Message → List Occurrence
-delivery_of cluster lane number called None = []
-delivery_of cluster lane number called (Some message) =
-    if has_receiver cluster message.to then delivery lane number called message.to ∷ [] else []
+abbrev pub delivery_of : Cluster → ℕ → ℕ → Fate → Option Message → List Occurrence
+delivery_of cluster lane number fate None = []
+delivery_of cluster lane number fate (Some message) =
+    if has_receiver cluster message.to then delivery cluster lane number fate message.to ∷ [] else []
 
 -- the message of a number, if it is on a lane's wire, is delivered
-abbrev pub deliver_in_makes : Cluster → ℕ → ℕ → Called → List Occurrence
-deliver_in_makes cluster lane number called =
-    delivery_of cluster lane number called (get (lane_at cluster lane).wire.messages number)
+abbrev pub deliver_in_makes : Cluster → ℕ → ℕ → Fate → List Occurrence
+deliver_in_makes cluster lane number fate =
+    delivery_of cluster lane number fate (get (lane_at cluster lane).wire.messages number)
 
 -- the message at a place of a wire, if there is one, is delivered
-abbrev pub deliver_by : Cluster → ℕ → Called → Option ℕ → List Occurrence
-deliver_by cluster lane called None = []
-deliver_by cluster lane called (Some number) = deliver_in_makes cluster lane number called
+abbrev pub deliver_by : Cluster → ℕ → Fate → Option ℕ → List Occurrence
+deliver_by cluster lane fate None = []
+deliver_by cluster lane fate (Some number) = deliver_in_makes cluster lane number fate
 
 -- the message at a place of a lane's wire is delivered; it stays there
-abbrev pub deliver_makes : Cluster → ℕ → ℕ → Called → List Occurrence
-deliver_makes cluster lane place called = deliver_by cluster lane called (number_at place (lane_at cluster lane).wire)
+abbrev pub deliver_makes : Cluster → ℕ → ℕ → Fate → List Occurrence
+deliver_makes cluster lane place fate = deliver_by cluster lane fate (number_at place (lane_at cluster lane).wire)
 
 -- a message, if there is one, is forgotten
 abbrev pub forget_by : ℕ → Option ℕ → List Occurrence

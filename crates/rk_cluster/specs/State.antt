@@ -5,6 +5,7 @@ use Rattle.rk_types.specs.NumberMap.{NumberMap}
 use Rattle.rk_outside.specs.Segments.{Segments}
 use Rattle.rk_world.specs.Client.{Session}
 use Rattle.rk_world.specs.Cluster.{Cluster}
+use Rattle.rk_world.specs.Replicas.{AllTell}
 use Rattle.rk_world.specs.World.{World}
 use Rattle.rk_lane.specs.LaneState.{AreTold, LaneState, Running, world_with}
 
@@ -13,13 +14,15 @@ pub record ClusterState (R : Type 0) : Type 0 where
   pub lanes : List (LaneState R)
   pub sessions : NumberMap Session
 
--- a lane that is not spent stands for a world, where what the backups of the world store is what their replicas tell
+-- a lane that is not spent, and whose replicas all tell what they store, stands for a world: what the world's backups store is what their
+-- replicas tell
 pub record IsWorld {R : Type 0} (segments : R → Option Segments) (lane : LaneState R) (w : World) : Type 0 where
   pub running : Running
   pub runs : lane.running ≡ Some running
   pub stored : NumberMap Segments
   pub told : AreTold segments lane.backups stored
   pub is : w ≡ world_with lane running stored
+  pub all : AllTell w
 
 -- lanes stand for worlds, one for one
 abbrev pub AreWorlds : {R : Type 0} → (R → Option Segments) → List (LaneState R) → List World → Type 0
@@ -27,7 +30,8 @@ AreWorlds segments [] [] = ⊤
 AreWorlds segments (lane ∷ lanes) (w ∷ worlds) = IsWorld segments lane w × AreWorlds segments lanes worlds
 AreWorlds segments lanes worlds = ⊥
 
--- a cluster in code stands for one of the definitions; one with a lane that is spent stands for none
+-- a cluster in code stands for one of the definitions; one with a lane that is spent stands for none, and neither does one with a replica
+-- that does not tell what it stores
 pub record IsOf {R : Type 0} (segments : R → Option Segments) (state : ClusterState R) (cluster : Cluster) : Type 0 where
   pub lanes : AreWorlds segments state.lanes cluster.lanes
   pub sessions : cluster.sessions ≡ state.sessions

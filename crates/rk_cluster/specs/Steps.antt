@@ -2,10 +2,10 @@
 use Rattle.std.specs.Prelude.{◌≡◌, ◌<◌, ℕ, ◌+◌, Bool, false, List, [], ◌∷◌, ◌++◌, map, Option, None, Some, Result, Ok, Err, slice_get, ⊤}
 use Rattle.rk_types.specs.NumberMap.{NumberMap, EachIn}
 use Rattle.rk_outside.specs.Segments.{Segments}
-use Rattle.rk_world.specs.Backup.{Called, Gave}
+use Rattle.rk_world.specs.Backup.{Gave}
 use Rattle.rk_world.specs.Client.{Session}
 use Rattle.rk_world.specs.Cluster.{Cluster, Happens, Occurrence, lane_at}
-use Rattle.rk_world.specs.Premises.{MayAct, MayCome, MayHappen}
+use Rattle.rk_world.specs.Premises.{MayAct, MayHappen}
 use Rattle.rk_world.specs.Step.{step}
 use Rattle.rk_world.specs.World.{new_world}
 use Rattle.rk_world.specs.declared.error.StepError.{StepError}
@@ -17,7 +17,9 @@ use Rattle.rk_lane.specs.Events.{MayComeTo}
 use Rattle.rk_lane.specs.LaneState.{LaneState}
 use Rattle.rk_cluster.specs.Acted.{lost_in}
 use Rattle.rk_cluster.specs.State.{ClusterState, IsOf}
-use Rattle.rk_cluster.specs.Effects.{Acts, ActsOne, Carries}
+use Rattle.rk_cluster.specs.Effects.{Acts, ActsAs, AreCutShort, Carries}
+use Rattle.rk_cluster.specs.Faults.{LanesGoOn}
+use Rattle.rk_cluster.specs.Replicas.{Fate, answer_of, happening}
 use Rattle.rk_cluster.specs.declared.error.ClusterError.{ClusterError}
 use Rattle.rk_cluster.specs.declared.error.ClusterError.TheVariants as errors
 use Rattle.rk_cluster.specs.declared.steps.Deed.{Deed}
@@ -47,17 +49,18 @@ AreLanes masters place (lane ∷ lanes) = (lane.number ≡ place) × (lane.maste
 abbrev pub MayComeAt : {R : Type 0} → List (LaneState R) → ℕ → Event → Type 0
 MayComeAt {R} lanes place event = (lane : LaneState R) → slice_get lanes place ≡ Some lane → MayComeTo lane event
 
--- an event came to a lane, by what the call of a replica came to, if one was called
-pub record IsHappening {R : Type 0} (segments : R → Option Segments) (old new : List (LaneState R)) (lane : ℕ) (event : Event) (broken : Option ℕ) : Type 0 where
-  pub called : Called
-  pub may : MayCome called
-  pub acts : (sessions : NumberMap Session) → ActsOne segments (state_of old sessions) (state_of new sessions) (Happens lane event called) [] broken
+-- an event came to a lane, by the fate of the call of a replica, if one was called; where that failed its count of faults rose
+pub record IsHappening {R : Type 0} (segments : R → Option Segments) (faults : R → ℕ) (old new : List (LaneState R)) (lane : ℕ) (event : Event) (broken : Option ℕ) : Type 0 where
+  pub fate : Fate
+  pub counts : LanesGoOn faults (fate ∷ []) old new
+  pub acts : (sessions : NumberMap Session)
+      → ActsAs segments (state_of old sessions) (state_of new sessions) (λ cluster. happening cluster lane event fate) [] broken
 
--- an event came to a lane, and by what the call of a replica came to, the definitions show a message lost there where this is so
-pub record IsLosing {R : Type 0} (segments : R → Option Segments) (old new : List (LaneState R)) (lane : ℕ) (event : Event) (broken : Option ℕ) (lost : Bool) : Type 0 where
-  pub happening : IsHappening segments old new lane event broken
+-- an event came to a lane, and by the fate of the call of a replica the definitions show a message lost there where this is so
+pub record IsLosing {R : Type 0} (segments : R → Option Segments) (faults : R → ℕ) (old new : List (LaneState R)) (lane : ℕ) (event : Event) (broken : Option ℕ) (lost : Bool) : Type 0 where
+  pub happens : IsHappening segments faults old new lane event broken
   pub shows : (sessions : NumberMap Session) (cluster : Cluster) → IsOf segments (state_of old sessions) cluster
-      → lost_in (step (lane_at cluster lane) event happening.called) ≡ lost
+      → lost_in (step (lane_at cluster lane) event (answer_of cluster lane event happens.fate)) ≡ lost
 
 -- an event that calls no replica, and may come to each lane
 abbrev pub IsPlain : Event → Type 0
@@ -94,6 +97,11 @@ EndsWorn segments old new all number = (more : List Occurrence) → Acts segment
 abbrev pub StepsEndWorn : {R : Type 0} → (R → Option Segments) → List (LaneState R) → List (LaneState R) → List Deed → ℕ → Type 0
 StepsEndWorn segments old new all number =
     (sessions : NumberMap Session) → EndsWorn segments (state_of old sessions) (state_of new sessions) (occurrences all) number
+
+-- these deeds were cut short by want of memory
+abbrev pub AreStepsCutShort : {R : Type 0} → (R → Option Segments) → List (LaneState R) → List (LaneState R) → List Deed → Type 0
+AreStepsCutShort segments old new all =
+    (sessions : NumberMap Session) → AreCutShort segments (state_of old sessions) (state_of new sessions) (occurrences all)
 
 -- each session may act in lanes with so many masters
 abbrev pub MayAllAct : ℕ → NumberMap Session → Type 0

@@ -1,24 +1,26 @@
-ghost use Rattle.std.specs.Prelude.{◌≡◌, ◌≤◌, ◌<◌, [], true, All, length, None, Some, IfOk, IfErr, IfSome, OnOk};
+ghost use Rattle.std.specs.Prelude.{◌≡◌, ◌≤◌, ◌<◌, [], true, All, length, None, Some, IfOk, IfErr, IfSome, OnErr, OnOk};
 ghost use Rattle.std.specs.Option.{option_copied};
 ghost use Rattle.rk_types.specs.NumberMap.{get};
 ghost use Rattle.rk_types.specs.declared.hashing.TheConstants.{LANES};
 ghost use Rattle.rk_world.specs.Cluster.{Asks};
 ghost use Rattle.rk_world.specs.Premises.{IsMaster, MayAct, MOST_MASTERS};
 ghost use Rattle.rk_cluster.specs.Codes.{client_code, notice_code, place_code};
-ghost use Rattle.rk_cluster.specs.Delivering.{Delivers, IsDelivery};
-ghost use Rattle.rk_cluster.specs.Effects.{ActsOne, BySomeCall, EndsIn, IsCarriedOut};
-ghost use Rattle.rk_cluster.specs.Faults.{CountsGoOn};
+ghost use Rattle.rk_cluster.specs.Crashing.{IsOfCode};
+ghost use Rattle.rk_cluster.specs.Delivering.{Delivers, DeliversShort, IsDelivery};
+ghost use Rattle.rk_cluster.specs.Effects.{ActsOne, EndsIn, IsCarriedOut};
+ghost use Rattle.rk_cluster.specs.Faults.{BySomeFate, CountsGoOn, SomeLaneFailed};
 ghost use Rattle.rk_cluster.specs.Makes.{client_makes, deliver_makes, forget_makes, notice_makes};
 ghost use Rattle.rk_cluster.specs.Masters.{HasBackups, backups_of, masters_of};
+ghost use Rattle.rk_cluster.specs.Spending.{IsShortOf};
 ghost use Rattle.rk_cluster.specs.State.{has_spent};
-ghost use Rattle.rk_cluster.specs.Steps.{AreLanes, WhereWorn};
+ghost use Rattle.rk_cluster.specs.Steps.{AreLanes, MayAllAct, WhereWorn};
 ghost use Rattle.rk_cluster.specs.Visits.{HasSession};
 
 use crate::code::Code;
 use crate::delivering::{Delivered, deliver_in, listed};
 use crate::error::ClusterError;
 use crate::sessions::{count, has_session, put_session};
-use crate::steps::{act, act_all, in_all_lanes};
+use crate::steps::{act_all, act_anyway, in_all_lanes};
 use crate::visits::ask_in;
 use rk_lane::Lane;
 use rk_outside::Replica;
@@ -74,12 +76,42 @@ impl<R: Replica + Drop> Cluster<R> {
         ensures sessions { result.sessions ≡ [] }
         ensures backups { backups_of result ≡ backups }
     {
+        Cluster::from_parts(masters, backups, lanes, BTreeMap::new(alloc))
+    }
+
+    /// A cluster of eight lanes, lane 0 first, with so many masters and backups each, and of sessions that may act in them, by client.
+    /// Takes no memory.
+    pub fn from_parts(
+        masters: u8,
+        backups: u8,
+        lanes: Vec<Lane<R>>,
+        sessions: BTreeMap<u32, Session>,
+    ) -> Cluster<R>
+        requires eight { length lanes.items ≡ LANES }
+        requires lanes { AreLanes masters 0 lanes.items }
+        requires masters { IsMaster MOST_MASTERS masters }
+        requires backups { All (HasBackups backups) lanes.items }
+        requires sessions { MayAllAct masters sessions.entries }
+        ensures lanes { result.lanes ≡ lanes.items }
+        ensures sessions { result.sessions ≡ sessions.entries }
+        ensures backups { backups_of result ≡ backups }
+    {
         Cluster {
             masters,
             backups,
             lanes,
-            sessions: BTreeMap::new(alloc),
+            sessions,
         }
+    }
+
+    /// The lanes, lane 0 first, and the sessions by client, out of the cluster, also of one with a lane that is spent. The sessions may
+    /// act in the lanes. Takes no memory.
+    pub fn into_parts(self) -> (Vec<Lane<R>>, BTreeMap<u32, Session>)
+        ensures lanes { result.0.items ≡ self.lanes }
+        ensures sessions { result.1.entries ≡ self.sessions }
+        ensures acts { MayAllAct (masters_of self) result.1.entries }
+    {
+        (self.lanes, self.sessions)
     }
 
     /// The lanes, lane 0 first, out of the cluster, also of one with a lane that is spent. Takes no memory.
@@ -111,7 +143,7 @@ impl<R: Replica + Drop> Cluster<R> {
         ensures err { IfErr result (EndsIn R.segments self.old self.new (λ cluster. client_code cluster client)
             (λ cluster. client_makes cluster client)) }
         ensures backups { backups_of self.new ≡ backups_of self.old }
-        ensures counts { CountsGoOn R.faults 0 self.old self.new }
+        ensures counts { CountsGoOn R.faults [] self.old self.new }
     {
         if has_session(&self.sessions, client) {
             return Err(ClusterError::Code(Code::Taken));
@@ -141,9 +173,10 @@ impl<R: Replica + Drop> Cluster<R> {
         requires session { HasSession self.old.sessions client }
         ensures ok { OnOk result (ActsOne R.segments self.old self.new (Asks lane client) [] None) }
         ensures err { IfErr result (WhereWorn (λ number. ActsOne R.segments self.old self.new (Asks lane client) [] (Some number))) }
+        ensures short { OnErr result (IsShortOf self.old self.new) }
         ensures masters { masters_of self.new ≡ masters_of self.old }
         ensures backups { backups_of self.new ≡ backups_of self.old }
-        ensures counts { CountsGoOn R.faults 0 self.old self.new }
+        ensures counts { CountsGoOn R.faults [] self.old self.new }
     {
         ask_in(
             &mut self.lanes,
@@ -161,7 +194,7 @@ impl<R: Replica + Drop> Cluster<R> {
         ensures err { IfErr result (EndsIn R.segments self.old self.new (λ cluster. notice_code cluster master)
             (λ cluster. notice_makes cluster master)) }
         ensures backups { backups_of self.new ≡ backups_of self.old }
-        ensures counts { CountsGoOn R.faults 0 self.old self.new }
+        ensures counts { CountsGoOn R.faults [] self.old self.new }
     {
         let alloc = self.alloc();
         let first = &self.lanes[0];
@@ -184,12 +217,13 @@ impl<R: Replica + Drop> Cluster<R> {
     /// come once the message is taken. What its receiver takes.
     pub fn deliver_in(&mut self, lane: u8, number: u64) -> Result<Delivered, ClusterError>
         requires { lane < LANES }
-        ensures ok { IfOk result (λ delivered. BySomeCall (IsDelivery R.segments self.old self.new lane number delivered)) }
-        ensures err { IfErr result (WhereWorn (λ worn. Delivers R.segments self.old self.new lane number [] (Some worn))) }
+        ensures ok { IfOk result (λ delivered. BySomeFate R.faults self.old.lanes self.new.lanes (IsDelivery R.segments self.old self.new lane number delivered)) }
+        ensures err { IfErr result (WhereWorn (λ worn. Delivers R.segments R.faults self.old self.new lane number [] (Some worn))) }
+        ensures short { OnErr result (DeliversShort R.segments R.faults self.old self.new lane number) }
         ensures masters { masters_of self.new ≡ masters_of self.old }
         ensures backups { backups_of self.new ≡ backups_of self.old }
-        ensures counts { CountsGoOn R.faults 0 self.old self.new }
-        ensures failed { IfOk result (λ delivered. delivered.failed ≡ true → CountsGoOn R.faults 1 self.old self.new) }
+        ensures counts { CountsGoOn R.faults [] self.old self.new }
+        ensures failed { IfOk result (λ delivered. delivered.failed ≡ true → SomeLaneFailed R.faults self.old.lanes self.new.lanes) }
     {
         deliver_in(
             &mut self.lanes,
@@ -204,12 +238,12 @@ impl<R: Replica + Drop> Cluster<R> {
     /// that takes it says of its call is answered. A step for each message up to there, and what its receiver takes.
     pub fn deliver(&mut self, lane: u8, place: u32) -> Result<Vec<Said>, ClusterError>
         requires { lane < LANES }
-        ensures ok { IfOk result (λ said. BySomeCall (λ called. IsCarriedOut R.segments self.old self.new
-            (λ cluster. place_code cluster lane place) (λ cluster. deliver_makes cluster lane place called) said.items)) }
-        ensures err { IfErr result (λ e. BySomeCall (λ called. EndsIn R.segments self.old self.new
-            (λ cluster. place_code cluster lane place) (λ cluster. deliver_makes cluster lane place called) e)) }
+        ensures ok { IfOk result (λ said. BySomeFate R.faults self.old.lanes self.new.lanes (λ fate. IsCarriedOut R.segments self.old self.new
+            (λ cluster. place_code cluster lane place) (λ cluster. deliver_makes cluster lane place fate) said.items)) }
+        ensures err { IfErr result (λ e. BySomeFate R.faults self.old.lanes self.new.lanes (λ fate. EndsIn R.segments self.old self.new
+            (λ cluster. place_code cluster lane place) (λ cluster. deliver_makes cluster lane place fate) e)) }
         ensures backups { backups_of self.new ≡ backups_of self.old }
-        ensures counts { CountsGoOn R.faults 0 self.old self.new }
+        ensures counts { CountsGoOn R.faults [] self.old self.new }
     {
         let alloc = self.alloc();
         let Some(number) = self.lanes[lane as usize].wire().at(place) else {
@@ -219,22 +253,23 @@ impl<R: Replica + Drop> Cluster<R> {
         Ok(listed(alloc, delivered.said)?)
     }
 
-    /// The message at a place of a lane's wire, counted from 1, the oldest first, is forgotten. A step for each message up to
-    /// there.
+    /// The message at a place of a lane's wire, counted from 1, the oldest first, is forgotten, also where the lane is worn. It takes
+    /// no memory. A step for each message up to there.
     pub fn forget(&mut self, lane: u8, place: u32) -> Result<Vec<Said>, ClusterError>
         requires { lane < LANES }
         ensures ok { IfOk result (λ said. IsCarriedOut R.segments self.old self.new
             (λ cluster. place_code cluster lane place) (λ cluster. forget_makes cluster lane place) said.items) }
         ensures err { IfErr result (EndsIn R.segments self.old self.new (λ cluster. place_code cluster lane place)
             (λ cluster. forget_makes cluster lane place)) }
+        ensures code { IfErr result IsOfCode }
         ensures backups { backups_of self.new ≡ backups_of self.old }
-        ensures counts { CountsGoOn R.faults 0 self.old self.new }
+        ensures counts { CountsGoOn R.faults [] self.old self.new }
     {
         let alloc = self.alloc();
         let Some(number) = self.lanes[lane as usize].wire().at(place) else {
             return Err(ClusterError::Code(Code::NoPlace));
         };
-        act(&mut self.lanes, lane, Event::Forget(number))?;
+        act_anyway(&mut self.lanes, lane, Event::Forget(number));
         Ok(nothing_said(alloc))
     }
 

@@ -1,9 +1,8 @@
 // How the messages of a lane's wire reach their receivers.
-ghost use Rattle.std.specs.Prelude.{◌≡◌, ◌<◌, ◌&&◌, [], false, true, length, Some, None, IfErr, IfOk};
+ghost use Rattle.std.specs.Prelude.{◌≡◌, ◌<◌, ◌&&◌, [], false, true, length, Some, None, IfErr, IfOk, OnErr};
 ghost use Rattle.std.specs.Option.{option_to_list};
-ghost use Rattle.rk_cluster.specs.Delivering.{Delivers, IsDelivery, is_backup};
-ghost use Rattle.rk_cluster.specs.Effects.{BySomeCall};
-ghost use Rattle.rk_cluster.specs.Faults.{LanesGoOn};
+ghost use Rattle.rk_cluster.specs.Delivering.{Delivers, DeliversShort, IsDelivery, is_backup};
+ghost use Rattle.rk_cluster.specs.Faults.{BySomeFate, LanesGoOn, SomeLaneFailed};
 ghost use Rattle.rk_cluster.specs.Masters.{backup_counts};
 ghost use Rattle.rk_cluster.specs.Steps.{AreLanes, MayAllAct, WhereWorn, state_of};
 
@@ -40,15 +39,17 @@ pub(crate) fn deliver_in<R: Replica + Drop>(
     requires there { lane < length lanes.old.items }
     requires lanes { AreLanes masters 0 lanes.old.items }
     requires acts { MayAllAct masters sessions.old.entries }
-    ensures ok { IfOk result (λ delivered. BySomeCall (IsDelivery R.segments (state_of lanes.old.items sessions.old.entries)
+    ensures ok { IfOk result (λ delivered. BySomeFate R.faults lanes.old.items lanes.new.items (IsDelivery R.segments (state_of lanes.old.items sessions.old.entries)
         (state_of lanes.new.items sessions.new.entries) lane number delivered)) }
-    ensures err { IfErr result (WhereWorn (λ worn. Delivers R.segments (state_of lanes.old.items sessions.old.entries)
+    ensures err { IfErr result (WhereWorn (λ worn. Delivers R.segments R.faults (state_of lanes.old.items sessions.old.entries)
         (state_of lanes.new.items sessions.new.entries) lane number [] (Some worn))) }
+    ensures short { OnErr result (DeliversShort R.segments R.faults (state_of lanes.old.items sessions.old.entries)
+        (state_of lanes.new.items sessions.new.entries) lane number) }
     ensures lanes { AreLanes masters 0 lanes.new.items }
     ensures count { length lanes.new.items ≡ length lanes.old.items }
     ensures backups { backup_counts lanes.new.items ≡ backup_counts lanes.old.items }
-    ensures counts { LanesGoOn R.faults 0 lanes.old.items lanes.new.items }
-    ensures failed { IfOk result (λ delivered. delivered.failed ≡ true → LanesGoOn R.faults 1 lanes.old.items lanes.new.items) }
+    ensures counts { LanesGoOn R.faults [] lanes.old.items lanes.new.items }
+    ensures failed { IfOk result (λ delivered. delivered.failed ≡ true → SomeLaneFailed R.faults lanes.old.items lanes.new.items) }
     ensures acts { MayAllAct masters sessions.new.entries }
 {
     let Ok(to) = lanes[lane as usize].wire().address(number) else {

@@ -9,7 +9,7 @@ use thiserror::Error;
 /// Why a call of a cluster is not carried out, or not to its end.
 #[derive(Clone, Copy, Debug, PartialEq, Eq, Error)]
 pub enum ClusterError {
-    /// Memory ran out.
+    /// Memory ran out. A first part of the call has happened; since then one lane may be spent, and one client may have taken its turn.
     #[error("out of memory")]
     NoMemory,
     /// It is refused by this code; nothing has changed.

@@ -1,11 +1,14 @@
 // How events come to the lanes of a cluster.
-ghost use Rattle.std.specs.Prelude.{◌≡◌, ◌<◌, [], ℕ, true, All, length, map, Some, None, IfErr, IfOk, OnOk};
+ghost use Rattle.std.specs.Prelude.{◌≡◌, ◌<◌, [], ℕ, true, All, length, map, Some, None, IfErr, IfOk, OnErr, OnOk};
 ghost use Rattle.std.specs.List.{range_with_len};
 ghost use Rattle.rk_types.specs.declared.hashing.TheConstants.{LANES};
+ghost use Rattle.rk_world.specs.Refusals.{comes_anyway};
+ghost use Rattle.rk_cluster.specs.Crashing.{IsSameBeside};
 ghost use Rattle.rk_cluster.specs.Delivering.{IsForBackup};
-ghost use Rattle.rk_cluster.specs.Faults.{LanesGoOn};
+ghost use Rattle.rk_cluster.specs.Faults.{LanesGoOn, SomeLaneFailed};
 ghost use Rattle.rk_cluster.specs.Masters.{backup_counts};
-ghost use Rattle.rk_cluster.specs.Steps.{AreLanes, CarriesSteps, IsDeed, IsHappening, IsLosing, MayComeAt, StepsEndWorn, WhereWorn, failure_of, lost_by};
+ghost use Rattle.rk_cluster.specs.Spending.{AreButOne};
+ghost use Rattle.rk_cluster.specs.Steps.{AreLanes, AreStepsCutShort, CarriesSteps, IsDeed, IsHappening, IsLosing, MayComeAt, StepsEndWorn, WhereWorn, failure_of, lost_by};
 
 use crate::error::ClusterError;
 use rk_lane::Lane;
@@ -21,7 +24,7 @@ pub(crate) struct Deed {
     pub(crate) event: Event,
 }
 
-/// An event comes to a lane. A refusal of it is passed over, unless the lane is worn or memory is wanting.
+/// An event comes to a lane. A refusal of it is passed over, unless the lane is worn or memory is wanting; the lane is spent then.
 pub(crate) fn act<R: Replica + Drop>(
     lanes: &mut Vec<Lane<R>>,
     lane: u8,
@@ -29,12 +32,13 @@ pub(crate) fn act<R: Replica + Drop>(
 ) -> Result<(), ClusterError>
     requires there { lane < length lanes.old.items }
     requires may { MayComeAt lanes.old.items lane event }
-    ensures ok { OnOk result (IsHappening R.segments lanes.old.items lanes.new.items lane event None) }
-    ensures err { IfErr result (WhereWorn (λ number. IsHappening R.segments lanes.old.items lanes.new.items lane event (Some number))) }
+    ensures ok { OnOk result (IsHappening R.segments R.faults lanes.old.items lanes.new.items lane event None) }
+    ensures err { IfErr result (WhereWorn (λ number. IsHappening R.segments R.faults lanes.old.items lanes.new.items lane event (Some number))) }
+    ensures short { OnErr result (AreButOne lanes.old.items lanes.new.items) }
     ensures lanes { (masters : ℕ) → AreLanes masters 0 lanes.old.items → AreLanes masters 0 lanes.new.items }
     ensures count { length lanes.new.items ≡ length lanes.old.items }
     ensures backups { backup_counts lanes.new.items ≡ backup_counts lanes.old.items }
-    ensures counts { LanesGoOn R.faults 0 lanes.old.items lanes.new.items }
+    ensures counts { LanesGoOn R.faults [] lanes.old.items lanes.new.items }
 {
     act_told(lanes, lane, event)?;
     Ok(())
@@ -48,17 +52,34 @@ pub(crate) fn act_told<R: Replica + Drop>(
 ) -> Result<bool, ClusterError>
     requires there { lane < length lanes.old.items }
     requires may { MayComeAt lanes.old.items lane event }
-    ensures ok { IfOk result (IsLosing R.segments lanes.old.items lanes.new.items lane event None) }
-    ensures err { IfErr result (WhereWorn (λ number. IsHappening R.segments lanes.old.items lanes.new.items lane event (Some number))) }
+    ensures ok { IfOk result (IsLosing R.segments R.faults lanes.old.items lanes.new.items lane event None) }
+    ensures err { IfErr result (WhereWorn (λ number. IsHappening R.segments R.faults lanes.old.items lanes.new.items lane event (Some number))) }
+    ensures short { OnErr result (AreButOne lanes.old.items lanes.new.items) }
     ensures lanes { (masters : ℕ) → AreLanes masters 0 lanes.old.items → AreLanes masters 0 lanes.new.items }
     ensures count { length lanes.new.items ≡ length lanes.old.items }
     ensures backups { backup_counts lanes.new.items ≡ backup_counts lanes.old.items }
-    ensures counts { LanesGoOn R.faults 0 lanes.old.items lanes.new.items }
-    ensures failed { IfOk result (λ lost. IsForBackup lanes.old.items lane event → lost ≡ true → LanesGoOn R.faults 1 lanes.old.items lanes.new.items) }
+    ensures counts { LanesGoOn R.faults [] lanes.old.items lanes.new.items }
+    ensures failed { IfOk result (λ lost. IsForBackup lanes.old.items lane event → lost ≡ true → SomeLaneFailed R.faults lanes.old.items lanes.new.items) }
 {
     let answer = lanes[lane as usize].step(event);
     heard(&answer)?;
     Ok(has_lost(&answer))
+}
+
+/// An event comes to a lane that also one that is worn takes, and that takes no memory: a crash, or a message that is forgotten. A refusal of
+/// it is passed over.
+pub(crate) fn act_anyway<R: Replica + Drop>(lanes: &mut Vec<Lane<R>>, lane: u8, event: Event)
+    requires there { lane < length lanes.old.items }
+    requires anyway { comes_anyway event ≡ true }
+    requires may { MayComeAt lanes.old.items lane event }
+    ensures happens { IsHappening R.segments R.faults lanes.old.items lanes.new.items lane event None }
+    ensures beside { IsSameBeside lane lanes.old.items lanes.new.items }
+    ensures lanes { (masters : ℕ) → AreLanes masters 0 lanes.old.items → AreLanes masters 0 lanes.new.items }
+    ensures count { length lanes.new.items ≡ length lanes.old.items }
+    ensures backups { backup_counts lanes.new.items ≡ backup_counts lanes.old.items }
+    ensures counts { LanesGoOn R.faults [] lanes.old.items lanes.new.items }
+{
+    let _ = lanes[lane as usize].step(event);
 }
 
 // Whether a lane's answer shows that a message was lost.
@@ -83,7 +104,7 @@ pub(crate) fn heard(answer: &Result<Seen, StepError>) -> Result<(), ClusterError
     }
 }
 
-/// Deeds are done, one after the other, up to one that finds its lane worn.
+/// Deeds are done, one after the other, up to one that finds its lane worn, or for which memory is wanting.
 pub(crate) fn act_all<R: Replica + Drop>(
     lanes: &mut Vec<Lane<R>>,
     masters: u8,
@@ -93,10 +114,11 @@ pub(crate) fn act_all<R: Replica + Drop>(
     requires may { All (IsDeed (length lanes.old.items) masters) deeds.now }
     ensures ok { OnOk result (CarriesSteps R.segments lanes.old.items lanes.new.items deeds.now []) }
     ensures err { IfErr result (WhereWorn (StepsEndWorn R.segments lanes.old.items lanes.new.items deeds.now)) }
+    ensures short { OnErr result (AreStepsCutShort R.segments lanes.old.items lanes.new.items deeds.now) }
     ensures lanes { AreLanes masters 0 lanes.new.items }
     ensures count { length lanes.new.items ≡ length lanes.old.items }
     ensures backups { backup_counts lanes.new.items ≡ backup_counts lanes.old.items }
-    ensures counts { LanesGoOn R.faults 0 lanes.old.items lanes.new.items }
+    ensures counts { LanesGoOn R.faults [] lanes.old.items lanes.new.items }
 {
     for deed in deeds {
         act(lanes, deed.lane, deed.event)?;

@@ -1,7 +1,7 @@
 // Which nodes of a lane take their turns, and the turns of clients.
-ghost use Rattle.std.specs.Prelude.{◌≡◌, ◌<◌, ◌++◌, ◌∷◌, [], All, if◌then◌else◌, length, IfErr, IfOk, IfSome, OnOk};
+ghost use Rattle.std.specs.Prelude.{◌≡◌, ◌<◌, ◌++◌, ◌∷◌, [], All, if◌then◌else◌, length, IfErr, IfOk, IfSome, OnErr, OnOk};
 ghost use Rattle.rk_world.specs.Premises.{IsMaster};
-ghost use Rattle.rk_cluster.specs.Effects.{Carries};
+ghost use Rattle.rk_cluster.specs.Effects.{AreCutShort, Carries};
 ghost use Rattle.rk_cluster.specs.Faults.{LanesGoOn};
 ghost use Rattle.rk_cluster.specs.Masters.{backup_counts};
 ghost use Rattle.rk_cluster.specs.Steps.{AreLanes, EndsWorn, MayAllAct, WhereWorn, state_of};
@@ -54,7 +54,8 @@ fn push_where<T: Copy>(items: &mut Vec<T>, item: T, wanted: bool) -> Result<(), 
     Ok(())
 }
 
-/// Clients that have sessions take their turns in a lane, one after the other, up to one that finds the lane worn.
+/// Clients that have sessions take their turns in a lane, one after the other, up to one that finds the lane worn, or for which memory is
+/// wanting.
 pub(crate) fn ask_all<R: Replica + Drop>(
     lanes: &mut Vec<Lane<R>>,
     sessions: &mut BTreeMap<u32, Session>,
@@ -70,10 +71,12 @@ pub(crate) fn ask_all<R: Replica + Drop>(
         (state_of lanes.new.items sessions.new.entries) (all_ask lane clients.now) []) }
     ensures err { IfErr result (WhereWorn (EndsWorn R.segments (state_of lanes.old.items sessions.old.entries)
         (state_of lanes.new.items sessions.new.entries) (all_ask lane clients.now))) }
+    ensures short { OnErr result (AreCutShort R.segments (state_of lanes.old.items sessions.old.entries)
+        (state_of lanes.new.items sessions.new.entries) (all_ask lane clients.now)) }
     ensures lanes { AreLanes masters 0 lanes.new.items }
     ensures count { length lanes.new.items ≡ length lanes.old.items }
     ensures backups { backup_counts lanes.new.items ≡ backup_counts lanes.old.items }
-    ensures counts { LanesGoOn R.faults 0 lanes.old.items lanes.new.items }
+    ensures counts { LanesGoOn R.faults [] lanes.old.items lanes.new.items }
     ensures acts { MayAllAct masters sessions.new.entries }
 {
     for client in clients {

@@ -1,12 +1,13 @@
 // How clients take their turns and their answers in the lanes of a cluster.
-ghost use Rattle.std.specs.Prelude.{◌≡◌, ◌<◌, [], ℕ, length, Some, None, IfErr, IfOk, OnOk};
+ghost use Rattle.std.specs.Prelude.{◌≡◌, ◌<◌, [], ℕ, length, Some, None, IfErr, IfOk, OnErr, OnOk};
 ghost use Rattle.std.specs.Option.{option_to_list};
 ghost use Rattle.rk_world.specs.Cluster.{Accepts, Asks};
 ghost use Rattle.rk_cluster.specs.Effects.{ActsOne};
 ghost use Rattle.rk_cluster.specs.Faults.{LanesGoOn};
 ghost use Rattle.rk_cluster.specs.Masters.{backup_counts};
+ghost use Rattle.rk_cluster.specs.Spending.{IsShortOf};
 ghost use Rattle.rk_cluster.specs.Steps.{AreLanes, MayAllAct, WhereWorn, state_of};
-ghost use Rattle.rk_cluster.specs.Visits.{HasSession};
+ghost use Rattle.rk_cluster.specs.Visits.{AcceptsShort, HasSession};
 
 use crate::error::ClusterError;
 use crate::saying::{asked_by, tell};
@@ -34,10 +35,11 @@ pub(crate) fn ask_in<R: Replica + Drop>(
         (state_of lanes.new.items sessions.new.entries) (Asks lane client) [] None) }
     ensures err { IfErr result (WhereWorn (λ number. ActsOne R.segments (state_of lanes.old.items sessions.old.entries)
         (state_of lanes.new.items sessions.new.entries) (Asks lane client) [] (Some number))) }
+    ensures short { OnErr result (IsShortOf (state_of lanes.old.items sessions.old.entries) (state_of lanes.new.items sessions.new.entries)) }
     ensures lanes { AreLanes masters 0 lanes.new.items }
     ensures count { length lanes.new.items ≡ length lanes.old.items }
     ensures backups { backup_counts lanes.new.items ≡ backup_counts lanes.old.items }
-    ensures counts { LanesGoOn R.faults 0 lanes.old.items lanes.new.items }
+    ensures counts { LanesGoOn R.faults [] lanes.old.items lanes.new.items }
     ensures acts { MayAllAct masters sessions.new.entries }
     ensures clients { (other : ℕ) → HasSession sessions.old.entries other → HasSession sessions.new.entries other }
 {
@@ -66,10 +68,12 @@ pub(crate) fn accept_in<R: Replica + Drop>(
     ensures ok { IfOk result (λ said. ActsOne R.segments (state_of lanes.old.items sessions.old.entries)
         (state_of lanes.new.items sessions.new.entries) (Accepts lane number client) (option_to_list said) None) }
     ensures memory { IfErr result (λ e. e ≡ ClusterError.NoMemory) }
+    ensures short { OnErr result (AcceptsShort R.segments (state_of lanes.old.items sessions.old.entries)
+        (state_of lanes.new.items sessions.new.entries) lane number client) }
     ensures lanes { AreLanes masters 0 lanes.new.items }
     ensures count { length lanes.new.items ≡ length lanes.old.items }
     ensures backups { backup_counts lanes.new.items ≡ backup_counts lanes.old.items }
-    ensures counts { LanesGoOn R.faults 0 lanes.old.items lanes.new.items }
+    ensures counts { LanesGoOn R.faults [] lanes.old.items lanes.new.items }
     ensures acts { MayAllAct masters sessions.new.entries }
     ensures clients { (other : ℕ) → HasSession sessions.old.entries other → HasSession sessions.new.entries other }
 {

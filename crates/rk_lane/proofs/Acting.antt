@@ -9,8 +9,8 @@ use Rattle.rk_world.specs.Client.{MOST_REQUESTS, Session, call_lane, has_call, l
 use Rattle.rk_world.specs.Premises.{IsCached, MayAct}
 use Rattle.rk_world.specs.declared.error.StepError.{StepError}
 use Rattle.rk_world.specs.declared.event.Seen.{Seen}
-use Rattle.rk_laws_formed.proofs.Asks.{formed_accept, formed_ask}
-use Rattle.rk_laws_formed.proofs.Lists.{all_at}
+use Rattle.rk_inv_wellformed.proofs.lanes.Asks.{formed_accept, formed_ask}
+use Rattle.rk_inv_wellformed.proofs.maps.Lists.{all_at}
 use Rattle.rk_lane.specs.Parts.{IsKept, world_of}
 use Rattle.rk_lane.specs.Visits.{IsVisited, MayHaveTurned}
 use Rattle.rk_lane.specs.declared.parts.Parts.{Parts}

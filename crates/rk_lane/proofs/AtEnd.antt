@@ -8,7 +8,7 @@ use Rattle.rk_world.specs.Journal.{last_stamp}
 use Rattle.rk_world.specs.Step.{with_sends}
 use Rattle.rk_world.specs.World.{World, counters_of, with_all_sent, with_top}
 use Rattle.rk_world.specs.declared.event.Seen.{Seen}
-use Rattle.rk_laws_formed.proofs.Rises.{KeepsTo, keeps_to_more}
+use Rattle.rk_inv_wellformed.proofs.room.Rises.{KeepsTo, keeps_to_more}
 use Rattle.rk_lane.specs.Finished.{IsFinished}
 use Rattle.rk_lane.specs.Parts.{masters_from, world_of}
 use Rattle.rk_lane.specs.declared.parts.Parts.{Parts}

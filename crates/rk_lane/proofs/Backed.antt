@@ -1,5 +1,6 @@
 -- A message reaches a backup: what the event makes of the parts of a lane and of its backups.
 use Rattle.std.proofs.Common.{◌≡◌, ◌≤◌, ◌<◌, ◌+◌, ◌-◌, ◌&&◌, ℕ, zero, suc, true, cond, inl, inr, List, [], ◌∷◌, length, slice_get, Option, None, Some, IfSome, is_some, refl, sym, ap, subst, ◌∙◌, arith}
+use Rattle.std.specs.Option.{option_map}
 use Rattle.std.specs.Prelude.{unwrap_or}
 use Rattle.std.proofs.lemmas.Bool.{le-leb}
 use Rattle.std.proofs.lemmas.List.{length-set}
@@ -25,7 +26,7 @@ use Rattle.rk_world.specs.declared.error.StepError.{StepError}
 use Rattle.rk_world.specs.declared.error.StepError.TheVariants as errors
 use Rattle.rk_world.specs.declared.event.Event.TheVariants as events
 use Rattle.rk_world.specs.declared.event.Seen.{Seen}
-use Rattle.rk_laws_formed.proofs.Rises.{keeps_to_top}
+use Rattle.rk_inv_wellformed.proofs.room.Rises.{keeps_to_top}
 use Rattle.rk_lane.specs.Backing.{CanBeAnswered, IsBackedBy, IsLogOf, IsSpared, sending}
 use Rattle.rk_lane.specs.Events.{HasCause, IsAnswerOf, IsFailed}
 use Rattle.rk_lane.specs.Finished.{IsCutBack, IsFinished}
@@ -176,10 +177,15 @@ module _ {R : Type 0} (segments : R → Option Segments) (faults : R → ℕ) (o
       ((ap (λ (n : ℕ). backup_step n message.from message.body (log_bytes_of (world_of old [])) by.called) (sym its_number) ∙ sym by.answer) i))
 
   -- what failed
-  cause : HasCause faults by.called before (with_backup before backup now)
+  cause : HasCause faults (receiver_of number old.wire) by.called before (with_backup before backup now)
   cause =
-      by_failing by.called (HasCause faults by.called before (with_backup before backup now))
-      (λ failed. inl (failed, one_failed before backup it now is_there.0 at faults (by.failed failed)))
+      by_failing by.called (HasCause faults (receiver_of number old.wire) by.called before (with_backup before backup now))
+      (λ failed.
+      inl (
+        failed,
+        one_failed before backup it now is_there.0 at faults (receiver_of number old.wire)
+            (ap (option_map (λ (m : Message). m.to)) on ∙ ap Some to) (by.failed failed),
+      ))
       (λ fine. inr (fine, none_failed before backup it now is_there.0 at faults (by.fine fine)))
 
   -- what the call came to, where all replicas tell their segments

@@ -16,17 +16,17 @@ use Rattle.rk_world.specs.Step.{happened}
 use Rattle.rk_world.specs.World.{World, bytes_of_logs, counters_of, greatest, with_coordinator, with_master, with_top}
 use Rattle.rk_world.specs.declared.event.Event.{Event}
 use Rattle.rk_world.specs.declared.event.Seen.{Seen}
-use Rattle.rk_laws_formed.proofs.Bounds.{all_in_map, below_greatest, greatest_within}
-use Rattle.rk_laws_formed.proofs.MapSums.{size_found, sum_inserted}
-use Rattle.rk_laws_formed.proofs.Numbered.{numbered_order}
-use Rattle.rk_laws_formed.proofs.Rises.{KeepsTo, all_inserted, keeps_to_more, keeps_to_top}
+use Rattle.rk_inv_wellformed.proofs.maps.Bounds.{all_in_map, below_greatest, greatest_within}
+use Rattle.rk_inv_wellformed.proofs.maps.MapSums.{size_found, sum_inserted}
+use Rattle.rk_inv_wellformed.proofs.maps.Numbered.{numbered_order}
+use Rattle.rk_inv_wellformed.proofs.room.Rises.{KeepsTo, all_inserted, keeps_to_more, keeps_to_top}
 use Rattle.rk_lane.specs.Made.{IsMade, IsReady}
 use Rattle.rk_lane.specs.Masters.{IsAt}
 use Rattle.rk_lane.specs.Parts.{masters_from, world_of}
 use Rattle.rk_lane.specs.Working.{IsWeighed}
 use Rattle.rk_lane.specs.declared.parts.Parts.{Parts}
 use Rattle.rk_lane.proofs.Quiet.{quiet_seen}
-use Rattle.rk_laws_formed.proofs.Lists.{all_before}
+use Rattle.rk_inv_wellformed.proofs.maps.Lists.{all_before}
 use Rattle.rk_lane.proofs.Topped.{keeps_once_topped, topped}
 use Rattle.rk_lane.specs.Coordinating.{terms_of}
 use Rattle.rk_world.specs.Coordinator.{Coordinator}

@@ -34,9 +34,9 @@ use Rattle.rk_lane.specs.Sends.{IsFitToSend}
 use Rattle.rk_lane.specs.Visiting.{MayTurn, last_to_note, noted, request_told, saved}
 use Rattle.rk_lane.specs.Visits.{IsVisited}
 use Rattle.rk_lane.specs.declared.parts.Parts.{Parts}
-use Rattle.rk_laws_formed.proofs.Bounds.{all_in_map}
-use Rattle.rk_laws_formed.proofs.Happenings.{formed_accepts, formed_asks}
-use Rattle.rk_laws_formed.proofs.Rises.{KeepsTo, all_inserted, keeps_to_more, keeps_to_top}
+use Rattle.rk_inv_wellformed.proofs.maps.Bounds.{all_in_map}
+use Rattle.rk_inv_wellformed.proofs.lanes.Happenings.{formed_accepts, formed_asks}
+use Rattle.rk_inv_wellformed.proofs.room.Rises.{KeepsTo, all_inserted, keeps_to_more, keeps_to_top}
 use Rattle.rk_lane.proofs.Requests.{asked_for_masters, requested_for_masters, taken_for_masters, turned_to_master}
 use Rattle.rk_lane.proofs.Sendable.{fit_to_send}
 use Rattle.rk_lane.proofs.Topped.{keeps_once_topped, topped}

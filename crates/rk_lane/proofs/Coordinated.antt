@@ -21,10 +21,10 @@ use Rattle.rk_world.specs.declared.error.StepError.{StepError}
 use Rattle.rk_world.specs.declared.event.Event.{Event}
 use Rattle.rk_world.specs.declared.event.Seen.{Seen}
 use Rattle.std.proofs.lemmas.List.Elements.{All-map, All-weaker}
-use Rattle.rk_laws_formed.proofs.Bounds.{below_greatest, greatest_within}
-use Rattle.rk_laws_formed.proofs.Lists.{all_before}
-use Rattle.rk_laws_formed.proofs.Ledgers.{clients_rebuilt}
-use Rattle.rk_laws_formed.proofs.Rises.{KeepsTo, keeps_to_more, keeps_to_top}
+use Rattle.rk_inv_wellformed.proofs.maps.Bounds.{below_greatest, greatest_within}
+use Rattle.rk_inv_wellformed.proofs.maps.Lists.{all_before}
+use Rattle.rk_inv_wellformed.proofs.lanes.Ledgers.{clients_rebuilt}
+use Rattle.rk_inv_wellformed.proofs.room.Rises.{KeepsTo, keeps_to_more, keeps_to_top}
 use Rattle.rk_lane.specs.Coordinating.{IsCoordinated, terms_of}
 use Rattle.rk_lane.specs.Finished.{IsCutBack, IsFinished}
 use Rattle.rk_lane.specs.Made.{IsFault, IsMade, IsReady}

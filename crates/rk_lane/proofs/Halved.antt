@@ -23,8 +23,8 @@ use Rattle.rk_world.specs.World.{greatest, has_crashed, master_at, with_coordina
 use Rattle.rk_world.specs.declared.error.StepError.TheVariants as errors
 use Rattle.rk_world.specs.declared.event.Event.TheVariants as events
 use Rattle.rk_world.specs.declared.event.Seen.{Seen}
-use Rattle.rk_laws_formed.proofs.Rises.{keeps_to_top}
-use Rattle.rk_laws_formed.proofs.Rows.{all_found}
+use Rattle.rk_inv_wellformed.proofs.room.Rises.{keeps_to_top}
+use Rattle.rk_inv_wellformed.proofs.coordinator.Rows.{all_found}
 use Rattle.rk_lane.specs.Coordinating.{terms_of}
 use Rattle.rk_lane.specs.Made.{IsMade, IsReady}
 use Rattle.rk_lane.specs.Masters.{IsAt}

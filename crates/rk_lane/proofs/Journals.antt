@@ -10,7 +10,7 @@ use Rattle.rk_world.specs.Ends.{outcome_of}
 use Rattle.rk_world.specs.Journal.{next_record}
 use Rattle.rk_world.specs.Ledger.{Ledger, asked_by, seen_of, with_all_served, with_end, with_ends, with_rebuilt, with_record, with_served}
 use Rattle.rk_world.specs.declared.work.Served.{Served}
-use Rattle.rk_laws_formed.proofs.Ledgers.{ended_is, kept_by_fold, served_is}
+use Rattle.rk_inv_wellformed.proofs.lanes.Ledgers.{ended_is, kept_by_fold, served_is}
 
 -- a ledger has another one's journal at the front of its own, and its clients and calls
 pub record IsGrownFrom (before : Ledger) (ledger : Ledger) : Type 0 where

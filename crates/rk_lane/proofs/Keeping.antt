@@ -12,8 +12,8 @@ use Rattle.rk_world.specs.Runs.{IsFormedWithRoom}
 use Rattle.rk_world.specs.Step.{happened}
 use Rattle.rk_world.specs.World.{World, bytes_of_logs}
 use Rattle.rk_world.specs.declared.event.Event.{Event}
-use Rattle.rk_laws_formed.proofs.RoomEvents.{room_event}
-use Rattle.rk_laws_formed.proofs.Whole.{formed_event}
+use Rattle.rk_inv_wellformed.proofs.room.RoomEvents.{room_event}
+use Rattle.rk_inv_wellformed.proofs.lanes.Whole.{formed_event}
 use Rattle.rk_world.specs.Step.{Stepped}
 use Rattle.rk_world.specs.declared.event.Seen.{Seen}
 use Rattle.rk_lane.specs.Events.{MayStep}

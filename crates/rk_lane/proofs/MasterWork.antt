@@ -30,12 +30,12 @@ use Rattle.rk_world.specs.declared.event.Seen.{Seen}
 use Rattle.rk_world.specs.Limits.{IsThere, limits_of}
 use Rattle.rk_master.specs.Taking.{CanTake}
 use Rattle.rk_master.specs.declared.work.Worked.{Worked as Work}
-use Rattle.rk_laws_formed.proofs.Bounds.{all_in_map, below_greatest, greatest_within, within_sum_of}
-use Rattle.rk_laws_formed.proofs.Events.{not_worn}
-use Rattle.rk_laws_formed.proofs.Ledgers.{clients_served}
-use Rattle.rk_laws_formed.proofs.MapSums.{size_found, sum_inserted}
-use Rattle.rk_laws_formed.proofs.Numbered.{numbered_order}
-use Rattle.rk_laws_formed.proofs.Rises.{KeepsTo, all_inserted, keeps_to_more, keeps_to_top}
+use Rattle.rk_inv_wellformed.proofs.maps.Bounds.{all_in_map, below_greatest, greatest_within, within_sum_of}
+use Rattle.rk_inv_wellformed.proofs.lanes.Events.{not_worn}
+use Rattle.rk_inv_wellformed.proofs.lanes.Ledgers.{clients_served}
+use Rattle.rk_inv_wellformed.proofs.maps.MapSums.{size_found, sum_inserted}
+use Rattle.rk_inv_wellformed.proofs.maps.Numbered.{numbered_order}
+use Rattle.rk_inv_wellformed.proofs.room.Rises.{KeepsTo, all_inserted, keeps_to_more, keeps_to_top}
 use Rattle.rk_lane.specs.Finished.{IsFinished}
 use Rattle.rk_lane.specs.Made.{IsFault, IsMade, IsReady}
 use Rattle.rk_lane.specs.Masters.{IsAt, IsWorkAt}

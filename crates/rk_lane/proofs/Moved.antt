@@ -15,9 +15,9 @@ use Rattle.rk_world.specs.declared.event.Event.{Event}
 use Rattle.rk_world.specs.declared.event.Event.TheVariants as events
 use Rattle.rk_world.specs.declared.event.Seen.{Seen}
 use Rattle.rk_coordinator.specs.Lane.{MayRise}
-use Rattle.rk_laws_formed.proofs.Bounds.{below_greatest, greatest_within}
-use Rattle.rk_laws_formed.proofs.Lists.{all_before}
-use Rattle.rk_laws_formed.proofs.Rises.{KeepsTo, keeps_to_more, keeps_to_top}
+use Rattle.rk_inv_wellformed.proofs.maps.Bounds.{below_greatest, greatest_within}
+use Rattle.rk_inv_wellformed.proofs.maps.Lists.{all_before}
+use Rattle.rk_inv_wellformed.proofs.room.Rises.{KeepsTo, keeps_to_more, keeps_to_top}
 use Rattle.rk_lane.specs.Coordinating.{terms_of}
 use Rattle.rk_lane.specs.Made.{IsMade, IsReady}
 use Rattle.rk_lane.specs.Parts.{IsKept, world_of}

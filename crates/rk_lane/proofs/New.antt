@@ -11,7 +11,7 @@ use Rattle.rk_world.specs.Master.{Master, log_bytes, new_master}
 use Rattle.rk_world.specs.Premises.{MOST_MASTERS}
 use Rattle.rk_world.specs.Runs.{IsFormedWithRoom}
 use Rattle.rk_world.specs.World.{World, bytes_of_logs, new_world}
-use Rattle.rk_laws_formed.proofs.New.{new_is_well_formed, new_has_room}
+use Rattle.rk_inv_wellformed.proofs.lanes.New.{new_is_well_formed, new_has_room}
 use Rattle.rk_lane.specs.Parts.{masters_from}
 
 -- a new master under a number, where there are so many backups

@@ -15,7 +15,7 @@ use Rattle.rk_world.specs.declared.error.StepError.TheVariants as errors
 use Rattle.rk_world.specs.declared.event.Event.TheVariants as events
 use Rattle.rk_world.specs.declared.event.Seen.{Seen}
 use Rattle.rk_coordinator.specs.Lane.{MayRise}
-use Rattle.rk_laws_formed.proofs.Rises.{keeps_to_top}
+use Rattle.rk_inv_wellformed.proofs.room.Rises.{keeps_to_top}
 use Rattle.rk_session.proofs.Filters.{length-filter_le}
 use Rattle.rk_lane.specs.Coordinating.{terms_of}
 use Rattle.rk_lane.specs.Made.{IsMade, IsReady}

@@ -21,7 +21,7 @@ use Rattle.rk_world.specs.declared.error.StepError.{StepError}
 use Rattle.rk_world.specs.declared.event.Event.{Event}
 use Rattle.rk_world.specs.declared.event.Event.TheVariants as events
 use Rattle.rk_world.specs.declared.event.Seen.{Seen}
-use Rattle.rk_laws_formed.proofs.Rises.{KeepsTo, all_inserted, keeps_to_top}
+use Rattle.rk_inv_wellformed.proofs.room.Rises.{KeepsTo, all_inserted, keeps_to_top}
 use Rattle.rk_lane.specs.Events.{MayStep}
 use Rattle.rk_lane.specs.Made.{IsReady}
 use Rattle.rk_lane.proofs.Crashes.{crash_fits, distinct_push}

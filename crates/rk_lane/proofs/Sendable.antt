@@ -15,7 +15,7 @@ use Rattle.rk_world.specs.Premises.{MOST_MASTERS}
 use Rattle.rk_world.specs.Runs.{IsFormedWithRoom}
 use Rattle.rk_world.specs.Step.{with_sends}
 use Rattle.rk_world.specs.World.{World}
-use Rattle.rk_laws_formed.proofs.Rises.{keeps_to_top, sent_all}
+use Rattle.rk_inv_wellformed.proofs.room.Rises.{keeps_to_top, sent_all}
 use Rattle.rk_lane.specs.Sends.{IsFitToSend, IsSendable}
 
 -- a node that is there can be spelled

@@ -11,9 +11,9 @@ use Rattle.rk_message.specs.declared.message.Body.TheVariants as bodies
 use Rattle.rk_world.specs.Limits.{IsFormedBody, IsFormedHeld, Limits, limits_of}
 use Rattle.rk_world.specs.World.{World, master_at}
 use Rattle.rk_master.specs.Taking.{CanTakeOf, CanTakeOfBackup, CanTakeOfClient, CanTakeOfPeer, CanTakeOrder}
-use Rattle.rk_laws_formed.specs.Appended.{StandsOn}
-use Rattle.rk_laws_formed.proofs.Spelled.{copies_spell, grants_spell, rebuilds_spell}
-use Rattle.rk_laws_formed.proofs.Worlds.{master_of}
+use Rattle.rk_inv_wellformed.specs.Appended.{StandsOn}
+use Rattle.rk_inv_wellformed.proofs.bytes.Spelled.{copies_spell, grants_spell, rebuilds_spell}
+use Rattle.rk_inv_wellformed.proofs.lanes.Worlds.{master_of}
 
 -- what a client sends
 of_client : (limits : Limits) (client : ℕ) (body : Body) → IsFormedBody limits (nodes.Client client) body → CanTakeOfClient client body

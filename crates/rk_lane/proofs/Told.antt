@@ -1,9 +1,11 @@
 -- What backups tell, once one of them took a message.
-use Rattle.std.proofs.Common.{◌≡◌, ◌≤◌, ◌-◌, ℕ, zero, suc, List, [], ◌∷◌, map, set, slice_get, Option, None, Some, refl, sym, ap, subst, ◌∙◌, ⊎_elim, arith}
+use Rattle.std.proofs.Common.{◌≡◌, ◌≤◌, ◌-◌, ◌+◌, ℕ, zero, suc, List, [], ◌∷◌, map, set, slice_get, Option, None, Some, refl, sym, ap, subst, ◌∙◌, ⊎_elim, arith}
 use Rattle.std.proofs.lemmas.Bool.{cases_eq}
 use Rattle.std.proofs.lemmas.List.{map-set}
 use Rattle.rk_types.proofs.NumberMaps.{get_other, get_same}
 use Rattle.rk_types.specs.NumberMap.{NumberMap, get, insert}
+use Rattle.rk_types.specs.declared.node.Node.{Node}
+use Rattle.rk_types.specs.declared.node.Node.TheVariants as nodes
 use Rattle.rk_outside.specs.Faults.{Rose}
 use Rattle.rk_outside.specs.Segments.{Segments, WhereTold}
 use Rattle.rk_backup.specs.Lane.{number_of, replica_of}
@@ -82,9 +84,10 @@ module _ {R : Type 0} (before : List (BackupLane R)) (number : ℕ) (old new : B
     count_there = map_there (λ (backup : BackupLane R). faults (replica_of backup)) before (number - 1) old there
 
     -- where its count rose it alone failed
-    pub one_failed : Rose (faults (replica_of old)) (faults (replica_of new)) → OneFailed faults before after
-    one_failed rose = record {
+    pub one_failed : (receiver : Option Node) → receiver ≡ Some (nodes.Backup number) → Rose (faults (replica_of old)) (faults (replica_of new)) → OneFailed faults receiver before after
+    one_failed receiver whose rose = record {
       place = number - 1;
+      whose = whose ∙ (let same : number ≡ number - 1 + 1 = omega (arith, first) in ap (λ (n : ℕ). Some (nodes.Backup n)) same);
       before = faults (replica_of old);
       now = faults (replica_of new);
       there = count_there;

@@ -3,9 +3,9 @@ use Rattle.std.proofs.Common.{◌≡◌, ◌≤◌, ℕ, max, ◌∷◌, ◌++�
 use Rattle.rk_world.specs.Journal.{last_stamp}
 use Rattle.rk_world.specs.Master.{Master}
 use Rattle.rk_world.specs.World.{World, counters_of, greatest, standing, with_top}
-use Rattle.rk_laws_formed.proofs.Lists.{all_back, all_given}
-use Rattle.rk_laws_formed.proofs.Rises.{KeepsTo, top_within}
-use Rattle.rk_laws_formed.proofs.Worlds.{IsLimit, counters_in, seen_within, sent_within, stamp_within, stamps_seen, terms_in, terms_within, top_is_limit}
+use Rattle.rk_inv_wellformed.proofs.maps.Lists.{all_back, all_given}
+use Rattle.rk_inv_wellformed.proofs.room.Rises.{KeepsTo, top_within}
+use Rattle.rk_inv_wellformed.proofs.lanes.Worlds.{IsLimit, counters_in, seen_within, sent_within, stamp_within, stamps_seen, terms_in, terms_within, top_is_limit}
 
 -- where all that stands keeps to a number, and the greatest is not below it, it is the greatest
 pub topped : (w : World) (top : ℕ) → KeepsTo top w → top ≤ (with_top w).top → with_top w ≡ record w { top = top }

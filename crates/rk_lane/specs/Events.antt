@@ -1,10 +1,13 @@
 -- What an event makes of a lane in code.
-use Rattle.std.specs.Prelude.{◌≡◌, ◌≢◌, ◌⊎◌, ℕ, List, [], length, map, Option, Some, None, Ok, IsSomeAnd, slice_get, slice_set, ⊤}
+use Rattle.std.specs.Prelude.{◌≡◌, ◌≢◌, ◌⊎◌, ℕ, ◌+◌, List, [], length, map, Option, Some, None, Ok, IsSomeAnd, slice_get, slice_set, ⊤}
 use Rattle.rk_types.specs.NumberMap.{NumberMap}
+use Rattle.rk_types.specs.declared.node.Node.{Node}
+use Rattle.rk_types.specs.declared.node.Node.TheVariants as nodes
 use Rattle.rk_outside.specs.Faults.{Rose}
 use Rattle.rk_outside.specs.Segments.{Segments}
 use Rattle.rk_backup.specs.Lane.{replica_of}
 use Rattle.rk_backup.specs.declared.lane.BackupLane.{BackupLane}
+use Rattle.rk_message.specs.Wire.{Traffic, receiver_of}
 use Rattle.rk_world.specs.Backup.{Called, Failed}
 use Rattle.rk_world.specs.Premises.{MayCome, MayHappen}
 use Rattle.rk_world.specs.Refusals.{refusal}
@@ -16,6 +19,7 @@ use Rattle.rk_world.specs.World.{World, new_world}
 use Rattle.rk_world.specs.declared.error.StepError.{StepError}
 use Rattle.rk_world.specs.declared.error.StepError.TheVariants as errors
 use Rattle.rk_world.specs.declared.event.Event.{Event}
+use Rattle.rk_world.specs.declared.event.Event.TheVariants as events
 use Rattle.rk_world.specs.declared.event.Seen.{Seen}
 use Rattle.rk_lane.specs.LaneState.{AreTold, LaneState, Running, world_with}
 
@@ -53,19 +57,25 @@ pub record IsStepFrom {R : Type 0} (segments : R → Option Segments) (w : World
 abbrev pub fault_counts : {R : Type 0} → (R → ℕ) → List (BackupLane R) → List ℕ
 fault_counts faults backups = map (λ backup. faults (replica_of backup)) backups
 
--- the replica of one backup failed once more, and no other one did
-pub record OneFailed {R : Type 0} (faults : R → ℕ) (old new : List (BackupLane R)) : Type 0 where
+-- who takes what an event delivers
+abbrev pub receiver_by : Event → Traffic → Option Node
+receiver_by (events.Deliver number) wire = receiver_of number wire
+receiver_by event wire = None
+
+-- the replica of the backup that takes a message failed once more, and no other one did; places count from 0, and backups from 1
+pub record OneFailed {R : Type 0} (faults : R → ℕ) (receiver : Option Node) (old new : List (BackupLane R)) : Type 0 where
   pub place : ℕ
+  pub whose : receiver ≡ Some (nodes.Backup (place + 1))
   pub before : ℕ
   pub now : ℕ
   pub there : slice_get (fault_counts faults old) place ≡ Some before
   pub counts : fault_counts faults new ≡ slice_set (fault_counts faults old) place now
   pub rose : Rose before now
 
--- the call of a replica failed only where the replica of one backup failed once more, and else no count of faults changed
-abbrev pub HasCause : {R : Type 0} → (R → ℕ) → Called → List (BackupLane R) → List (BackupLane R) → Type 0
-HasCause faults called old new =
-    (IsFailed called × OneFailed faults old new) ⊎ ((IsFailed called → ⊥) × (fault_counts faults new ≡ fault_counts faults old))
+-- the call of a replica failed only where the replica of the backup that was reached failed once more, and else no count of faults changed
+abbrev pub HasCause : {R : Type 0} → (R → ℕ) → Option Node → Called → List (BackupLane R) → List (BackupLane R) → Type 0
+HasCause faults receiver called old new =
+    (IsFailed called × OneFailed faults receiver old new) ⊎ ((IsFailed called → ⊥) × (fault_counts faults new ≡ fault_counts faults old))
 
 -- a lane took an event that may come to it: by what the call of a replica came to, if one was called, its world became just what the
 -- definitions make of it, and so is what it showed; and it has room then, which no backup takes
@@ -78,7 +88,7 @@ pub record IsStepOf {R : Type 0} (segments : R → Option Segments) (faults : R 
   pub comes : MayStep (world_with old before []) event
   pub may : MayCome called
   pub room : HasRoom (world_with new after [])
-  pub cause : HasCause faults called old.backups new.backups
+  pub cause : HasCause faults (receiver_by event before.wire) called old.backups new.backups
   pub stepped : (backups : NumberMap Segments) → AreTold segments old.backups backups
       → IsStepFrom segments (world_with old before backups) event called new after seen
 

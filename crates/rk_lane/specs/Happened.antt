@@ -12,7 +12,7 @@ use Rattle.rk_world.specs.declared.error.StepError.{StepError}
 use Rattle.rk_world.specs.declared.error.StepError.TheVariants as errors
 use Rattle.rk_world.specs.declared.event.Event.{Event}
 use Rattle.rk_world.specs.declared.event.Seen.{Seen}
-use Rattle.rk_lane.specs.Events.{HasCause, IsAnswerOf, fault_counts}
+use Rattle.rk_lane.specs.Events.{HasCause, IsAnswerOf, fault_counts, receiver_by}
 use Rattle.rk_lane.specs.Lane.{AreNumbered}
 use Rattle.rk_lane.specs.LaneState.{AreTold}
 use Rattle.rk_lane.specs.Made.{IsSameParts, KeepsLedger}
@@ -31,7 +31,7 @@ pub record IsToldAfter {R : Type 0} (segments : R → Option Segments) (old : Pa
 pub record IsHappened {R : Type 0} (segments : R → Option Segments) (faults : R → ℕ) (event : Event) (old : Parts) (before : List (BackupLane R)) (new : Parts) (after : List (BackupLane R)) (seen : Seen) : Type 0 where
   pub called : Called
   pub may : MayCome called
-  pub cause : HasCause faults called before after
+  pub cause : HasCause faults (receiver_by event old.wire) called before after
   pub allowed : refusal (world_of old []) event ≡ None
   pub kept : IsKept new
   pub lane : IsSameParts old new

@@ -1,25 +1,27 @@
 -- How a run is concluded: what its status then says of the run played.
-use Rattle.std.proofs.Common.{◌≡◌, ◌≢◌, ℕ, ◌-◌, ◌≤◌, List, [], ◌∷◌, ◌++◌, length, take, refl, sym, ap, subst, ◌∙◌, ⊎_elim, arith, length-append}
-use Rattle.std.specs.Prelude.{◌⊎◌, Option, None, Some, ⊤}
+use Rattle.std.proofs.Common.{◌≡◌, ◌≢◌, ℕ, ◌≤◌, List, [], ◌∷◌, ◌++◌, ◌-◌, length, take, refl, sym, ap, subst, ◌∙◌, ⊎_elim, arith, append-nil, length-append}
+use Rattle.std.specs.Prelude.{Option, Some, Result, Ok, Err, ⊤}
 use Rattle.std.specs.List.{concat}
 use Rattle.std.specs.Io.KnownBytes.{Appends, Keeps}
 use Rattle.std.proofs.KnownBytes.{Appends-kept, Appends-nil, Keeps-refl}
 use Rattle.std.proofs.lemmas.List.{take-append-le}
+use Rattle.std.proofs.Math.Seq.{take-length}
 use Rattle.rk_types.specs.declared.status.Status.{Status}
 use Rattle.rk_types.specs.declared.status.Status.TheVariants.{Audit, Done, NoMemory, ReadFault, Refused, ReplicaFault, Usage, Worn, WriteFault}
 use Rattle.rk_outside.specs.Parts.{AppendsPart}
 use Rattle.rk_outside.specs.Segments.{Segments}
 use Rattle.rk_outside.proofs.PartLemmas.{AppendsPart-more}
-use Rattle.rk_world.specs.Backup.{Called}
 use Rattle.rk_world.specs.Cluster.{Cluster, Occurrence}
+use Rattle.rk_cluster.specs.Replicas.{Fate}
 use Rattle.rk_cluster.specs.State.{ClusterState, IsOf}
 use Rattle.rk_script.specs.declared.command.Numbered.{Numbered}
+use Rattle.rk_script.specs.declared.script.ParseError.{ParseError}
 use Rattle.rk_play.specs.Concluded.{Concludes, ConcludesBy, IsWritten, MayComeTo}
-use Rattle.rk_play.specs.Effects.{Effect, Fails, Pauses, Refuses, Stop, Wears, effect_within}
+use Rattle.rk_play.specs.Effects.{Fails, Pauses, Refuses, Stop, Wears}
 use Rattle.rk_play.specs.Ended.{HasEndCause, HasFailed, IsHalted}
-use Rattle.rk_play.specs.Played.{Played, behind, continued, first_calls, other_calls, played_in, stopped_at, text_of}
-use Rattle.rk_play.specs.Reached.{IsSent}
-use Rattle.rk_play.specs.Runs.{Halts, HasStatusCause, Runs}
+use Rattle.rk_play.specs.Played.{Played, behind, ending, part_of, played_in, stopped_at, text_of}
+use Rattle.rk_play.specs.Reached.{IsReached, IsSent}
+use Rattle.rk_play.specs.Runs.{HasStatusCause, Runs}
 use Rattle.rk_play.specs.Stops.{stop_by}
 use Rattle.rk_play.specs.declared.end.End.{End}
 use Rattle.rk_play.specs.declared.end.End.TheVariants as ends
@@ -50,17 +52,15 @@ ended_runs p WriteFault old new is ended written = absurd is
 ended_runs p NoMemory old new is ended written = absurd is
 ended_runs p Audit old new is ended written = absurd is
 
+-- so memory was not wanting there
+ended_apart : (status : Status) → IsEnded status → status ≡ NoMemory → ⊥
+ended_apart status is wanting = subst IsEnded wanting is
+
 pub stopped_ended : (line : ℕ) (error : PlayError) (cluster : Cluster) → error ≢ errors.NoMemory → IsEnded (stopped_at line (stop_by error) cluster).status
 stopped_ended line errors.NoMemory cluster apart = absurd (apart refl)
 stopped_ended line (errors.Refused code) cluster apart = tt
 stopped_ended line (errors.Worn number) cluster apart = tt
 stopped_ended line (errors.Replica rounds) cluster apart = tt
-
-pub stopped_short : (line : ℕ) (stop : Stop) (cluster : Cluster) → (stopped_at line stop cluster).status ≡ Done → ⊥
-stopped_short line (Refuses code) cluster done = absurd (cc done)
-stopped_short line (Wears number) cluster done = absurd (cc done)
-stopped_short line (Fails rounds) cluster done = absurd (cc done)
-stopped_short line Pauses cluster done = absurd (cc done)
 
 -- ---- what is held back is written
 
@@ -77,77 +77,98 @@ module _ (q : Played) (pieces : List (List ℕ)) (occurred : List Occurrence) (h
       (subst (λ (it : List ℕ). Appends old new it) text (sent_rest old mid new pieces held (text_of q) sent whole.1))))
       (λ (part : (status ≡ WriteFault) × AppendsPart mid new (held ++ text_of q)).
       subst (λ (it : Status). Runs p it old new) (sym part.0)
-      (subst (λ (it : List ℕ). AppendsPart old new it) text (sent_part old mid new pieces held (text_of q) sent part.1)))
+      (record {
+        ended = ended_apart q.status ended;
+        written = subst (λ (it : List ℕ). AppendsPart old new it) text (sent_part old mid new pieces held (text_of q) sent part.1);
+      }))
       is
 
-  -- or memory is wanting: then only whole pieces were put
-  pub put_halts : (new : Option (List ℕ)) → (q.status ≡ Done → sent.sent ≤ length (pieces ++ q.pieces) - 1) → Keeps mid new → Halts (behind pieces occurred q) old new
-  put_halts new fewer kept = record {
-    pieces = sent.sent;
-    few = omega (arith, sent.few, length-append pieces q.pieces);
-    fewer = fewer;
-    written =
-        subst (λ (list : List (List ℕ)). Appends old new (concat list)) (sym (take-append-le sent.sent pieces q.pieces sent.few))
-        (Appends-kept old mid new (concat (take sent.sent pieces)) sent.written kept);
-  }
-
-  pub concluded_runs : (status : Status) (new : Option (List ℕ)) → IsEnded q.status → q.status ≢ Done → Concludes q held status mid new
-      → Runs (behind pieces occurred q) status old new
-  concluded_runs status new ended apart concludes =
-      ⊎_elim (λ (is : IsWritten (held ++ text_of q) q.status status mid new). written_runs status new ended is)
-      (λ (lacks : (status ≡ NoMemory) × Keeps mid new).
-      subst (λ (it : Status). Runs (behind pieces occurred q) it old new) (sym lacks.0) (put_halts new (λ done. absurd (apart done)) lacks.1))
-      concludes
-
 -- a run that was refused before a command ran
-pub refused_runs : (p : Played) (status : Status) (old new : Option (List ℕ)) → IsEnded p.status → p.status ≢ Done → Concludes p [] status old new → Runs p status old new
-refused_runs p status old new ended apart concludes =
-    concluded_runs p [] [] [] old old (record { sent = 0; few = omega arith; written = Appends-nil old; rest = refl }) status new ended apart concludes
+pub refused_runs : (p : Played) (status : Status) (old new : Option (List ℕ)) → IsEnded p.status → IsWritten (text_of p) p.status status old new → Runs p status old new
+refused_runs p status old new ended is =
+    written_runs p [] [] [] old old (record { sent = 0; few = omega arith; written = Appends-nil old; rest = refl }) status new ended is
 
--- ---- memory was wanting
+-- ---- memory was wanting, or the sink failed
+
+-- no command runs
+pub none_played : (commands : Result (List Numbered) ParseError) → (part_of commands (Some 0) []).status ≡ Done
+none_played (Ok commands) = refl
+none_played (Err fault) = refl
 
 -- before anything was written
-pub halts_at_once : (p : Played) (old : Option (List ℕ)) → Runs p NoMemory old old
-halts_at_once p old = record { pieces = 0; few = omega arith; fewer = λ done. omega arith; written = Appends-nil old }
+pub halts_kept : (p : Played) (old new : Option (List ℕ)) → p.status ≡ Done → Keeps old new → Runs p NoMemory old new
+halts_kept p old new done kept =
+    record { ended = done; pieces = 0; few = omega arith; written = Appends-kept old old new [] (Appends-nil old) kept }
 
--- a run that comes to its end writes a piece for each of its commands
-went_on_some : (line : ℕ) (it : Effect) (stop : Option Stop) (rest : Cluster → Played) → (continued line it stop rest).status ≡ Done → 1 ≤ length (continued line it stop rest).pieces
-went_on_some line it (Some stop) rest done = absurd (stopped_short line stop it.cluster done)
-went_on_some line it None rest done = omega arith
+pub halts_at_once : (commands : Result (List Numbered) ParseError) (old : Option (List ℕ)) → Runs (part_of commands (Some 0) []) NoMemory old old
+halts_at_once commands old = halts_kept (part_of commands (Some 0) []) old old (none_played commands) (Keeps-refl old)
 
-done_some : (first : Numbered) (others : List Numbered) (calls : List (List Called)) (cluster : Cluster) → (played_in (first ∷ others) calls cluster).status ≡ Done
-    → 1 ≤ length (played_in (first ∷ others) calls cluster).pieces
-done_some first others calls cluster done =
-    let it : Effect = effect_within cluster first.command (first_calls calls) in
-    went_on_some first.line it it.stop (λ next. played_in others (other_calls calls) next) done
-
-pub halted_runs : {R : Type 0} (segments : R → Option Segments) (old : ClusterState R) (all : List Numbered) (was now : Option (List ℕ)) (halted : IsHalted segments old all was now)
-    (cluster : Cluster) → IsOf segments old cluster → Runs (played_in all (halted.on.reached.used ++ []) cluster) NoMemory was now
-halted_runs segments old all was now halted cluster is =
-    let before = halted.on.reached.reached cluster is in
-    let q : Played = played_in (halted.first ∷ halted.others) [] before.cluster in
-    let sent = halted.on.sent in
-    subst (λ (p : Played). Runs p NoMemory was now) (sym (before.goes_on []))
-    (put_halts q halted.on.pieces before.occurred halted.held was now sent now
-    (λ done. omega (arith, sent.few, done_some halted.first halted.others [] before.cluster done, length-append halted.on.pieces q.pieces))
-    (Keeps-refl now))
-
--- ---- the sink failed
-
-pub failed_runs : {R : Type 0} (segments : R → Option Segments) (old now : ClusterState R) (all : List Numbered) (was written : Option (List ℕ))
-    (failed : HasFailed segments old now all was written) (cluster : Cluster) → IsOf segments old cluster
-    → Runs (played_in all (failed.reached.used ++ []) cluster) WriteFault was written
-failed_runs segments old now all was written failed cluster is =
-    let before = failed.reached.reached cluster is in
-    let q : Played = played_in failed.left [] before.cluster in
-    subst (λ (p : Played). AppendsPart was written (text_of p)) (sym (before.goes_on []))
-    (subst (λ (text : List ℕ). AppendsPart was written text) (sym (text_behind failed.pieces before.occurred q))
-    (AppendsPart-more was written (concat failed.pieces) (text_of q) failed.put))
-
--- and nothing was put from then on
-pub part_kept : (old mid new : Option (List ℕ)) (text : List ℕ) → AppendsPart old mid text → Keeps mid new → AppendsPart old new text
+-- nothing was put from then on
+part_kept : (old mid new : Option (List ℕ)) (text : List ℕ) → AppendsPart old mid text → Keeps mid new → AppendsPart old new text
 part_kept old mid new text part kept =
     record { front = part.front; back = part.back; parts = part.parts; written = Appends-kept old mid new part.front part.written kept }
+
+-- the commands that have run, alone
+first_part : (ran left all : List Numbered) → ran ++ left ≡ all → take (length ran) all ≡ ran
+first_part ran left all whole =
+    ap (take (length ran)) (sym whole) ∙ take-append-le (length ran) ran left (omega arith) ∙ take-length ran
+
+-- those are played to their end
+pub ran_alone : {R : Type 0} (segments : R → Option Segments) (start : Cluster) (now : ClusterState R) (ran left all : List Numbered) (fates : List (List Fate))
+    (pieces : List (List ℕ)) → ran ++ left ≡ all → (reached : IsReached segments start now ran fates pieces)
+    → played_in (take (length ran) all) fates start ≡ behind pieces reached.occurred (ending Done reached.cluster)
+ran_alone segments start now ran left all fates pieces whole reached =
+    (λ i. played_in ((first_part ran left all whole ∙ sym (append-nil ran)) i) (sym (append-nil fates) i) start) ∙ reached.goes_on [] []
+
+-- all of them
+pub ran_all : {R : Type 0} (segments : R → Option Segments) (start : Cluster) (now : ClusterState R) (ran all : List Numbered) (fates : List (List Fate))
+    (pieces : List (List ℕ)) → ran ++ [] ≡ all → (reached : IsReached segments start now ran fates pieces)
+    → played_in all fates start ≡ behind pieces reached.occurred (ending Done reached.cluster)
+ran_all segments start now ran all fates pieces whole reached =
+    (λ i. played_in (sym whole i) (sym (append-nil fates) i) start) ∙ reached.goes_on [] []
+
+-- memory was wanting: only whole pieces were put
+pub halted_runs : {R : Type 0} (segments : R → Option Segments) (faults : R → ℕ) (old : ClusterState R) (all : List Numbered) (was now new : Option (List ℕ))
+    (halted : IsHalted segments faults old all was now) (cluster : Cluster) → IsOf segments old cluster → Keeps now new
+    → Runs (played_in (take (length halted.on.ran) all) halted.on.reached.fates cluster) NoMemory was new
+halted_runs segments faults old all was now new halted cluster is kept =
+    let on = halted.on in
+    let reached = on.reached.reached cluster is in
+    let sent = on.sent in
+    subst (λ (p : Played). Runs p NoMemory was new) (sym (ran_alone segments cluster halted.now on.ran (halted.first ∷ halted.others) all on.reached.fates on.pieces on.whole reached))
+    (record {
+      ended = refl;
+      pieces = sent.sent;
+      few = omega (arith, sent.few, length-append on.pieces []);
+      written =
+          subst (λ (list : List (List ℕ)). Appends was new (concat list)) (sym (take-append-le sent.sent on.pieces [] sent.few))
+          (Appends-kept was now new (concat (take sent.sent on.pieces)) sent.written kept);
+    })
+
+-- as many commands came before one that is left
+pub halted_may : {R : Type 0} (segments : R → Option Segments) (faults : R → ℕ) (old : ClusterState R) (all : List Numbered) (was now : Option (List ℕ))
+    (halted : IsHalted segments faults old all was now) → length halted.on.ran ≤ length all - 1
+halted_may segments faults old all was now halted =
+    omega (
+      arith,
+      ap (λ (list : List Numbered). length list) halted.on.whole,
+      length-append halted.on.ran (halted.first ∷ halted.others),
+    )
+
+-- the sink failed: it has a part of what was written
+pub failed_runs : {R : Type 0} (segments : R → Option Segments) (faults : R → ℕ) (old now : ClusterState R) (all : List Numbered) (was written new : Option (List ℕ))
+    (failed : HasFailed segments faults old now all was written) (cluster : Cluster) → IsOf segments old cluster → Keeps written new
+    → Runs (played_in (take (length failed.ran) all) failed.reached.fates cluster) WriteFault was new
+failed_runs segments faults old now all was written new failed cluster is kept =
+    let reached = failed.reached.reached cluster is in
+    let q : Played = ending Done reached.cluster in
+    subst (λ (p : Played). Runs p WriteFault was new) (sym (ran_alone segments cluster now failed.ran failed.left all failed.reached.fates failed.pieces failed.whole reached))
+    (record {
+      ended = λ wanting. absurd (cc wanting);
+      written =
+          subst (λ (text : List ℕ). AppendsPart was new text) (sym (text_behind failed.pieces reached.occurred q))
+          (AppendsPart-more was new (concat failed.pieces) (text_of q) (part_kept was written new (concat failed.pieces) failed.put kept));
+    })
 
 -- ---- which statuses come
 

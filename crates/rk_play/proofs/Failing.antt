@@ -7,12 +7,12 @@ use Rattle.rk_types.specs.declared.status.Status.{Status}
 use Rattle.rk_types.specs.declared.status.Status.TheVariants.{Done, NoMemory, ReplicaFault, WriteFault}
 use Rattle.rk_outside.specs.Parts.{AppendsPart}
 use Rattle.rk_world.specs.Cluster.{Cluster}
-use Rattle.rk_cluster.specs.Faults.{CountsGoOn}
+use Rattle.rk_cluster.specs.Faults.{CountsGoOn, counts_in}
 use Rattle.rk_cluster.specs.State.{ClusterState}
 use Rattle.rk_cluster.specs.declared.code.Code.{Code}
 use Rattle.rk_cluster.specs.declared.error.ClusterError.{ClusterError}
 use Rattle.rk_cluster.specs.declared.error.ClusterError.TheVariants as of_cluster
-use Rattle.rk_cluster.proofs.Faults.{counts_then}
+use Rattle.rk_cluster.proofs.Faults.{go_on_then}
 use Rattle.rk_settle.specs.Course.{MOST_FAULTS}
 use Rattle.rk_settle.specs.Faults as settling
 use Rattle.rk_settle.specs.declared.error.SettleError.{SettleError}
@@ -77,9 +77,15 @@ end_replicas line (errors.Replica rounds) is = is
 
 -- where a command stops a run since replicas failed too often, they have done so since its start
 pub ended_often : {R : Type 0} (faults : R → ℕ) (start mid now : ClusterState R) (line : ℕ) (error : PlayError) (end : End) → end ≡ end_by line error
-    → CountsGoOn faults 0 start mid → HasFaults faults mid now error → EndsByReplicas end → CountsGoOn faults MOST_FAULTS start now
+    → CountsGoOn faults [] start mid → HasFaults faults mid now error → EndsByReplicas end → settling.FailsInRounds faults MOST_FAULTS start now
 ended_often faults start mid now line error end same before often is =
-    counts_then faults 0 MOST_FAULTS start mid now before (often (end_replicas line error (subst EndsByReplicas same is)))
+    let fails = often (end_replicas line error (subst EndsByReplicas same is)) in
+    record {
+      failed = fails.failed;
+      are_lost = fails.are_lost;
+      often = fails.often;
+      rose = go_on_then [] fails.failed (counts_in faults start.lanes) (counts_in faults mid.lanes) (counts_in faults now.lanes) before fails.rose;
+    }
 
 -- ---- statuses
 

@@ -1,57 +1,56 @@
--- What a run leaves: how many backups each lane has, and what they store.
-use Rattle.std.proofs.Common.{◌≡◌, ◌≢◌, ℕ, suc, List, [], ◌∷◌, ◌++◌, All, length, map, slice_get, refl, sym, ap, subst, ◌∙◌, append-nil}
-use Rattle.std.specs.Prelude.{Option, Some}
-use Rattle.std.specs.List.{concat}
-use Rattle.std.proofs.lemmas.List.{length-map}
-use Rattle.std.proofs.lemmas.List.Elements.{All-cons, All-head, All-nil, All-tail}
-use Rattle.rk_types.specs.declared.hashing.TheConstants.{LANES}
+-- What a run leaves where it comes to its end: the part that was played, and the cluster in code then.
+use Rattle.std.proofs.Common.{◌≡◌, ◌≢◌, ℕ, List, [], ◌++◌, length, refl, sym, subst, ⊎_elim, append-nil}
+use Rattle.std.specs.Prelude.{Option, None, Some}
+use Rattle.std.specs.Io.KnownBytes.{Appends, Keeps}
 use Rattle.rk_types.specs.declared.status.Status.{Status}
-use Rattle.rk_types.specs.declared.status.Status.TheVariants.{Done, WriteFault}
+use Rattle.rk_types.specs.declared.status.Status.TheVariants.{Audit, Done, NoMemory, ReadFault, Refused, ReplicaFault, Usage, Worn, WriteFault}
+use Rattle.rk_outside.specs.Parts.{AppendsPart}
 use Rattle.rk_outside.specs.Segments.{Segments}
-use Rattle.rk_world.specs.Backup.{Called}
 use Rattle.rk_world.specs.Cluster.{Cluster}
-use Rattle.rk_world.specs.ClusterRuns.{Leads}
-use Rattle.rk_world.specs.World.{World}
-use Rattle.rk_lane.specs.LaneState.{LaneState, Running, world_with}
-use Rattle.rk_cluster.specs.Fresh.{IsNewLane}
-use Rattle.rk_cluster.specs.State.{AreWorlds, ClusterState, IsOf, IsWorld}
+use Rattle.rk_cluster.specs.Faults.{CountsGoOn}
+use Rattle.rk_cluster.specs.Replicas.{Fate}
+use Rattle.rk_cluster.specs.State.{ClusterState, IsOf}
 use Rattle.rk_script.specs.declared.command.Numbered.{Numbered}
-use Rattle.rk_play.specs.Concluded.{ConcludesBy, IsWritten}
+use Rattle.rk_play.specs.Concluded.{Concludes, ConcludesBy, IsWritten, part_in}
 use Rattle.rk_play.specs.Effects.{Fails, Pauses, Refuses, Stop, Wears}
-use Rattle.rk_play.specs.Ended.{EndsBy, StopsAt}
-use Rattle.rk_play.specs.Played.{Played, ending, played_in, stopped_at}
-use Rattle.rk_play.specs.Reached.{Reached}
-use Rattle.rk_play.specs.Runs.{Runs}
+use Rattle.rk_play.specs.Ended.{EndsBy, HasFailed, HasStopped, IsHalted}
+use Rattle.rk_play.specs.Played.{Played, all_fates, ending, stopped_at, text_of}
+use Rattle.rk_play.specs.Reached.{IsOn}
+use Rattle.rk_play.specs.Runs.{MayBePart, Runs}
 use Rattle.rk_play.specs.Stops.{stop_by}
 use Rattle.rk_play.specs.declared.end.End.{End}
 use Rattle.rk_play.specs.declared.end.End.TheVariants as ends
-use Rattle.rk_play.proofs.Backups.{Any, Nothing, count_seen, counts_kept, look, stores_kept, stores_seen}
-use Rattle.rk_play.proofs.Concluding.{concluded_runs, failed_runs, part_kept, stopped_ended, stopped_short, written_runs}
-use Rattle.rk_play.proofs.Stores.{kept_by_run, stopped_alike}
+use Rattle.rk_play.specs.declared.error.PlayError.{PlayError}
+use Rattle.rk_play.proofs.Concluding.{IsEnded, failed_runs, halted_may, halted_runs, ran_all, ran_alone, stopped_ended, written_runs}
 
--- the backups of a cluster that the one in code stands for are as many as at the end of the run played, and store the same
-pub record IsLeft {R : Type 0} (segments : R → Option Segments) (now : ClusterState R) (end : Cluster) : Type 0 where
-  pub cluster : Cluster
-  pub is : IsOf segments now cluster
-  pub counts : map (look count_seen) end.lanes ≡ map (look count_seen) cluster.lanes
-  pub stores : map (look stores_seen) end.lanes ≡ map (look stores_seen) cluster.lanes
+-- by the fates of the calls of replicas a part of a run, which has so many commands in all, has this status; unless memory was wanting, for each
+-- call that failed the count of its replica rose, and the cluster in code stands for the one at the end
+pub record IsPlayedOut {R : Type 0} (segments : R → Option Segments) (faults : R → ℕ) (old now : ClusterState R) (played_by : Option ℕ → List (List Fate) → Played) (most : ℕ) (status : Status) (was new : Option (List ℕ)) : Type 0 where
+  pub part : Option ℕ
+  pub may : MayBePart status most part
+  pub fates : List (List Fate)
+  pub runs : Runs (played_by part fates) status was new
+  pub counts : (status ≡ NoMemory → ⊥) → CountsGoOn faults (all_fates fates) old now
+  pub left : (status ≡ NoMemory → ⊥) → IsOf segments now (played_by part fates).cluster
 
--- by what the calls of replicas came to, a run that began in a cluster has this status, and leaves a cluster in code; unless the sink failed, a
--- run has led to its end
-pub record IsPlayedOut {R : Type 0} (segments : R → Option Segments) (start : Cluster) (now : ClusterState R) (played_by : List (List Called) → Played) (status : Status) (old new : Option (List ℕ)) : Type 0 where
-  pub calls : List (List Called)
-  pub runs : Runs (played_by calls) status old new
-  pub left : IsLeft segments now (played_by calls).cluster
-  pub led : (status ≡ WriteFault → ⊥) → Leads start (played_by calls).cluster
+-- ---- statuses
 
--- calls that came to anything
-all_any : (calls : List (List Called)) → All (All Any) calls
-all_any [] = All-nil (All Any)
-all_any (its ∷ others) = All-cons (All Any) its others (each its) (all_any others)
-  where
-    each : (called : List Called) → All Any called
-    each [] = All-nil Any
-    each (one ∷ more) = All-cons Any one more tt (each more)
+ended_may : (status : Status) (most : ℕ) → IsEnded status → MayBePart status most None
+ended_may Done most ended = tt
+ended_may Refused most ended = tt
+ended_may Worn most ended = tt
+ended_may ReplicaFault most ended = tt
+ended_may Usage most ended = absurd ended
+ended_may ReadFault most ended = absurd ended
+ended_may WriteFault most ended = absurd ended
+ended_may NoMemory most ended = absurd ended
+ended_may Audit most ended = absurd ended
+
+-- where a text is written it is that of the whole run
+pub written_may : (text : List ℕ) (given status : Status) (most : ℕ) (old new : Option (List ℕ)) → IsEnded given → IsWritten text given status old new → MayBePart status most None
+written_may text given status most old new ended is =
+    ⊎_elim (λ (whole : (status ≡ given) × Appends old new text). subst (λ (it : Status). MayBePart it most None) (sym whole.0) (ended_may given most ended))
+    (λ (part : (status ≡ WriteFault) × AppendsPart old new text). subst (λ (it : Status). MayBePart it most None) (sym part.0) tt) is
 
 -- a run that stops leaves the cluster as it is
 stopped_cluster : (line : ℕ) (stop : Stop) (cluster : Cluster) → (stopped_at line stop cluster).cluster ≡ cluster
@@ -60,151 +59,87 @@ stopped_cluster line (Wears number) cluster = refl
 stopped_cluster line (Fails rounds) cluster = refl
 stopped_cluster line Pauses cluster = refl
 
-module _ {R : Type 0} (segments : R → Option Segments) (old now : ClusterState R) (all : List Numbered) (was : Option (List ℕ)) (cluster : Cluster) (is : IsOf segments old cluster) where
-  -- so many commands have run, and others are left that call no replica
-  goes_on_left : (left : List Numbered) (pieces : List (List ℕ)) (reached : Reached segments old now all left pieces)
-      → IsLeft segments now (played_in all (reached.used ++ []) cluster).cluster
-  goes_on_left left pieces reached =
-      let before = reached.reached cluster is in
-      record {
-        cluster = before.cluster;
-        is = before.is;
-        counts =
-            ap (λ (p : Played). map (look count_seen) p.cluster.lanes) (before.goes_on [])
-            ∙ kept_by_run count_seen Any counts_kept tt left [] before.cluster (All-nil (All Any));
-        stores =
-            ap (λ (p : Played). map (look stores_seen) p.cluster.lanes) (before.goes_on [])
-            ∙ kept_by_run stores_seen Nothing stores_kept refl left [] before.cluster (All-nil (All Nothing));
-      }
+module _ {R : Type 0} (segments : R → Option Segments) (faults : R → ℕ) (old now : ClusterState R) (all : List Numbered) (was : Option (List ℕ)) (cluster : Cluster) (is : IsOf segments old cluster) where
+  -- what is played out is a part of these commands, in that cluster
+  abbrev IsOut : Status → Option (List ℕ) → Type 0
+  IsOut status new = IsPlayedOut segments faults old now (part_in all cluster) (length all) status was new
 
-  stopped_left : (line : ℕ) (stop : Stop) (pieces : List (List ℕ)) (p : Played) → StopsAt segments cluster now line stop pieces p
-      → IsLeft segments now p.cluster
-  stopped_left line stop pieces p stops = record {
-    cluster = stops.cluster;
-    is = stops.is;
-    counts = ap (λ (it : Played). map (look count_seen) it.cluster.lanes) stops.stops ∙ stopped_alike count_seen Any counts_kept tt line stop stops.cluster;
-    stores = ap (λ (it : Played). map (look stores_seen) it.cluster.lanes) stops.stops ∙ stopped_alike stores_seen Nothing stores_kept refl line stop stops.cluster;
+  -- ---- however the commands end
+
+  -- memory was wanting
+  pub halted_out : (written new : Option (List ℕ)) (halted : IsHalted segments faults old all was written) → Keeps written new → IsOut NoMemory new
+  halted_out written new halted kept = record {
+    part = Some (length halted.on.ran);
+    may = halted_may segments faults old all was written halted;
+    fates = halted.on.reached.fates;
+    runs = halted_runs segments faults old all was written new halted cluster is kept;
+    counts = λ apart. absurd (apart refl);
+    left = λ apart. absurd (apart refl);
   }
 
-  -- however the commands end, if not for want of memory
-  pub left_by : (written : Option (List ℕ)) (held : List ℕ) (end : End) → end ≢ ends.NoMemory → EndsBy segments old now all was written held end
-      → (calls : List (List Called)) × IsLeft segments now (played_in all calls cluster).cluster
-  left_by written held ends.Done apart on = (on.reached.used ++ [], goes_on_left [] on.pieces on.reached)
-  left_by written held (ends.Stopped line error) apart stopped =
-      (stopped.calls, stopped_left line (stop_by error) stopped.pieces (played_in all stopped.calls cluster) (stopped.stopped cluster is))
-  left_by written held ends.WriteFault apart failed = (failed.reached.used ++ [], goes_on_left failed.left failed.pieces failed.reached)
-  left_by written held ends.NoMemory apart halted = absurd (apart refl)
-
-  -- and the run is concluded
-  pub played_out : (written new : Option (List ℕ)) (held : List ℕ) (end : End) (status : Status) → end ≢ ends.NoMemory → EndsBy segments old now all was written held end
-      → ConcludesBy end held status written new → IsPlayedOut segments cluster now (λ calls. played_in all calls cluster) status was new
-  played_out written new held ends.Done status apart on concludes =
-      let before = on.reached.reached cluster is in
-      let q : Played = ending Done before.cluster in
+  done_out : (written new : Option (List ℕ)) (held : List ℕ) (status : Status) → IsOn segments faults old now all [] was written held → IsWritten held Done status written new
+      → IsOut status new
+  done_out written new held status on concludes =
+      let reached = on.reached.reached cluster is in
+      let q : Played = ending Done reached.cluster in
+      let same = ran_all segments cluster now on.ran all on.reached.fates on.pieces on.whole reached in
       record {
-        calls = on.reached.used ++ [];
+        part = None;
+        may = written_may held Done status (length all) written new tt concludes;
+        fates = on.reached.fates;
         runs =
-            subst (λ (p : Played). Runs p status was new) (sym (before.goes_on []))
-            (written_runs q on.pieces before.occurred held was written on.sent status new tt
+            subst (λ (p : Played). Runs p status was new) (sym same)
+            (written_runs q on.pieces reached.occurred held was written on.sent status new tt
             (subst (λ (text : List ℕ). IsWritten text Done status written new) (sym (append-nil held)) concludes));
-        left = goes_on_left [] on.pieces on.reached;
-        led = λ apart. subst (λ (p : Played). Leads cluster p.cluster) (sym (before.goes_on [])) before.leads;
+        counts = λ apart. on.reached.counts;
+        left = λ apart. subst (λ (p : Played). IsOf segments now p.cluster) (sym same) reached.is;
       }
-  played_out written new held (ends.Stopped line error) status apart stopped concludes =
+
+  stopped_out : (written new : Option (List ℕ)) (held : List ℕ) (line : ℕ) (error : PlayError) (status : Status)
+      → HasStopped segments faults old now all line error was written held → ((end : Cluster) → Concludes (stopped_at line (stop_by error) end) held status written new) → IsOut status new
+  stopped_out written new held line error status stopped concludes =
       let stops = stopped.stopped cluster is in
       let q : Played = stopped_at line (stop_by error) stops.cluster in
-      record {
-        calls = stopped.calls;
+      let ended = stopped_ended line error stops.cluster stopped.apart in
+      ⊎_elim
+      (λ (said : IsWritten (held ++ text_of q) q.status status written new).
+      let out : IsOut status new = record {
+        part = None;
+        may = written_may (held ++ text_of q) q.status status (length all) written new ended said;
+        fates = stopped.fates;
         runs =
             subst (λ (p : Played). Runs p status was new) (sym stops.stops)
-            (concluded_runs q stopped.pieces stops.occurred held was written stopped.sent status new (stopped_ended line error stops.cluster stopped.apart)
-            (stopped_short line (stop_by error) stops.cluster) (concludes stops.cluster));
-        left = stopped_left line (stop_by error) stopped.pieces (played_in all stopped.calls cluster) stops;
-        led = λ apart.
-            subst (λ (p : Played). Leads cluster p.cluster) (sym stops.stops)
-            (subst (Leads cluster) (sym (stopped_cluster line (stop_by error) stops.cluster)) stops.leads);
+            (written_runs q stopped.pieces stops.occurred held was written stopped.sent status new ended said);
+        counts = λ apart. stopped.counts;
+        left = λ apart.
+            subst (λ (p : Played). IsOf segments now p.cluster) (sym stops.stops)
+            (subst (IsOf segments now) (sym (stopped_cluster line (stop_by error) stops.cluster)) stops.is);
       }
-  played_out written new held ends.WriteFault status apart failed concludes = record {
-    calls = failed.reached.used ++ [];
-    runs =
-        subst (λ (it : Status). Runs (played_in all (failed.reached.used ++ []) cluster) it was new) (sym concludes.0)
-        (failed_runs segments old now all was new
-        (record { pieces = failed.pieces; left = failed.left; reached = failed.reached; put = part_kept was written new (concat failed.pieces) failed.put concludes.1 }) cluster is);
-    left = goes_on_left failed.left failed.pieces failed.reached;
-    led = λ apart. absurd (apart concludes.0);
-  }
+      in
+      out)
+      (λ (lacks : (status ≡ NoMemory) × Keeps written new).
+      subst (λ (it : Status). IsOut it new) (sym lacks.0) (halted_out written new stopped.before lacks.1))
+      (concludes stops.cluster)
+
+  failed_out : (written new : Option (List ℕ)) → HasFailed segments faults old now all was written → Keeps written new → IsOut WriteFault new
+  failed_out written new failed kept =
+      let reached = failed.reached.reached cluster is in
+      record {
+        part = Some (length failed.ran);
+        may = tt;
+        fates = failed.reached.fates;
+        runs = failed_runs segments faults old now all was written new failed cluster is kept;
+        counts = λ apart. failed.reached.counts;
+        left = λ apart.
+            subst (λ (p : Played). IsOf segments now p.cluster)
+            (sym (ran_alone segments cluster now failed.ran failed.left all failed.reached.fates failed.pieces failed.whole reached)) reached.is;
+      }
+
+  -- and the run is concluded
+  pub played_out : (written new : Option (List ℕ)) (held : List ℕ) (end : End) (status : Status) → end ≢ ends.NoMemory
+      → EndsBy segments faults old now all was written held end → ConcludesBy end held status written new → IsOut status new
+  played_out written new held ends.Done status apart on concludes = done_out written new held status on concludes
+  played_out written new held (ends.Stopped line error) status apart stopped concludes = stopped_out written new held line error status stopped concludes
+  played_out written new held ends.WriteFault status apart failed concludes =
+      subst (λ (it : Status). IsOut it new) (sym concludes.0) (failed_out written new failed concludes.1)
   played_out written new held ends.NoMemory status apart halted concludes = absurd (apart refl)
-
-  -- ---- how many backups there are
-
-  counts_left : (written : Option (List ℕ)) (held : List ℕ) (end : End) → end ≢ ends.NoMemory → EndsBy segments old now all was written held end
-      → (next : Cluster) × IsOf segments now next × (map (look count_seen) next.lanes ≡ map (look count_seen) cluster.lanes)
-  counts_left written held end apart ended =
-      let out = left_by written held end apart ended in (
-        out.1.cluster,
-        out.1.is,
-        sym out.1.counts ∙ kept_by_run count_seen Any counts_kept tt all out.0 cluster (all_any out.0),
-      )
-
--- ---- lanes in code
-
--- a lane of a world has as many backups as that
-lane_counts : {R : Type 0} (segments : R → Option Segments) (lanes : List (LaneState R)) (worlds : List World) → AreWorlds segments lanes worlds
-    → map (look count_seen) worlds ≡ map (λ (lane : LaneState R). length lane.backups) lanes
-lane_counts segments [] [] are = refl
-lane_counts segments [] (w ∷ worlds) are = absurd are
-lane_counts segments (lane ∷ lanes) [] are = absurd are
-lane_counts segments (lane ∷ lanes) (w ∷ worlds) are =
-    λ i. (ap (λ (v : World). v.backup_count) are.0.is) i ∷ lane_counts segments lanes worlds are.1 i
-
--- what is alike is as many
-all_alike : {A B : Type 0} (f : A → ℕ) (g : B → ℕ) (xs : List A) (ys : List B) (count : ℕ) → map f xs ≡ map g ys → All (λ (y : B). g y ≡ count) ys → All (λ (x : A). f x ≡ count) xs
-all_alike {A = A} f g [] ys count alike all = All-nil (λ (x : A). f x ≡ count)
-all_alike f g (x ∷ xs) [] count alike all = absurd (cc alike)
-all_alike {A = A} {B = B} f g (x ∷ xs) (y ∷ ys) count alike all =
-    let first : f x ≡ g y = cc alike in
-    let rest : map f xs ≡ map g ys = cc alike in
-    All-cons (λ (a : A). f a ≡ count) x xs (first ∙ All-head (λ (b : B). g b ≡ count) y ys all)
-    (all_alike f g xs ys count rest (All-tail (λ (b : B). g b ≡ count) y ys all))
-
--- a lane that is not spent stands for a world whose backups tell nothing
-running_world : {R : Type 0} (segments : R → Option Segments) (lane : LaneState R) (running : Running) → lane.running ≡ Some running → IsWorld segments lane (world_with lane running [])
-running_world segments lane running runs =
-    record { running = running; runs = runs; stored = []; told = λ number stored found. absurd (cc found); is = refl }
-
-running_worlds : {R : Type 0} (segments : R → Option Segments) (lanes : List (LaneState R))
-    → ((place : ℕ) (lane : LaneState R) → slice_get lanes place ≡ Some lane → (running : Running) × (lane.running ≡ Some running))
-    → (worlds : List World) × AreWorlds segments lanes worlds
-running_worlds segments [] run = ([], tt)
-running_worlds segments (lane ∷ lanes) run =
-    let its = run 0 lane refl in
-    let others = running_worlds segments lanes (λ place. run (suc place)) in
-    (world_with lane its.0 [] ∷ others.0, (running_world segments lane its.0 its.1, others.1))
-
-all_places : {X : Type 0} (Holds : X → Type 0) (xs : List X) → ((place : ℕ) (x : X) → slice_get xs place ≡ Some x → Holds x) → All Holds xs
-all_places Holds [] holds = All-nil Holds
-all_places Holds (x ∷ xs) holds = All-cons Holds x xs (holds 0 x refl) (all_places Holds xs (λ place. holds (suc place)))
-
--- each lane has as many backups as when it was new, whether its replicas tell or not
-pub record AreCounted {R : Type 0} (backups : ℕ) (now : ClusterState R) : Type 0 where
-  pub count : length now.lanes ≡ LANES
-  pub each : All (λ lane. length lane.backups ≡ backups) now.lanes
-
-pub counted : {R : Type 0} (segments : R → Option Segments) (old now : ClusterState R) (all : List Numbered) (was written : Option (List ℕ)) (held : List ℕ) (end : End) (masters backups : ℕ)
-    → length old.lanes ≡ LANES → ((number : ℕ) (lane : LaneState R) → slice_get old.lanes number ≡ Some lane → IsNewLane masters backups number lane) → end ≢ ends.NoMemory
-    → EndsBy segments old now all was written held end → AreCounted backups now
-counted {R = R} segments old now all was written held end masters backups eight new apart ended =
-    let worlds = running_worlds segments old.lanes (λ place lane there. ((new place lane there).running, (new place lane there).runs)) in
-    let cluster : Cluster = record { lanes = worlds.0; sessions = old.sessions } in
-    let is : IsOf segments old cluster = record { lanes = worlds.1; sessions = refl } in
-    let left = counts_left segments old now all was cluster is written held end apart ended in
-    let alike : map (λ (lane : LaneState R). length lane.backups) now.lanes ≡ map (λ (lane : LaneState R). length lane.backups) old.lanes =
-    sym (lane_counts segments now.lanes left.0.lanes left.1.lanes) ∙ left.2 ∙ lane_counts segments old.lanes worlds.0 worlds.1 in
-    record {
-      count =
-          sym (length-map now.lanes (λ (lane : LaneState R). length lane.backups)) ∙ ap (λ (list : List ℕ). length list) alike
-          ∙ length-map old.lanes (λ (lane : LaneState R). length lane.backups) ∙ eight;
-      each =
-          all_alike (λ (lane : LaneState R). length lane.backups) (λ (lane : LaneState R). length lane.backups) now.lanes old.lanes backups alike
-          (all_places (λ (lane : LaneState R). length lane.backups ≡ backups) old.lanes (λ place lane there. (new place lane there).backups_are));
-    }

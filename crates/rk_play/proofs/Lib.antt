@@ -7,8 +7,6 @@ pub mod Settled
 pub mod Openings
 pub mod Sending
 pub mod Reaching
-pub mod Backups
-pub mod Stores
 pub mod Concluding
 pub mod Leaving
 pub mod Telling

@@ -1,14 +1,223 @@
 -- The commands that set numbers before all others.
-use Rattle.std.proofs.Common.{◌≡◌, ◌≤◌, ℕ, List, drop, length}
-use Rattle.rk_world.specs.Backup.{Called}
+use Rattle.std.proofs.Common.{◌≡◌, ◌⊎◌, ◌≤◌, ◌<◌, ◌+◌, ◌*◌, ℕ, zero, suc, List, [], ◌∷◌, ◌++◌, drop, drop-cons, get_or, length, take, refl, sym, ap, subst, ◌∙◌, inl, inr, ⊎_elim, arith}
+use Rattle.std.specs.Prelude.{Bool, true, Option, None, Some, Ok, if◌then◌else◌, is_some}
+use Rattle.std.proofs.lemmas.List.{length-drop, take-append-drop, take_all}
+use Rattle.std.proofs.Math.ListN.{drop_of_length-le}
+use Rattle.std.proofs.Math.Seq.{take-add}
+use Rattle.rk_types.specs.declared.status.Status.{Status}
+use Rattle.rk_types.specs.declared.status.Status.TheVariants.{Audit, Done, NoMemory, ReadFault, Refused, ReplicaFault, Usage, Worn, WriteFault}
+use Rattle.rk_outside.specs.Segments.{Segments}
+use Rattle.rk_world.specs.Cluster.{Cluster}
+use Rattle.rk_cluster.specs.Numbers.{number_of}
+use Rattle.rk_cluster.specs.Replicas.{Fate}
+use Rattle.rk_cluster.specs.declared.code.Code.TheVariants.{TooLate}
+use Rattle.rk_script.specs.declared.command.Command.{Command}
+use Rattle.rk_script.specs.declared.command.Command.TheVariants.{Backups, Masters}
 use Rattle.rk_script.specs.declared.command.Numbered.{Numbered}
-use Rattle.rk_play.specs.Played.{played_from, unset}
-use Rattle.rk_play.specs.Settings.{IsSetting, setting_of}
+use Rattle.rk_play.specs.Concluded.{PlaysBy, part_in}
+use Rattle.rk_play.specs.Played.{Played, Setting, cluster_by, opened_by, part_of, played_from, played_in, refused_at, unset}
+use Rattle.rk_play.specs.Runs.{MayBePart, Runs, TellStored, backup_count}
+use Rattle.rk_play.specs.Settings.{IsOpened, IsRefusedEarly, IsSetting, setting_of}
 use Rattle.rk_play.specs.declared.setting.Opening.{Opening}
 
--- so many commands have set numbers, and the others are played from there
+-- so many commands have set numbers, and any others behind them are played from there
 pub record IsReading (commands : List Numbered) (opening : Opening) (index : ℕ) : Type 0 where
   pub count : opening.count ≡ index
   pub within : index ≤ length commands
-  pub played : (calls : List (List Called)) → played_from commands calls unset ≡ played_from (drop index commands) calls (setting_of opening)
+  pub played : (left : List Numbered) (fates : List (List Fate))
+      → played_from (take index commands ++ left) fates unset ≡ played_from left fates (setting_of opening)
   pub setting : IsSetting (setting_of opening)
+
+-- ---- the others
+
+-- the next command, and those behind it
+pub next_is : (commands : List Numbered) (index : ℕ) (first : Numbered) → index < length commands → first ≡ get_or commands index first
+    → drop index commands ≡ first ∷ drop (suc index) commands
+next_is commands index first within is =
+    drop-cons commands index first within ∙ ap (λ (it : Numbered). it ∷ drop (suc index) commands) (sym is)
+
+-- a command that sets no number makes the cluster
+pub plain : (command : Command) → ((masters : ℕ) → command ≡ Masters masters → ⊥) → ((backups : ℕ) → command ≡ Backups backups → ⊥)
+    → (line : ℕ) (setting : Setting) (next : Setting → Played) (all : Cluster → Played) → opened_by line command setting next all ≡ all (cluster_by setting)
+plain (Masters masters) no_masters no_backups line setting next all = absurd (no_masters masters refl)
+plain (Backups backups) no_masters no_backups line setting next all = absurd (no_backups backups refl)
+plain command no_masters no_backups line setting next all = refl
+
+-- any of the other commands are played in the cluster that was asked for
+abbrev IsPlayedThere : List Numbered → Setting → Type 0
+IsPlayedThere rest setting =
+    (count : ℕ) (fates : List (List Fate)) → played_from (take count rest) fates setting ≡ played_in (take count rest) fates (cluster_by setting)
+
+none_there : (setting : Setting) → IsPlayedThere [] setting
+none_there setting zero fates = refl
+none_there setting (suc count) fates = refl
+
+first_there : (first : Numbered) (rest : List Numbered) (setting : Setting)
+    → ((line : ℕ) (setting : Setting) (next : Setting → Played) (all : Cluster → Played) → opened_by line first.command setting next all ≡ all (cluster_by setting))
+    → IsPlayedThere (first ∷ rest) setting
+first_there first rest setting makes zero fates = refl
+first_there first rest setting makes (suc count) fates =
+    makes first.line setting (λ next. played_from (take count rest) fates next) (λ cluster. played_in (first ∷ take count rest) fates cluster)
+
+opens : (commands : List Numbered) (opening : Opening) (index : ℕ) → IsReading commands opening index → IsPlayedThere (drop index commands) (setting_of opening)
+    → IsOpened commands opening
+opens commands opening index reading there =
+    let at : opening.count ≡ index = reading.count in
+    record {
+      few = omega (arith, at, reading.within);
+      played = λ count fates.
+          (λ i. played_from (take (at i + count) commands) fates unset)
+          ∙ ap (λ (list : List Numbered). played_from list fates unset) (take-add index count commands)
+          ∙ reading.played (take count (drop index commands)) fates ∙ there count fates
+          ∙ (λ i. played_in (take count (drop (sym at i) commands)) fates (cluster_by (setting_of opening)));
+      setting = reading.setting;
+    }
+
+-- no other command is left
+pub opened_all : (commands : List Numbered) (opening : Opening) (index : ℕ) → IsReading commands opening index → length commands ≤ index → IsOpened commands opening
+opened_all commands opening index reading past =
+    opens commands opening index reading (subst (λ (list : List Numbered). IsPlayedThere list (setting_of opening)) (sym (drop_of_length-le commands past)) (none_there (setting_of opening)))
+
+-- the next command sets no number
+pub opened_before : (commands : List Numbered) (opening : Opening) (index : ℕ) (first : Numbered) (rest : List Numbered) → IsReading commands opening index
+    → drop index commands ≡ first ∷ rest → ((masters : ℕ) → first.command ≡ Masters masters → ⊥) → ((backups : ℕ) → first.command ≡ Backups backups → ⊥)
+    → IsOpened commands opening
+opened_before commands opening index first rest reading is no_masters no_backups =
+    opens commands opening index reading
+    (subst (λ (list : List Numbered). IsPlayedThere list (setting_of opening)) (sym is) (first_there first rest (setting_of opening) (plain first.command no_masters no_backups)))
+
+-- ---- a number that is set twice
+
+early : (commands : List Numbered) (opening : Opening) (index : ℕ) (first : Numbered) (rest : List Numbered) → IsReading commands opening index
+    → drop index commands ≡ first ∷ rest
+    → ((next : Setting → Played) (all : Cluster → Played)
+    → opened_by first.line first.command (setting_of opening) next all ≡ refused_at first.line (number_of TooLate) (cluster_by (setting_of opening)))
+    → IsRefusedEarly commands first.line
+early commands opening index first rest reading is refuses = record {
+  setting = setting_of opening;
+  may = reading.setting;
+  played = λ fates.
+      ap (λ (list : List Numbered). played_from list fates unset) (sym (take-append-drop index commands))
+      ∙ reading.played (drop index commands) fates
+      ∙ ap (λ (list : List Numbered). played_from list fates (setting_of opening)) is
+      ∙ refuses (λ next. played_from rest fates next) (λ cluster. played_in (first ∷ rest) fates cluster);
+}
+
+-- a number of masters, or of backups
+pub early_masters : (commands : List Numbered) (opening : Opening) (index : ℕ) (first : Numbered) (rest : List Numbered) (masters : ℕ) → IsReading commands opening index
+    → drop index commands ≡ first ∷ rest → first.command ≡ Masters masters → is_some opening.masters ≡ true → IsRefusedEarly commands first.line
+early_masters commands opening index first rest masters reading is command set =
+    early commands opening index first rest reading is (λ next all.
+    ap (λ (it : Command). opened_by first.line it (setting_of opening) next all) command
+    ∙ (let other : Setting = record { masters = Some masters; backups = opening.backups } in
+    ap (λ (b : Bool). if b then refused_at first.line (number_of TooLate) (cluster_by (setting_of opening)) else next other) set))
+
+pub early_backups : (commands : List Numbered) (opening : Opening) (index : ℕ) (first : Numbered) (rest : List Numbered) (backups : ℕ) → IsReading commands opening index
+    → drop index commands ≡ first ∷ rest → first.command ≡ Backups backups → is_some opening.backups ≡ true → IsRefusedEarly commands first.line
+early_backups commands opening index first rest backups reading is command set =
+    early commands opening index first rest reading is (λ next all.
+    ap (λ (it : Command). opened_by first.line it (setting_of opening) next all) command
+    ∙ (let other : Setting = record { masters = opening.masters; backups = Some backups } in
+    ap (λ (b : Bool). if b then refused_at first.line (number_of TooLate) (cluster_by (setting_of opening)) else next other) set))
+
+-- ---- a part of the others is a part of all
+
+abbrev shifted : ℕ → Option ℕ → Option ℕ
+shifted before None = None
+shifted before (Some count) = Some (before + count)
+
+-- unless memory was wanting
+may_shift : (status : Status) (few most before : ℕ) (part : Option ℕ) → (status ≡ NoMemory → ⊥) → MayBePart status few part → MayBePart status most (shifted before part)
+may_shift NoMemory few most before part apart may = absurd (apart refl)
+may_shift WriteFault few most before part apart may = tt
+may_shift Done few most before None apart may = tt
+may_shift Done few most before (Some count) apart may = absurd may
+may_shift Refused few most before None apart may = tt
+may_shift Refused few most before (Some count) apart may = absurd may
+may_shift Usage few most before None apart may = tt
+may_shift Usage few most before (Some count) apart may = absurd may
+may_shift ReadFault few most before None apart may = tt
+may_shift ReadFault few most before (Some count) apart may = absurd may
+may_shift ReplicaFault few most before None apart may = tt
+may_shift ReplicaFault few most before (Some count) apart may = absurd may
+may_shift Audit few most before None apart may = tt
+may_shift Audit few most before (Some count) apart may = absurd may
+may_shift Worn few most before None apart may = tt
+may_shift Worn few most before (Some count) apart may = absurd may
+
+lacks : (status : Status) → (status ≡ NoMemory) ⊎ (status ≡ NoMemory → ⊥)
+lacks NoMemory = inl refl
+lacks Done = inr (λ same. absurd (cc same))
+lacks Refused = inr (λ same. absurd (cc same))
+lacks Usage = inr (λ same. absurd (cc same))
+lacks ReadFault = inr (λ same. absurd (cc same))
+lacks WriteFault = inr (λ same. absurd (cc same))
+lacks ReplicaFault = inr (λ same. absurd (cc same))
+lacks Audit = inr (λ same. absurd (cc same))
+lacks Worn = inr (λ same. absurd (cc same))
+
+module _ {R : Type 0} (segments : R → Option Segments) (faults : R → ℕ) (commands : List Numbered) (opening : Opening) (opened : IsOpened commands opening) (was new : Option (List ℕ)) (before after : List R) where
+  -- the other commands, and the cluster that was asked for
+  abbrev others : List Numbered
+  others = drop opening.count commands
+
+  abbrev asked : Cluster
+  asked = cluster_by (setting_of opening)
+
+  -- a part of them is played as that of all
+  same_part : (part : Option ℕ) (fates : List (List Fate)) → part_of (Ok commands) (shifted opening.count part) fates ≡ part_in others asked part fates
+  same_part (Some count) fates = opened.played count fates
+  same_part None fates =
+      ap (λ (list : List Numbered). played_from list fates unset) (sym (take_all (opening.count + length commands) commands (omega arith)))
+      ∙ opened.played (length commands) fates
+      ∙ ap (λ (list : List Numbered). played_in list fates asked) (take_all (length commands) others (omega (arith, length-drop opening.count commands)))
+
+  -- unless memory was wanting
+  played_apart : (status : Status) → (status ≡ NoMemory → ⊥) → PlaysBy segments faults (part_in others asked) (length others) status was new before after
+      → PlaysBy segments faults (part_of (Ok commands)) (length commands) status was new before after
+  played_apart status apart plays =
+      let same = sym (same_part plays.part plays.fates) in
+      record {
+        part = shifted opening.count plays.part;
+        may = may_shift status (length others) (length commands) opening.count plays.part apart plays.may;
+        fates = plays.fates;
+        runs = subst (λ (p : Played). Runs p status was new) same plays.runs;
+        counts = plays.counts;
+        stored = λ memory. subst (λ (p : Played). TellStored segments after p.cluster) same (plays.stored memory);
+        others = λ memory.
+            subst (λ (p : Played). drop (8 * backup_count p.cluster) after ≡ drop (8 * backup_count p.cluster) before) same (plays.others memory);
+      }
+
+  -- memory was wanting before one of the commands
+  halted_part : (part : Option ℕ) (fates : List (List Fate)) → MayBePart NoMemory (length commands) part → Runs (part_of (Ok commands) part fates) NoMemory was new
+      → PlaysBy segments faults (part_of (Ok commands)) (length commands) NoMemory was new before after
+  halted_part part fates may halts = record {
+    part = part;
+    may = may;
+    fates = fates;
+    runs = halts;
+    counts = λ apart. absurd (apart refl);
+    stored = λ apart. absurd (apart refl);
+    others = λ apart. absurd (apart refl);
+  }
+
+  played_wanting : (part : Option ℕ) (fates : List (List Fate)) → MayBePart NoMemory (length others) part → Runs (part_in others asked part fates) NoMemory was new
+      → PlaysBy segments faults (part_of (Ok commands)) (length commands) NoMemory was new before after
+  played_wanting None fates may halts = absurd may
+  played_wanting (Some zero) fates may halts =
+      halted_part (Some 0) fates (omega arith) (record { ended = refl; pieces = halts.pieces; few = halts.few; written = halts.written })
+  played_wanting (Some (suc count)) fates may halts =
+      halted_part (Some (opening.count + suc count)) fates (omega (arith, may, length-drop opening.count commands))
+      (subst (λ (p : Played). Runs p NoMemory was new) (sym (same_part (Some (suc count)) fates)) halts)
+
+  -- what the others come to, all do
+  pub opened_plays : (status : Status) → PlaysBy segments faults (part_in others asked) (length others) status was new before after
+      → PlaysBy segments faults (part_of (Ok commands)) (length commands) status was new before after
+  opened_plays status plays =
+      ⊎_elim
+      (λ (wanting : status ≡ NoMemory).
+      let its = subst (λ (it : Status). PlaysBy segments faults (part_in others asked) (length others) it was new before after) wanting plays in
+      subst (λ (it : Status). PlaysBy segments faults (part_of (Ok commands)) (length commands) it was new before after) (sym wanting)
+      (played_wanting its.part its.fates its.may its.runs))
+      (λ (apart : status ≡ NoMemory → ⊥). played_apart status apart plays)
+      (lacks status)

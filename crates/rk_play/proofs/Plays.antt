@@ -11,7 +11,7 @@ use Rattle.rk_entry.specs.Entries.{spelled_all}
 use Rattle.rk_entry.specs.Numbers.{number_bytes}
 use Rattle.rk_entry.specs.Spelling.{body_length, front_bytes, head_bytes, held_bytes, spelled}
 use Rattle.rk_entry.specs.Texts.{key_bytes, value_bytes}
-use Rattle.rk_world.specs.Backup.{Appended, Called, Failed}
+use Rattle.rk_cluster.specs.Replicas.{Fate, Kept, Lost}
 use Rattle.rk_script.specs.declared.command.Command.{Command}
 use Rattle.rk_script.specs.declared.command.Command.TheVariants.{Backups, Call, Client, Crash, History, Masters, Migrate, Serve, Table, Where}
 use Rattle.rk_script.specs.declared.command.Numbered.{Numbered}
@@ -25,9 +25,9 @@ record Told : Type 0 where
 abbrev told : Played → Told
 told played = record { pieces = played.pieces; status = played.status }
 
--- what commands write, where the calls of replicas come to these
-abbrev told_of : List Numbered → List (List Called) → Told
-told_of commands calls = told (played_from commands calls unset)
+-- what commands write, by the fates of the calls of replicas
+abbrev told_of : List Numbered → List (List Fate) → Told
+told_of commands fates = told (played_from commands fates unset)
 
 -- a command at a line
 abbrev at : ℕ → Command → Numbered
@@ -68,10 +68,10 @@ last_master :
 unfolding digits
 last_master = refl
 
--- a put is asked, served and told, and is in the history: each replica that is called stores the forty bytes of its entry
+-- a put is asked, served and told, and is in the history, where each call of a replica goes well
 a_put :
     told_of (at 1 (Table 1 1) ∷ at 2 (Client 1) ∷ at 3 (Call 1 1 (codes "a") (Put (codes "x"))) ∷ at 4 (Serve 1) ∷ at 5 History ∷ [])
-    ([] ∷ [] ∷ [] ∷ replicate 60 (Appended 40) ∷ [])
+    ([] ∷ [] ∷ [] ∷ replicate 60 Kept ∷ [])
     ≡ record {
       pieces = [] ∷ [] ∷ [] ∷ codes "reply 1 1 written 1\n" ∷ codes "entry 1 4 1 1 put 1 a x gives written 1\n" ∷ [];
       status = Done;
@@ -79,10 +79,10 @@ a_put :
 unfolding digits hash_of spelled_of spelled_all spelled front_bytes body_length head_bytes held_bytes number_bytes key_bytes value_bytes
 a_put = refl
 
--- where each call of a replica fails, the put is not told, and the run ends after a hundred rounds
+-- where each call of a replica of its lane fails, the put is not told, and the run ends after a hundred rounds
 failing_replicas :
     told_of (at 1 (Table 1 1) ∷ at 2 (Client 1) ∷ at 3 (Call 1 1 (codes "a") (Put (codes "x"))) ∷ at 4 (Serve 1) ∷ [])
-    ([] ∷ [] ∷ [] ∷ replicate 3000 (Failed 0) ∷ [])
+    ([] ∷ [] ∷ [] ∷ replicate 3000 (Lost 4 0 0) ∷ [])
     ≡ record { pieces = [] ∷ [] ∷ [] ∷ []; status = ReplicaFault }
 unfolding digits hash_of spelled_of spelled_all spelled front_bytes body_length head_bytes held_bytes number_bytes key_bytes value_bytes
 failing_replicas = refl

@@ -1,21 +1,20 @@
 -- A run goes on from the pieces that it has written; these lemmas know of no command.
-use Rattle.std.proofs.Common.{◌≡◌, ◌≢◌, ℕ, ◌+◌, ◌≤◌, List, [], ◌∷◌, ◌++◌, length, refl, sym, ap, ◌∙◌, arith, append_assoc, append-nil, length-append}
+use Rattle.std.proofs.Common.{◌≡◌, ◌≢◌, ℕ, List, [], ◌∷◌, ◌++◌, refl, sym, ap, subst, ◌∙◌, append_assoc, append-nil}
 use Rattle.std.specs.Prelude.{Bool, Option, None, Some}
 use Rattle.std.specs.List.{concat}
 use Rattle.std.proofs.lemmas.List.Folds.{concat-append}
-use Rattle.rk_types.specs.declared.status.Status.TheVariants.{Done}
 use Rattle.rk_outside.specs.Segments.{Segments}
 use Rattle.rk_outside.specs.Parts.{AppendsPart}
-use Rattle.rk_world.specs.Backup.{Called}
 use Rattle.rk_world.specs.Cluster.{Cluster, Occurrence}
-use Rattle.rk_cluster.specs.State.{ClusterState, IsOf}
-use Rattle.rk_cluster.proofs.Leading.{leads_nowhere, leads_on}
-use Rattle.rk_script.specs.declared.command.Command.{Command}
+use Rattle.rk_cluster.specs.Faults.{CountsGoOn}
+use Rattle.rk_cluster.specs.Replicas.{Fate}
+use Rattle.rk_cluster.specs.State.{ClusterState}
+use Rattle.rk_cluster.proofs.Faults.{counts_same, counts_then}
 use Rattle.rk_script.specs.declared.command.Numbered.{Numbered}
-use Rattle.rk_play.specs.Came.{Came, IsCome, Ran, Stopped}
-use Rattle.rk_play.specs.Effects.{Effect, Fails, Pauses, Refuses, Stop, Wears, effect_within}
+use Rattle.rk_play.specs.Came.{Came, Ran, Stopped}
+use Rattle.rk_play.specs.Effects.{Effect, Stop, effect_within}
 use Rattle.rk_play.specs.Ended.{EndsBy, HasFailed, HasStopped, IsHalted, end_by}
-use Rattle.rk_play.specs.Played.{Played, behind, continued, played_in, stopped_at, text_of}
+use Rattle.rk_play.specs.Played.{Played, all_fates, behind, continued, played_in, stopped_at, text_of}
 use Rattle.rk_play.specs.Reached.{IsOn, Reached, Spills}
 use Rattle.rk_play.specs.Stops.{stop_by}
 use Rattle.rk_play.specs.declared.end.End.TheVariants as ends
@@ -54,89 +53,105 @@ end_apart line (errors.Refused code) same = absurd (cc same)
 end_apart line (errors.Worn number) same = absurd (cc same)
 end_apart line (errors.Replica rounds) same = absurd (cc same)
 
-module _ {R : Type 0} (segments : R → Option Segments) where
-  pub reached_start : (old : ClusterState R) (all : List Numbered) → Reached segments old old all all []
-  reached_start old all = record {
-    used = [];
-    reached = λ cluster is. record { cluster = cluster; is = is; leads = leads_nowhere cluster; occurred = []; goes_on = λ later. refl };
+-- the fates of the calls of one more command
+one_more : (fates : List (List Fate)) (its : List Fate) → all_fates (fates ++ its ∷ []) ≡ all_fates fates ++ its
+one_more [] its = append-nil its
+one_more (first ∷ fates) its = ap (λ (list : List Fate). first ++ list) (one_more fates its) ∙ sym (append_assoc first (all_fates fates) its)
+
+module _ {R : Type 0} (segments : R → Option Segments) (faults : R → ℕ) where
+  -- the counts of replicas went on by one more command
+  counts_more : (old mid now : ClusterState R) (fates : List (List Fate)) (its : List Fate) → CountsGoOn faults (all_fates fates) old mid → CountsGoOn faults its mid now
+      → CountsGoOn faults (all_fates (fates ++ its ∷ [])) old now
+  counts_more old mid now fates its before on =
+      subst (λ (list : List Fate). CountsGoOn faults list old now) (sym (one_more fates its)) (counts_then faults (all_fates fates) its old mid now before on)
+
+  pub reached_start : (old : ClusterState R) → Reached segments faults old old [] []
+  reached_start old = record {
+    fates = [];
+    counts = counts_same faults old;
+    reached = λ cluster is. record { cluster = cluster; is = is; occurred = []; goes_on = λ left later. refl };
   }
 
-  pub reached_step : (old mid now : ClusterState R) (all others : List Numbered) (first : Numbered) (pieces : List (List ℕ)) (text : List ℕ)
-      → Reached segments old mid all (first ∷ others) pieces → Came segments mid now (λ cluster calls. effect_within cluster first.command calls) text None
-      → Reached segments old now all others (pieces ++ text ∷ [])
-  reached_step old mid now all others first pieces text before came = record {
-    used = before.used ++ came.calls ∷ [];
+  pub reached_step : (old mid now : ClusterState R) (ran : List Numbered) (first : Numbered) (pieces : List (List ℕ)) (text : List ℕ)
+      → Reached segments faults old mid ran pieces → Came segments faults mid now (λ cluster fates. effect_within cluster first.command fates) text None
+      → Reached segments faults old now (ran ++ first ∷ []) (pieces ++ text ∷ [])
+  reached_step old mid now ran first pieces text before came = record {
+    fates = before.fates ++ came.fates ∷ [];
+    counts = counts_more old mid now before.fates came.fates before.counts came.counts;
     reached = λ cluster is.
         let was = before.reached cluster is in
         let comes = came.comes was.cluster was.is in
-        let it : Effect = effect_within was.cluster first.command came.calls in
+        let it : Effect = effect_within was.cluster first.command came.fates in
         record {
           cluster = it.cluster;
           is = comes.cluster;
-          leads = leads_on cluster was.cluster it.cluster was.leads comes.leads;
           occurred = was.occurred ++ it.occurred;
-          goes_on = λ later.
-              ap (λ (calls : List (List Called)). played_in all calls cluster) (append_assoc before.used (came.calls ∷ []) later)
-              ∙ was.goes_on (came.calls ∷ later)
-              ∙ ap (behind pieces was.occurred) (went_on first.line it text (λ next. played_in others later next) comes.text_is comes.stop_is)
-              ∙ behind_both pieces (text ∷ []) was.occurred it.occurred (played_in others later it.cluster);
+          goes_on = λ left later.
+              (λ i. played_in (append_assoc ran (first ∷ []) left i) (append_assoc before.fates (came.fates ∷ []) later i) cluster)
+              ∙ was.goes_on (first ∷ left) (came.fates ∷ later)
+              ∙ ap (behind pieces was.occurred) (went_on first.line it text (λ next. played_in left later next) comes.text_is comes.stop_is)
+              ∙ behind_both pieces (text ∷ []) was.occurred it.occurred (played_in left later it.cluster);
         };
   }
 
-  stop_came : (mid now : ClusterState R) (effect : Cluster → List Called → Effect) (error : PlayError) → error ≢ errors.NoMemory → Stopped segments mid now effect error
-      → Came segments mid now effect [] (Some (stop_by error))
+  stop_came : (mid now : ClusterState R) (effect : Cluster → List Fate → Effect) (error : PlayError) → error ≢ errors.NoMemory → Stopped segments faults mid now effect error
+      → Came segments faults mid now effect [] (Some (stop_by error))
   stop_came mid now effect errors.NoMemory apart stopped = absurd (apart refl)
   stop_came mid now effect (errors.Refused code) apart stopped = stopped
   stop_came mid now effect (errors.Worn number) apart stopped = stopped
   stop_came mid now effect (errors.Replica rounds) apart stopped = stopped
 
   module _ (old mid now : ClusterState R) (all others : List Numbered) (first : Numbered) (was written : Option (List ℕ)) (held : List ℕ)
-      (on : IsOn segments old mid all (first ∷ others) was written held) where
+      (on : IsOn segments faults old mid all (first ∷ others) was written held) where
     -- a command has run
-    pub on_step : (next : List ℕ) → Ran segments mid now (λ cluster calls. effect_within cluster first.command calls) held next
-        → IsOn segments old now all others was written next
+    pub on_step : (next : List ℕ) → Ran segments faults mid now (λ cluster fates. effect_within cluster first.command fates) held next
+        → IsOn segments faults old now all others was written next
     on_step next ran = record {
+      ran = on.ran ++ first ∷ [];
+      whole = append_assoc on.ran (first ∷ []) others ∙ on.whole;
       pieces = on.pieces ++ ran.text ∷ [];
-      reached = reached_step old mid now all others first on.pieces ran.text on.reached ran.came;
+      reached = reached_step old mid now on.ran first on.pieces ran.text on.reached ran.came;
       sent = sent_piece was written on.pieces held next ran.text ran.added on.sent;
     }
 
-    -- the run stops at it
+    -- memory was wanting
+    on_halted : IsHalted segments faults old all was written
+    on_halted = record { now = mid; first = first; others = others; held = held; on = on }
+
+    -- or the run stops at it
     on_stopped : (error : PlayError) (next : List ℕ) → error ≢ errors.NoMemory → next ≡ held
-        → Stopped segments mid now (λ cluster calls. effect_within cluster first.command calls) error
-        → HasStopped segments old now all first.line error was written next
+        → Stopped segments faults mid now (λ cluster fates. effect_within cluster first.command fates) error
+        → HasStopped segments faults old now all first.line error was written next
     on_stopped error next apart kept stopped =
-        let came = stop_came mid now (λ cluster calls. effect_within cluster first.command calls) error apart stopped in
+        let came = stop_came mid now (λ cluster fates. effect_within cluster first.command fates) error apart stopped in
         record {
           apart = apart;
+          before = on_halted;
           pieces = on.pieces;
           sent = record { sent = on.sent.sent; few = on.sent.few; written = on.sent.written; rest = kept ∙ on.sent.rest };
-          calls = on.reached.used ++ came.calls ∷ [];
+          fates = on.reached.fates ++ came.fates ∷ [];
+          counts = counts_more old mid now on.reached.fates came.fates on.reached.counts came.counts;
           stopped = λ cluster is.
               let before = on.reached.reached cluster is in
               let comes = came.comes before.cluster before.is in
-              let it : Effect = effect_within before.cluster first.command came.calls in
+              let it : Effect = effect_within before.cluster first.command came.fates in
               record {
                 cluster = it.cluster;
                 is = comes.cluster;
-                leads = leads_on cluster before.cluster it.cluster before.leads comes.leads;
                 occurred = before.occurred ++ it.occurred;
                 stops =
-                    before.goes_on (came.calls ∷ [])
+                    ap (λ (list : List Numbered). played_in list (on.reached.fates ++ came.fates ∷ []) cluster) (sym on.whole)
+                    ∙ before.goes_on (first ∷ others) (came.fates ∷ [])
                     ∙ ap (behind on.pieces before.occurred) (came_to_stop first.line it (stop_by error) (λ next. played_in others [] next) comes.stop_is)
                     ∙ behind_both on.pieces [] before.occurred it.occurred (stopped_at first.line (stop_by error) it.cluster)
                     ∙ ap (λ (pieces : List (List ℕ)). behind pieces (before.occurred ++ it.occurred) (stopped_at first.line (stop_by error) it.cluster)) (append-nil on.pieces);
               };
         }
 
-    -- or memory was wanting
-    on_halted : IsHalted segments old all was written
-    on_halted = record { now = mid; first = first; others = others; held = held; on = on }
-
     -- the run ends there
     pub on_ended : (error : PlayError) (next : List ℕ) → (error ≢ errors.NoMemory → next ≡ held)
-        → Stopped segments mid now (λ cluster calls. effect_within cluster first.command calls) error
-        → EndsBy segments old now all was written next (end_by first.line error)
+        → Stopped segments faults mid now (λ cluster fates. effect_within cluster first.command fates) error
+        → EndsBy segments faults old now all was written next (end_by first.line error)
     on_ended errors.NoMemory next kept stopped = on_halted
     on_ended (errors.Refused code) next kept stopped =
         let apart : errors.Refused code ≢ errors.NoMemory = λ same. absurd (cc same) in on_stopped (errors.Refused code) next apart (kept apart) stopped
@@ -146,14 +161,26 @@ module _ {R : Type 0} (segments : R → Option Segments) where
         let apart : errors.Replica rounds ≢ errors.NoMemory = λ same. absurd (cc same) in on_stopped (errors.Replica rounds) next apart (kept apart) stopped
 
   pub on_spilled : (old now : ClusterState R) (all left : List Numbered) (was mid new : Option (List ℕ)) (held next : List ℕ) (few : Bool)
-      → IsOn segments old now all left was mid held → Spills few mid new held next → IsOn segments old now all left was new next
-  on_spilled old now all left was mid new held next few on spills =
-      record { pieces = on.pieces; reached = on.reached; sent = sent_spilled was mid new on.pieces held next few spills on.sent }
+      → IsOn segments faults old now all left was mid held → Spills few mid new held next → IsOn segments faults old now all left was new next
+  on_spilled old now all left was mid new held next few on spills = record {
+    ran = on.ran;
+    whole = on.whole;
+    pieces = on.pieces;
+    reached = on.reached;
+    sent = sent_spilled was mid new on.pieces held next few spills on.sent;
+  }
 
-  pub on_failed : (old now : ClusterState R) (all left : List Numbered) (was mid new : Option (List ℕ)) (held : List ℕ) → IsOn segments old now all left was mid held
-      → AppendsPart mid new held → HasFailed segments old now all was new
-  on_failed old now all left was mid new held on part =
-      record { pieces = on.pieces; left = left; reached = on.reached; put = sent_failed was mid new on.pieces held on.sent part }
+  pub on_failed : (old now : ClusterState R) (all left : List Numbered) (was mid new : Option (List ℕ)) (held : List ℕ) → IsOn segments faults old now all left was mid held
+      → AppendsPart mid new held → HasFailed segments faults old now all was new
+  on_failed old now all left was mid new held on part = record {
+    ran = on.ran;
+    left = left;
+    whole = on.whole;
+    pieces = on.pieces;
+    reached = on.reached;
+    put = sent_failed was mid new on.pieces held on.sent part;
+  }
 
-  pub on_start : (old : ClusterState R) (all : List Numbered) (was : Option (List ℕ)) (held : List ℕ) → held ≡ [] → IsOn segments old old all all was was held
-  on_start old all was held none = record { pieces = []; reached = reached_start old all; sent = sent_none was held none }
+  pub on_start : (old : ClusterState R) (all : List Numbered) (was : Option (List ℕ)) (held : List ℕ) → held ≡ [] → IsOn segments faults old old all all was was held
+  on_start old all was held none =
+      record { ran = []; whole = refl; pieces = []; reached = reached_start old; sent = sent_none was held none }

@@ -1,54 +1,108 @@
 -- Where the counts of faults of a cluster went on, those of the replicas of its run did, of which some were lent to it.
-use Rattle.std.proofs.Common.{◌≡◌, ◌*◌, ◌++◌, ℕ, List, length, map, slice_get, Some, sym, ap, subst, ◌∙◌, arith, length-append}
-use Rattle.std.proofs.lemmas.List.{length-take, map-append, take-append-drop}
+use Rattle.std.proofs.Common.{◌≡◌, ◌*◌, ◌+◌, ◌++◌, ℕ, zero, suc, Bool, true, false, List, [], ◌∷◌, drop, length, map, slice_get, None, Some, refl, sym, ap, subst, ◌∙◌, arith, length-append}
+use Rattle.std.specs.Prelude.{if◌then◌else◌, nat_lt}
+use Rattle.std.proofs.lemmas.Bool.{ltb-false, ltb-true}
+use Rattle.std.proofs.lemmas.List.{length-map, length-take, map-append, take-append-drop}
+use Rattle.std.proofs.Math.Seq.{drop-append_seam}
 use Rattle.std.specs.Global.{Vec}
 use Rattle.rk_types.specs.declared.hashing.TheConstants.{LANES}
 use Rattle.rk_lane.specs.LaneState.{LaneState, replicas_of}
 use Rattle.rk_cluster.specs.Dealt.{IsEighth}
-use Rattle.rk_cluster.specs.Faults.{CountsGoOn, GoOn}
+use Rattle.rk_cluster.specs.Faults.{CountsGoOn, GoOn, RoseBy, times_lost}
+use Rattle.rk_cluster.specs.Replicas.{Fate}
 use Rattle.rk_cluster.specs.State.{ClusterState}
-use Rattle.rk_cluster.proofs.Faults.{go_on_before}
-use Rattle.rk_cluster.proofs.Order.{replicas_go_on}
+use Rattle.rk_cluster.proofs.Faults.{rose_same}
+use Rattle.rk_cluster.proofs.Order.{none_beyond, replicas_go_on}
+use Rattle.rk_settle.specs.Course.{MOST_FAULTS}
+use Rattle.rk_settle.specs.Faults.{FailsInRounds, RoseInRounds}
 use Rattle.rk_play.specs.Lent.{AreGivenBack, HasLent}
+use Rattle.rk_play.specs.Runs.{replica_counts}
 use Rattle.rk_play.specs.declared.playing.replicas.Kept.{Kept}
 use Rattle.rk_play.specs.declared.playing.replicas.TheConstants.{REPLICAS}
 
-module _ {R : Type 0} (faults : R → ℕ) (more : ℕ) (old now : ClusterState R) (backups : ℕ) (replicas room its back : Vec R) (kept : Kept R)
+-- ---- lists
+
+-- counts that are alike behind others do not matter
+rose_before : (many : ℕ) (before now back : List ℕ) (place : ℕ) → length before ≡ length now → RoseBy many (slice_get before place) (slice_get now place)
+    → RoseBy many (slice_get (before ++ back) place) (slice_get (now ++ back) place)
+rose_before many [] [] back place same rose =
+    subst (λ (n : ℕ). RoseBy n (slice_get back place) (slice_get back place)) (sym rose) (rose_same (slice_get back place))
+rose_before many [] (is ∷ now) back place same rose = absurd (cc same)
+rose_before many (was ∷ before) [] back place same rose = absurd (cc same)
+rose_before many (was ∷ before) (is ∷ now) back zero same rose = rose
+rose_before many (was ∷ before) (is ∷ now) back (suc place) same rose =
+    let rest : length before ≡ length now = cc same in rose_before many before now back place rest rose
+
+-- what stands behind as many
+drop_all : {X : Type 0} (front back : List X) (count : ℕ) → length front ≡ count → drop count (front ++ back) ≡ back
+drop_all front back count many =
+    ap (λ (n : ℕ). drop n (front ++ back)) (sym many) ∙ drop-append_seam front back
+
+-- ---- the replicas of a run
+
+module _ {R : Type 0} (faults : R → ℕ) (old now : ClusterState R) (backups : ℕ) (replicas room its back : Vec R) (kept : Kept R)
     (many : length replicas.items ≡ REPLICAS) (lent : HasLent backups replicas room its kept) (given : AreGivenBack now.lanes kept.others.items back.items) where
   -- as many came back as were lent
-  same_many : length its.items ≡ length given.its
-  same_many =
+  as_many : length given.its ≡ LANES * backups
+  as_many =
+      omega (
+        arith,
+        given.count,
+        lent.backups_are,
+        lent.room.all,
+        ap (λ (list : List R). length list) given.whole,
+        length-append given.its kept.others.items,
+      )
+
+  were_lent : length its.items ≡ LANES * backups
+  were_lent =
       omega (
         arith,
         many,
-        given.count,
         lent.backups_are,
         lent.room.all,
         ap (λ (list : List R). length list) lent.its_are,
         length-take (LANES * backups) replicas.items,
-        ap (λ (list : List R). length list) given.whole,
-        length-append given.its kept.others.items,
       )
+
+  -- those that were not lent are as they were
+  pub others_stay : drop (LANES * backups) back.items ≡ drop (LANES * backups) replicas.items
+  others_stay =
+      ap (drop (LANES * backups)) given.whole ∙ drop_all given.its kept.others.items (LANES * backups) as_many ∙ lent.others_are
 
   -- those that were lent, before the others
   whole : its.items ++ kept.others.items ≡ replicas.items
   whole = (λ i. lent.its_are i ++ lent.others_are i) ∙ take-append-drop (LANES * backups) replicas.items
 
-  -- where the counts of the cluster went on, so did those of the replicas of the run
-  pub lent_go_on : length old.lanes ≡ LANES → length now.lanes ≡ LANES
-      → ((number : ℕ) (lane : LaneState R) → slice_get old.lanes number ≡ Some lane → IsEighth its.items number (replicas_of lane.backups))
-      → CountsGoOn faults more old now → GoOn more (map faults replicas.items) (map faults back.items)
-  lent_go_on eight eight_now dealt on =
-      let others = map faults kept.others.items in
-      let all : GoOn more (map faults its.items ++ others) (map faults given.its ++ others) =
-      go_on_before more (map faults its.items) (map faults given.its) others
-      (replicas_go_on faults more old.lanes now.lanes its.items given.its eight eight_now same_many dealt given.each on)
-      in
-      let before : map faults its.items ++ others ≡ map faults replicas.items =
-      sym (map-append faults its.items kept.others.items) ∙ ap (map faults) whole
-      in
-      let after : map faults given.its ++ others ≡ map faults back.items =
-      sym (map-append faults given.its kept.others.items) ∙ ap (map faults) (sym given.whole)
-      in
-      subst (λ (counts : List ℕ). GoOn more counts (map faults back.items)) before
-      (subst (λ (counts : List ℕ). GoOn more (map faults its.items ++ others) counts) after all)
+  module _ (eight : length old.lanes ≡ LANES)
+      (dealt : (number : ℕ) (lane : LaneState R) → slice_get old.lanes number ≡ Some lane → IsEighth its.items number (replicas_of lane.backups)) where
+    -- where the counts of the cluster went on, so did those of the replicas of the run
+    pub lent_go_on : (fates : List Fate) → CountsGoOn faults fates old now → GoOn fates (replica_counts faults replicas.items) (replica_counts faults back.items)
+    lent_go_on fates on lane place = go (nat_lt lane LANES) refl
+      where
+        same : length (map faults its.items) ≡ length (map faults given.its)
+        same = length-map its.items faults ∙ were_lent ∙ sym as_many ∙ sym (length-map given.its faults)
+
+        before : map faults its.items ++ map faults kept.others.items ≡ map faults replicas.items
+        before = sym (map-append faults its.items kept.others.items) ∙ ap (map faults) whole
+
+        after : map faults given.its ++ map faults kept.others.items ≡ map faults back.items
+        after = sym (map-append faults given.its kept.others.items) ∙ ap (map faults) (sym given.whole)
+
+        go : (here : Bool) → nat_lt lane LANES ≡ here
+            → RoseBy (times_lost lane place fates) (if here then slice_get (map faults replicas.items) (LANES * place + lane) else None)
+            (if here then slice_get (map faults back.items) (LANES * place + lane) else None)
+        go true is =
+            subst (λ (counts : List ℕ). RoseBy (times_lost lane place fates) (slice_get counts (LANES * place + lane)) (slice_get (map faults back.items) (LANES * place + lane))) before
+            (subst
+            (λ (counts : List ℕ).
+            RoseBy (times_lost lane place fates) (slice_get (map faults its.items ++ map faults kept.others.items) (LANES * place + lane)) (slice_get counts (LANES * place + lane)))
+            after
+            (rose_before (times_lost lane place fates) (map faults its.items) (map faults given.its) (map faults kept.others.items) (LANES * place + lane) same
+            (replicas_go_on faults fates old.lanes now.lanes eight given.eight on its.items given.its dealt given.each lane place (ltb-true lane LANES is))))
+        go false is = none_beyond faults fates old.lanes now.lanes eight given.eight on lane place (ltb-false lane LANES is)
+
+    -- where replicas failed in so many rounds, so did those of the run
+    pub lent_in_rounds : FailsInRounds faults MOST_FAULTS old now → RoseInRounds MOST_FAULTS (replica_counts faults replicas.items) (replica_counts faults back.items)
+    lent_in_rounds fails =
+        record { failed = fails.failed; are_lost = fails.are_lost; often = fails.often; rose = lent_go_on fails.failed fails.rose }

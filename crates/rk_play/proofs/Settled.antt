@@ -2,8 +2,8 @@
 use Rattle.std.proofs.Common.{◌≡◌, ℕ, ◌++◌, ◌∷◌, List, [], Option, None, Some, refl, sym, ap, subst, ◌∙◌}
 use Rattle.rk_outside.specs.Segments.{Segments}
 use Rattle.rk_types.specs.declared.node.Said.{Said}
-use Rattle.rk_world.specs.Backup.{Called}
 use Rattle.rk_world.specs.Cluster.{Cluster}
+use Rattle.rk_cluster.specs.Replicas.{Fate}
 use Rattle.rk_cluster.specs.State.{ClusterState, IsOf}
 use Rattle.rk_cluster.specs.Told.{Tells}
 use Rattle.rk_cluster.specs.declared.code.Code.{Code}
@@ -26,55 +26,64 @@ stopping course (task ∷ left) some = refl
 
 module _ {R : Type 0} (segments : R → Option Segments) (start : Cluster) (state : ClusterState R) where
   -- that is over has written what was said
-  over : (told : List Said) (course : Course) → IsOver segments start state told course → IsCome segments start state (said_lines told) None (settled_by course course.tasks)
+  over : (told : List Said) (course : Course) → IsOver segments start state [] told course → IsCome segments state (said_lines told) None (settled_by course course.tasks)
   over told course is =
-      subst (λ (effect : Effect). IsCome segments start state (said_lines told) None effect) (sym (ap (settled_by course) is.left))
-      (record { cluster = is.cluster; leads = is.leads; text_is = ap said_lines is.said; stop_is = refl })
+      subst (λ (effect : Effect). IsCome segments state (said_lines told) None effect) (sym (ap (settled_by course) is.left))
+      (record { cluster = is.cluster; text_is = ap said_lines is.said; stop_is = refl })
 
   -- that stops where it is ends the run
-  halted : (error : SettleError) (course : Course) → IsStopped segments start state error course
-      → IsCome segments start state [] (Some (stop_of (Some error))) (settled_by course course.tasks)
-  halted error course is =
+  halted : (told : List Said) (error : SettleError) (course : Course) → IsStopped segments start state [] told error course
+      → IsCome segments state [] (Some (stop_of (Some error))) (settled_by course course.tasks)
+  halted told error course is =
       let some : course.tasks ≡ [] → ⊥ = λ none. cc (sym (ap (error_by course) none) ∙ is.stops) in
-      subst (λ (effect : Effect). IsCome segments start state [] (Some (stop_of (Some error))) effect) (sym (stopping course course.tasks some))
-      (record { cluster = is.cluster; leads = is.leads; text_is = refl; stop_is = ap (λ (e : Option SettleError). Some (stop_of e)) is.stops })
+      subst (λ (effect : Effect). IsCome segments state [] (Some (stop_of (Some error))) effect) (sym (stopping course course.tasks some))
+      (record { cluster = is.cluster; text_is = refl; stop_is = ap (λ (e : Option SettleError). Some (stop_of e)) is.stops })
 
 -- ---- a command
 
-module _ {R : Type 0} (segments : R → Option Segments) (old new : ClusterState R) (code : Cluster → Option Code) (command : SettlingCommand)
+module _ {R : Type 0} (segments : R → Option Segments) (faults : R → ℕ) (old new : ClusterState R) (code : Cluster → Option Code) (command : SettlingCommand)
     (none : Tells segments old code None) where
   -- what it makes of a cluster
-  abbrev pub made : Cluster → List Called → Effect
-  made cluster calls = settled cluster (code cluster) (moved_all (course_of cluster (command cluster)) calls)
+  abbrev pub made : Cluster → List Fate → Effect
+  made cluster fates = settled cluster (code cluster) (moved_all (course_of cluster (command cluster)) fates)
 
-  come : (cluster : Cluster) (calls : List Called) (text : List ℕ) (stop : Option Stop) → IsOf segments old cluster
-      → IsCome segments cluster new text stop (settled cluster None (moved_all (course_of cluster (command cluster)) calls))
-      → IsCome segments cluster new text stop (made cluster calls)
-  come cluster calls text stop is comes =
-      subst (λ (it : Option Code). IsCome segments cluster new text stop (settled cluster it (moved_all (course_of cluster (command cluster)) calls))) (sym (none cluster is)) comes
+  come : (cluster : Cluster) (fates : List Fate) (text : List ℕ) (stop : Option Stop) → IsOf segments old cluster
+      → IsCome segments new text stop (settled cluster None (moved_all (course_of cluster (command cluster)) fates))
+      → IsCome segments new text stop (made cluster fates)
+  come cluster fates text stop is comes =
+      subst (λ (it : Option Code). IsCome segments new text stop (settled cluster it (moved_all (course_of cluster (command cluster)) fates))) (sym (none cluster is)) comes
 
-  -- it came to its end, and what was said is added
-  pub settled_ran : (told : List Said) (was now : List ℕ) → Ends segments old new command told → now ≡ was ++ said_lines told → Ran segments old new made was now
-  settled_ran told was now ends added = record {
-    text = said_lines told;
-    added = added;
-    came = record {
-      calls = ends.calls;
-      comes = λ cluster is.
-          come cluster ends.calls (said_lines told) None is (over segments cluster new told (moved_all (course_of cluster (command cluster)) ends.calls) (ends.over cluster is));
-    };
-  }
+  -- it came to its end, and what was said is added; nothing had been said before
+  pub settled_ran : (had told : List Said) (was now : List ℕ) → had ≡ [] → Ends segments faults old new command had told → now ≡ was ++ said_lines told
+      → Ran segments faults old new made was now
+  settled_ran had told was now fresh it added =
+      let ends = subst (λ (list : List Said). Ends segments faults old new command list told) fresh it in
+      record {
+        text = said_lines told;
+        added = added;
+        came = record {
+          fates = ends.fates;
+          counts = ends.counts;
+          comes = λ cluster is.
+              come cluster ends.fates (said_lines told) None is (over segments cluster new told (moved_all (course_of cluster (command cluster)) ends.fates) (ends.over cluster is));
+        };
+      }
 
-  before : (error : SettleError) → StopsBefore segments old new command error → Came segments old new made [] (Some (stop_of (Some error)))
-  before error stops = record {
-    calls = stops.calls;
+  before : (told : List Said) (error : SettleError) → StopsBefore segments faults old new command [] told error → Came segments faults old new made [] (Some (stop_of (Some error)))
+  before told error stops = record {
+    fates = stops.fates;
+    counts = stops.counts;
     comes = λ cluster is.
-        come cluster stops.calls [] (Some (stop_of (Some error))) is (halted segments cluster new error (moved_all (course_of cluster (command cluster)) stops.calls) (stops.stopped cluster is));
+        come cluster stops.fates [] (Some (stop_of (Some error))) is (halted segments cluster new told error (moved_all (course_of cluster (command cluster)) stops.fates) (stops.stopped cluster is));
   }
 
   -- it stopped before its end
-  pub settled_stopped : (error : SettleError) → Fails segments old new command error → Stopped segments old new made (error_by_settling error)
-  settled_stopped errors.NoMemory fails = tt
-  settled_stopped errors.TooLong fails = tt
-  settled_stopped (errors.Worn number) fails = before (errors.Worn number) fails
-  settled_stopped (errors.Replica rounds) fails = before (errors.Replica rounds) fails
+  stopped : (told : List Said) (error : SettleError) → Fails segments faults old new command [] told error → Stopped segments faults old new made (error_by_settling error)
+  stopped told errors.NoMemory fails = tt
+  stopped told errors.TooLong fails = tt
+  stopped told (errors.Worn number) fails = before told (errors.Worn number) fails
+  stopped told (errors.Replica rounds) fails = before told (errors.Replica rounds) fails
+
+  pub settled_stopped : (had told : List Said) (error : SettleError) → had ≡ [] → Fails segments faults old new command had told error
+      → Stopped segments faults old new made (error_by_settling error)
+  settled_stopped had told error fresh fails = stopped told error (subst (λ (list : List Said). Fails segments faults old new command list told error) fresh fails)

@@ -1,50 +1,52 @@
 -- What commands that show something have come to, and those that a code refuses.
 use Rattle.std.proofs.Common.{◌≡◌, ℕ, ◌++◌, List, [], Option, None, Some, refl, sym, subst}
 use Rattle.rk_outside.specs.Segments.{Segments}
-use Rattle.rk_world.specs.Backup.{Called}
 use Rattle.rk_world.specs.Cluster.{Cluster}
 use Rattle.rk_cluster.specs.Numbers.{number_of}
+use Rattle.rk_cluster.specs.Replicas.{Fate}
 use Rattle.rk_cluster.specs.State.{ClusterState, IsOf}
 use Rattle.rk_lane.specs.LaneState.{LaneState}
 use Rattle.rk_cluster.specs.Steps.{state_of}
 use Rattle.rk_cluster.specs.Told.{LanesTell, Tells}
 use Rattle.rk_cluster.specs.declared.code.Code.{Code}
-use Rattle.rk_cluster.proofs.Leading.{leads_nowhere}
+use Rattle.rk_cluster.proofs.Faults.{counts_same}
 use Rattle.rk_play.specs.Came.{Came, IsCome, Ran, Stopped, WhereRefused}
 use Rattle.rk_play.specs.Effects.{Effect, Refuses, refused_by, shown, writing}
 use Rattle.rk_play.specs.declared.error.PlayError.{PlayError}
 use Rattle.rk_play.specs.declared.error.PlayError.TheVariants as errors
 
-module _ {R : Type 0} (segments : R → Option Segments) (state : ClusterState R) where
+module _ {R : Type 0} (segments : R → Option Segments) (faults : R → ℕ) (state : ClusterState R) where
   -- a code refuses a command
-  pub came_refused : (effect_of : Cluster → List Called → Effect) (it : Code)
+  pub came_refused : (effect_of : Cluster → List Fate → Effect) (it : Code)
       → ((cluster : Cluster) → IsOf segments state cluster → effect_of cluster [] ≡ refused_by it cluster)
-      → Came segments state state effect_of [] (Some (Refuses (number_of it)))
+      → Came segments faults state state effect_of [] (Some (Refuses (number_of it)))
   came_refused effect_of it refuses = record {
-    calls = [];
+    fates = [];
+    counts = counts_same faults state;
     comes = λ cluster is.
-        subst (λ (effect : Effect). IsCome segments cluster state [] (Some (Refuses (number_of it))) effect) (sym (refuses cluster is))
-        (record { cluster = is; leads = leads_nowhere cluster; text_is = refl; stop_is = refl });
+        subst (λ (effect : Effect). IsCome segments state [] (Some (Refuses (number_of it))) effect) (sym (refuses cluster is))
+        (record { cluster = is; text_is = refl; stop_is = refl });
   }
 
   module _ (code : Cluster → Option Code) (text : Cluster → List ℕ) where
     pub shown_refused : (it : Code) → Tells segments state code (Some it)
-        → Came segments state state (λ cluster calls. shown cluster (code cluster) (text cluster)) [] (Some (Refuses (number_of it)))
+        → Came segments faults state state (λ cluster fates. shown cluster (code cluster) (text cluster)) [] (Some (Refuses (number_of it)))
     shown_refused it tells =
-        came_refused (λ cluster calls. shown cluster (code cluster) (text cluster)) it (λ cluster is i. shown cluster (tells cluster is i) (text cluster))
+        came_refused (λ cluster fates. shown cluster (code cluster) (text cluster)) it (λ cluster is i. shown cluster (tells cluster is i) (text cluster))
 
     -- a text is added that shows it
     pub shown_written : (lines was now : List ℕ) → Tells segments state code None → Tells segments state text lines → now ≡ was ++ lines
-        → Ran segments state state (λ cluster calls. shown cluster (code cluster) (text cluster)) was now
+        → Ran segments faults state state (λ cluster fates. shown cluster (code cluster) (text cluster)) was now
     shown_written lines was now none tells added = record {
       text = lines;
       added = added;
       came = record {
-        calls = [];
+        fates = [];
+        counts = counts_same faults state;
         comes = λ cluster is.
-            subst (λ (effect : Effect). IsCome segments cluster state lines None effect)
+            subst (λ (effect : Effect). IsCome segments state lines None effect)
             (λ i. shown cluster (sym (none cluster is) i) (sym (tells cluster is) i))
-            (let effect : Effect = writing lines cluster [] in record { cluster = is; leads = leads_nowhere cluster; text_is = refl; stop_is = refl });
+            (let effect : Effect = writing lines cluster [] in record { cluster = is; text_is = refl; stop_is = refl });
       };
     }
 
@@ -62,10 +64,10 @@ refused_weaker Holds Also (errors.Worn number) weaker known = known
 refused_weaker Holds Also (errors.Replica rounds) weaker known = known
 
 -- a refusal ends the run as each of its codes does
-pub refused_stops : {R : Type 0} (segments : R → Option Segments) (state : ClusterState R) (effect_of : Cluster → List Called → Effect) (Holds : Code → Type 0) (error : PlayError)
-    → ((code : Code) → Holds code → Came segments state state effect_of [] (Some (Refuses (number_of code)))) → WhereRefused Holds error
-    → Stopped segments state state effect_of error
-refused_stops segments state effect_of Holds errors.NoMemory stops known = tt
-refused_stops segments state effect_of Holds (errors.Refused code) stops known = stops code known
-refused_stops segments state effect_of Holds (errors.Worn number) stops known = absurd known
-refused_stops segments state effect_of Holds (errors.Replica rounds) stops known = absurd known
+pub refused_stops : {R : Type 0} (segments : R → Option Segments) (faults : R → ℕ) (state : ClusterState R) (effect_of : Cluster → List Fate → Effect) (Holds : Code → Type 0) (error : PlayError)
+    → ((code : Code) → Holds code → Came segments faults state state effect_of [] (Some (Refuses (number_of code)))) → WhereRefused Holds error
+    → Stopped segments faults state state effect_of error
+refused_stops segments faults state effect_of Holds errors.NoMemory stops known = tt
+refused_stops segments faults state effect_of Holds (errors.Refused code) stops known = stops code known
+refused_stops segments faults state effect_of Holds (errors.Worn number) stops known = absurd known
+refused_stops segments faults state effect_of Holds (errors.Replica rounds) stops known = absurd known

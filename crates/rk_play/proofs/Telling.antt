@@ -1,44 +1,43 @@
 -- What the replicas that come back tell.
-use Rattle.std.proofs.Common.{◌≡◌, ℕ, zero, suc, ◌+◌, ◌*◌, ◌-◌, ◌≤◌, ◌<◌, true, false, cond, List, [], ◌∷◌, ◌++◌, All, drop, length, map, take, slice_get, slice_index_or, refl, sym, ap, subst, ◌∙◌, arith, length-append}
+use Rattle.std.proofs.Common.{◌≡◌, ℕ, zero, suc, ◌+◌, ◌*◌, ◌≤◌, ◌<◌, true, false, cond, List, [], ◌∷◌, ◌++◌, All, drop, length, map, take, slice_get, slice_index_or, refl, sym, ap, subst, ◌∙◌, ⊎_elim, arith}
 use Rattle.std.specs.Prelude.{Bool, Option, None, Some, Err, IfSome}
+use Rattle.std.specs.Io.KnownBytes.{Keeps}
+use Rattle.std.proofs.KnownBytes.{Keeps-refl}
 use Rattle.std.specs.Str.Lines.{lines}
 use Rattle.std.proofs.lemmas.Bool.{lt-ltb}
 use Rattle.std.specs.List.{range_with_len}
 use Rattle.std.specs.Ordering.{eq_by_cmp, nat_cmp}
 use Rattle.std.proofs.lemmas.List.Elements.{All-cons, All-nil, All-take}
-use Rattle.std.proofs.lemmas.Option.{slice_get_within}
 use Rattle.rk_log.specs.declared.copied.TheConstants.{MOST_BACKUPS}
 use Rattle.rk_types.proofs.NumberMaps.{same_number}
 use Rattle.rk_types.specs.NumberMap.{NumberMap, get}
 use Rattle.rk_types.specs.declared.hashing.TheConstants.{LANES}
 use Rattle.rk_types.specs.declared.status.Status.{Status}
-use Rattle.rk_types.specs.declared.status.Status.TheVariants.{NoMemory}
+use Rattle.rk_types.specs.declared.status.Status.TheVariants.{Done, NoMemory, ReadFault, Refused}
 use Rattle.rk_outside.specs.Segments.{Segments}
-use Rattle.rk_world.specs.Backup.{Called, no_segments}
+use Rattle.rk_world.specs.Backup.{no_segments}
 use Rattle.rk_world.specs.Cluster.{Cluster, lane_at, new_cluster}
-use Rattle.rk_world.specs.ClusterRuns.{Leads}
 use Rattle.rk_world.specs.World.{World, new_backups, new_world}
 use Rattle.rk_lane.specs.LaneState.{IsTold, LaneState, replicas_of}
 use Rattle.rk_script.specs.Codes.{code_number}
-use Rattle.rk_script.specs.Script.{commands_from}
+use Rattle.rk_script.specs.Script.{commands_from, script_of}
 use Rattle.rk_script.specs.declared.code.Code.TheVariants.{ScriptLength}
-use Rattle.rk_script.specs.declared.command.Numbered.{Numbered}
-use Rattle.rk_script.specs.declared.script.ParseError.TheVariants.{Refused}
+use Rattle.rk_script.specs.declared.script.ParseError.TheVariants as faults_of
 use Rattle.rk_script.specs.declared.script.TheConstants.{LONGEST_SCRIPT}
+use Rattle.rk_cluster.specs.Faults.{CountsGoOn, GoOn}
 use Rattle.rk_cluster.specs.Fresh.{AreEmpty}
-use Rattle.rk_cluster.specs.State.{ClusterState, IsOf, IsWorld}
-use Rattle.rk_cluster.proofs.Leading.{leads_nowhere}
+use Rattle.rk_cluster.specs.Masters.{backups_in, backups_of}
+use Rattle.rk_cluster.specs.Replicas.{Fate}
+use Rattle.rk_cluster.specs.State.{AreWorlds, ClusterState, IsOf, IsWorld}
+use Rattle.rk_cluster.proofs.Faults.{go_on_same}
 use Rattle.rk_cluster.proofs.Worlds.{all_at, something_within, there_within, world_at}
-use Rattle.rk_play.specs.Ended.{IsHalted}
 use Rattle.rk_play.specs.Lent.{AreGivenBack}
-use Rattle.rk_play.specs.Concluded.{Concludes, PlaysBy}
-use Rattle.rk_play.specs.Played.{Played, Setting, cluster_by, how_many, played, played_in, played_of, refused_at, unset}
-use Rattle.rk_play.specs.Runs.{IsLedTo, Plays, Runs, TellStored, TellsAt}
+use Rattle.rk_play.specs.Concluded.{Concludes, IsWritten, PlaysBy}
+use Rattle.rk_play.specs.Played.{Played, Setting, all_fates, cluster_by, how_many, part_of, played, played_of, refused_at, text_of, unset}
+use Rattle.rk_play.specs.Runs.{Plays, Runs, TellStored, TellsAt, backup_count, count_of, replica_counts}
 use Rattle.rk_play.specs.Settings.{IsSetting}
-use Rattle.rk_play.proofs.Backups.{look, stores_seen}
-use Rattle.rk_play.proofs.Concluding.{halted_runs, halts_at_once, refused_runs}
-use Rattle.rk_play.proofs.Leaving.{IsLeft, IsPlayedOut}
-use Rattle.rk_play.proofs.Stores.{alike_at}
+use Rattle.rk_play.proofs.Concluding.{halts_at_once, halts_kept, refused_runs}
+use Rattle.rk_play.proofs.Leaving.{IsPlayedOut, written_may}
 
 -- ---- lists
 
@@ -53,19 +52,6 @@ there_seen : {X Y : Type 0} (see : X → Y) (xs : List X) (place : ℕ) (x : X) 
 there_seen see [] place x there = absurd (cc there)
 there_seen see (y ∷ xs) zero x there = let same : y ≡ x = cc there in ap (λ it. Some (see it)) same
 there_seen see (y ∷ xs) (suc place) x there = there_seen see xs place x there
-
--- ---- runs of a new cluster
-
--- a run of the cluster that a setting asks for is one of a new cluster
-led_by : (setting : Setting) (cluster : Cluster) → IsSetting setting → Leads (cluster_by setting) cluster → IsLedTo cluster
-led_by setting cluster may leads = record {
-  masters = how_many setting.masters;
-  backups = how_many setting.backups;
-  few_masters = may.masters.last;
-  backed = may.backed;
-  few_backups = may.backups;
-  leads = leads;
-}
 
 -- ---- replicas that come back
 
@@ -84,10 +70,9 @@ module _ {R : Type 0} (segments : R → Option Segments) where
       }
 
   -- replicas given back tell what the backups of the cluster store
-  pub given_tell : (state : ClusterState R) (cluster : Cluster) (others replicas : List R) → IsOf segments state cluster → length state.lanes ≡ LANES
-      → AreGivenBack state.lanes others replicas → TellStored segments replicas cluster
-  given_tell state cluster others replicas is eight given lane place stored within found =
-      let its = something_within state.lanes lane (omega (arith, within, eight)) in
+  pub given_tell : (state : ClusterState R) (cluster : Cluster) (others replicas : List R) → IsOf segments state cluster → AreGivenBack state.lanes others replicas → TellStored segments replicas cluster
+  given_tell state cluster others replicas is given lane place stored within found =
+      let its = something_within state.lanes lane (omega (arith, within, given.eight)) in
       let w : World = slice_index_or cluster.lanes lane (new_world lane 0 0) in
       let world : IsWorld segments its.0 w = world_at segments state.lanes cluster.lanes lane its.0 (new_world lane 0 0) is.lanes its.1 in
       let tells = lane_tells its.0 w given.its lane place stored world (given.each lane its.0 its.1) found in
@@ -97,14 +82,6 @@ module _ {R : Type 0} (segments : R → Option Segments) where
             ap (λ (list : List R). slice_get list (8 * place + lane)) given.whole ∙ there_before given.its others (8 * place + lane) tells.replica tells.there;
         tells = tells.tells;
       }
-
-  -- and so they tell what the backups store at the end of the run played
-  pub left_tell : (now : ClusterState R) (end : Cluster) (others replicas : List R) → IsLeft segments now end → length now.lanes ≡ LANES
-      → AreGivenBack now.lanes others replicas → TellStored segments replicas end
-  left_tell now end others replicas left eight given lane place stored within found =
-      let alike = alike_at (look stores_seen) end.lanes left.cluster.lanes lane (new_world lane 0 0) left.stores in
-      given_tell now left.cluster others replicas left.is eight given lane place stored within
-      (ap (λ (backups : ℕ → Option Segments). backups (place + 1)) (sym alike) ∙ found)
 
   -- ---- replicas that were never lent
 
@@ -146,22 +123,21 @@ module _ {R : Type 0} (segments : R → Option Segments) where
   unset_tell replicas setting many may empty =
       empty_tell replicas (how_many setting.masters) (how_many setting.backups) many may.backups empty
 
-  -- a run that is refused before a command runs leaves the replicas as they are
-  pub refused_plays : (played_by : List (List Called) → Played) (line code : ℕ) (setting : Setting) (status : Status) (old new : Option (List ℕ)) (replicas : List R)
-      → played_by [] ≡ refused_at line code (cluster_by setting) → Concludes (refused_at line code (cluster_by setting)) [] status old new
-      → length replicas ≡ 32 → IsSetting setting → AreEmpty segments replicas → PlaysBy segments played_by status old new replicas
-  refused_plays played_by line code setting status old new replicas is concludes many may empty =
-      let p : Played = refused_at line code (cluster_by setting) in
-      record {
-        calls = [];
-        runs = subst (λ (q : Played). Runs q status old new) (sym is) (refused_runs p status old new tt (λ done. absurd (cc done)) concludes);
-        stored = λ apart. subst (λ (q : Played). TellStored segments replicas q.cluster) (sym is) (unset_tell replicas setting many may empty);
-        led = λ memory fault. subst (λ (q : Played). IsLedTo q.cluster) (sym is) (led_by setting (cluster_by setting) may (leads_nowhere (cluster_by setting)));
-      }
-
 -- ---- runs
 
-module _ {R : Type 0} (segments : R → Option Segments) where
+-- a cluster has as many backups as the one in code that stands for it
+pub backups_there : {R : Type 0} (segments : R → Option Segments) (state : ClusterState R) (cluster : Cluster) → IsOf segments state cluster
+    → backup_count cluster ≡ backups_of state
+backups_there segments state cluster is = go state.lanes cluster.lanes is.lanes
+  where
+    go : (lanes : List (LaneState _)) (worlds : List World) → AreWorlds segments lanes worlds
+        → (slice_index_or worlds 0 (new_world 0 0 0)).backup_count ≡ backups_in lanes
+    go [] [] are = refl
+    go [] (w ∷ worlds) are = absurd are
+    go (lane ∷ lanes) [] are = absurd are
+    go (lane ∷ lanes) (w ∷ worlds) are = ap (λ (v : World). v.backup_count) are.0.is
+
+module _ {R : Type 0} (segments : R → Option Segments) (faults : R → ℕ) where
   -- a cluster over empty replicas is the one that was asked for
   pub opened : (state : ClusterState R) (masters backups count : ℕ) (setting : Setting) (replicas its : List R) → its ≡ take count replicas → masters ≡ how_many setting.masters
       → backups ≡ how_many setting.backups → (AreEmpty segments its → IsOf segments state (new_cluster masters backups)) → AreEmpty segments replicas
@@ -172,42 +148,112 @@ module _ {R : Type 0} (segments : R → Option Segments) where
       (new
       (subst (AreEmpty segments) (sym its_are) (All-take (λ (replica : R). segments replica ≡ Some no_segments) count replicas empty)))
 
-  -- a run for which memory was wanting
-  pub halted_plays : (old : ClusterState R) (all : List Numbered) (was now : Option (List ℕ)) (replicas : List R) (cluster : Cluster) → IsHalted segments old all was now
-      → IsOf segments old cluster → PlaysBy segments (λ calls. played_in all calls cluster) NoMemory was now replicas
-  halted_plays old all was now replicas cluster halted is = record {
-    calls = halted.on.reached.used ++ [];
-    runs = halted_runs segments old all was now halted cluster is;
-    stored = λ apart. absurd (apart refl);
-    led = λ apart. absurd (apart refl);
-  }
-
   -- one for which memory was wanting before anything ran
-  pub wanting_plays : (played_by : List (List Called) → Played) (was : Option (List ℕ)) (replicas : List R) → PlaysBy segments played_by NoMemory was was replicas
-  wanting_plays played_by was replicas = record {
-    calls = [];
-    runs = halts_at_once (played_by []) was;
+  pub wanting_plays : (played_by : Option ℕ → List (List Fate) → Played) (most : ℕ) (was new : Option (List ℕ)) (before after : List R) → (played_by (Some 0) []).status ≡ Done
+      → Keeps was new → PlaysBy segments faults played_by most NoMemory was new before after
+  wanting_plays played_by most was new before after done kept = record {
+    part = Some 0;
+    may = omega arith;
+    fates = [];
+    runs = halts_kept (played_by (Some 0) []) was new done kept;
+    counts = λ apart. absurd (apart refl);
     stored = λ apart. absurd (apart refl);
-    led = λ apart. absurd (apart refl);
+    others = λ apart. absurd (apart refl);
   }
 
-  pub wanting_told : (told was : Option (List ℕ)) (replicas : List R) → IfSome told (λ script. Plays segments script NoMemory was was replicas)
-  wanting_told None was replicas = tt
-  wanting_told (Some script) was replicas = record {
-    calls = [];
-    runs = halts_at_once (played script []) was;
+  pub wanting_told : (told was : Option (List ℕ)) (before after : List R) → IfSome told (λ script. Plays segments faults script NoMemory was was before after)
+  wanting_told None was before after = tt
+  wanting_told (Some script) was before after = record {
+    part = Some 0;
+    may = omega arith;
+    fates = [];
+    runs = halts_at_once (script_of script) was;
+    counts = λ apart. absurd (apart refl);
     stored = λ apart. absurd (apart refl);
-    led = λ apart. absurd (apart refl);
+    others = λ apart. absurd (apart refl);
+  }
+
+  -- one whose script was not read
+  pub unread_told : (told was : Option (List ℕ)) (replicas : List R) → IfSome told (λ script. Plays segments faults script ReadFault was was replicas replicas)
+  unread_told None was replicas = tt
+  unread_told (Some script) was replicas = record {
+    part = None;
+    may = tt;
+    fates = [];
+    runs = Keeps-refl was;
+    counts = λ memory. go_on_same (replica_counts faults replicas);
+    stored = λ memory read. absurd (read refl);
+    others = λ memory. refl;
+  }
+
+  -- a run that is refused before a command runs leaves the replicas as they are
+  pub refused_plays : (played_by : Option ℕ → List (List Fate) → Played) (line code : ℕ) (setting : Setting) (most : ℕ) (status : Status) (old new : Option (List ℕ)) (replicas : List R)
+      → played_by None [] ≡ refused_at line code (cluster_by setting) → (played_by (Some 0) []).status ≡ Done
+      → Concludes (refused_at line code (cluster_by setting)) [] status old new
+      → length replicas ≡ 32 → IsSetting setting → AreEmpty segments replicas → PlaysBy segments faults played_by most status old new replicas replicas
+  refused_plays played_by line code setting most status old new replicas is done concludes many may empty =
+      let p : Played = refused_at line code (cluster_by setting) in
+      ⊎_elim
+      (λ (said : IsWritten (text_of p) Refused status old new).
+      let plays : PlaysBy segments faults played_by most status old new replicas replicas = record {
+        part = None;
+        may = written_may (text_of p) Refused status most old new tt said;
+        fates = [];
+        runs = subst (λ (q : Played). Runs q status old new) (sym is) (refused_runs p status old new tt said);
+        counts = λ apart. go_on_same (replica_counts faults replicas);
+        stored = λ apart. subst (λ (q : Played). TellStored segments replicas q.cluster) (sym is) (unset_tell segments replicas setting many may empty);
+        others = λ apart. refl;
+      }
+      in
+      plays)
+      (λ (lacks : (status ≡ NoMemory) × Keeps old new).
+      subst (λ (it : Status). PlaysBy segments faults played_by most it old new replicas replicas) (sym lacks.0)
+      (wanting_plays played_by most old new replicas replicas done lacks.1))
+      concludes
+
+  -- what is said of numbered commands is said of the script that they are read from
+  pub script_plays : (script : List ℕ) (status : Status) (was new : Option (List ℕ)) (before after : List R)
+      → PlaysBy segments faults (part_of (script_of script)) (count_of (script_of script)) status was new before after
+      → Plays segments faults script status was new before after
+  script_plays script status was new before after plays = record {
+    part = plays.part;
+    may = plays.may;
+    fates = plays.fates;
+    runs = plays.runs;
+    counts = plays.counts;
+    stored = λ memory read. plays.stored memory;
+    others = plays.others;
+  }
+
+  -- one that was played out as far as memory went
+  pub out_wanting : (old now : ClusterState R) (played_by : Option ℕ → List (List Fate) → Played) (most : ℕ) (was new : Option (List ℕ)) (before after : List R)
+      → IsPlayedOut segments faults old now played_by most NoMemory was new → PlaysBy segments faults played_by most NoMemory was new before after
+  out_wanting old now played_by most was new before after out = record {
+    part = out.part;
+    may = out.may;
+    fates = out.fates;
+    runs = out.runs;
+    counts = λ apart. absurd (apart refl);
+    stored = λ apart. absurd (apart refl);
+    others = λ apart. absurd (apart refl);
   }
 
   -- one that was played out, and whose replicas came back
-  pub ended_plays : (setting : Setting) (now : ClusterState R) (played_by : List (List Called) → Played) (status : Status) (was new : Option (List ℕ)) (others replicas : List R)
-      → IsSetting setting → IsPlayedOut segments (cluster_by setting) now played_by status was new → length now.lanes ≡ LANES → AreGivenBack now.lanes others replicas → PlaysBy segments played_by status was new replicas
-  ended_plays setting now played_by status was new others replicas may out eight given = record {
-    calls = out.calls;
+  pub ended_plays : (old now : ClusterState R) (played_by : Option ℕ → List (List Fate) → Played) (most : ℕ) (status : Status) (was new : Option (List ℕ)) (backups : ℕ) (others before after : List R)
+      → IsPlayedOut segments faults old now played_by most status was new → AreGivenBack now.lanes others after → backups_of now ≡ backups
+      → drop (LANES * backups) after ≡ drop (LANES * backups) before
+      → ((fates : List Fate) → CountsGoOn faults fates old now → GoOn fates (replica_counts faults before) (replica_counts faults after))
+      → PlaysBy segments faults played_by most status was new before after
+  ended_plays old now played_by most status was new backups others before after out given many stay on = record {
+    part = out.part;
+    may = out.may;
+    fates = out.fates;
     runs = out.runs;
-    stored = λ apart. left_tell segments now (played_by out.calls).cluster others replicas out.left eight given;
-    led = λ memory fault. led_by setting (played_by out.calls).cluster may (out.led fault);
+    counts = λ apart. on (all_fates out.fates) (out.counts apart);
+    stored = λ apart. given_tell segments now (played_by out.part out.fates).cluster others after (out.left apart) given;
+    others = λ apart.
+        let same : backup_count (played_by out.part out.fates).cluster ≡ backups = backups_there segments now (played_by out.part out.fates).cluster (out.left apart) ∙ many in
+        subst (λ (count : ℕ). drop (LANES * count) after ≡ drop (LANES * count) before) (sym same) stay;
   }
 
 -- a script that asks for nothing asks for two masters and two backups
@@ -215,6 +261,6 @@ pub unset_may : IsSetting unset
 unset_may = record { masters = record { first = omega arith; last = omega arith }; backed = omega arith; backups = omega arith }
 
 -- a script that is too long is refused as a whole
-pub too_long : (script : List ℕ) (calls : List (List Called)) → LONGEST_SCRIPT < length script → played script calls ≡ refused_at 0 (code_number ScriptLength) (cluster_by unset)
-too_long script calls longer =
-    ap (λ (b : Bool). played_of (cond b (Err (Refused 0 ScriptLength)) (commands_from 1 (lines script))) calls) (lt-ltb LONGEST_SCRIPT (length script) longer)
+pub too_long : (script : List ℕ) (fates : List (List Fate)) → LONGEST_SCRIPT < length script → played script fates ≡ refused_at 0 (code_number ScriptLength) (cluster_by unset)
+too_long script fates longer =
+    ap (λ (b : Bool). played_of (cond b (Err (faults_of.Refused 0 ScriptLength)) (commands_from 1 (lines script))) fates) (lt-ltb LONGEST_SCRIPT (length script) longer)

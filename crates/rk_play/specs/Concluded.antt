@@ -1,14 +1,17 @@
 -- How a run is concluded in code, and what is known of it then.
-use Rattle.std.specs.Prelude.{◌≡◌, ◌⊎◌, ℕ, List, ◌++◌, Option, ⊤}
+use Rattle.std.specs.Prelude.{◌≡◌, ◌⊎◌, ◌*◌, ℕ, List, ◌++◌, drop, take, Option, None, Some, ⊤}
 use Rattle.std.specs.Io.KnownBytes.{Appends, Keeps}
+use Rattle.rk_types.specs.declared.hashing.TheConstants.{LANES}
 use Rattle.rk_types.specs.declared.status.Status.{Status}
 use Rattle.rk_types.specs.declared.status.Status.TheVariants.{Audit, Done, NoMemory, ReadFault, Usage, WriteFault}
 use Rattle.rk_outside.specs.Parts.{AppendsPart}
 use Rattle.rk_outside.specs.Segments.{Segments}
-use Rattle.rk_world.specs.Backup.{Called}
 use Rattle.rk_world.specs.Cluster.{Cluster}
-use Rattle.rk_play.specs.Played.{Played, stopped_at, text_of}
-use Rattle.rk_play.specs.Runs.{IsLedTo, Runs, TellStored}
+use Rattle.rk_cluster.specs.Faults.{GoOn}
+use Rattle.rk_cluster.specs.Replicas.{Fate}
+use Rattle.rk_script.specs.declared.command.Numbered.{Numbered}
+use Rattle.rk_play.specs.Played.{Played, all_fates, played_in, stopped_at, text_of}
+use Rattle.rk_play.specs.Runs.{MayBePart, Runs, TellStored, backup_count, replica_counts}
 use Rattle.rk_play.specs.Stops.{stop_by}
 use Rattle.rk_play.specs.declared.end.End.{End}
 use Rattle.rk_play.specs.declared.end.End.TheVariants as ends
@@ -38,9 +41,18 @@ MayComeTo ReadFault = ⊥
 MayComeTo Audit = ⊥
 MayComeTo status = ⊤
 
--- what a run says that is played so by what the calls of replicas come to
-pub record PlaysBy {R : Type 0} (segments : R → Option Segments) (played_by : List (List Called) → Played) (status : Status) (old new : Option (List ℕ)) (replicas : List R) : Type 0 where
-  pub calls : List (List Called)
-  pub runs : Runs (played_by calls) status old new
-  pub stored : (status ≡ NoMemory → ⊥) → TellStored segments replicas (played_by calls).cluster
-  pub led : (status ≡ NoMemory → ⊥) → (status ≡ WriteFault → ⊥) → IsLedTo (played_by calls).cluster
+-- a part of numbered commands played in a cluster
+abbrev pub part_in : List Numbered → Cluster → Option ℕ → List (List Fate) → Played
+part_in commands cluster (Some count) fates = played_in (take count commands) fates cluster
+part_in commands cluster None fates = played_in commands fates cluster
+
+-- what a run says, whose parts are played so by the fates of the calls of replicas, and that has so many commands
+pub record PlaysBy {R : Type 0} (segments : R → Option Segments) (faults : R → ℕ) (played_by : Option ℕ → List (List Fate) → Played) (most : ℕ) (status : Status) (old new : Option (List ℕ)) (before after : List R) : Type 0 where
+  pub part : Option ℕ
+  pub may : MayBePart status most part
+  pub fates : List (List Fate)
+  pub runs : Runs (played_by part fates) status old new
+  pub counts : (status ≡ NoMemory → ⊥) → GoOn (all_fates fates) (replica_counts faults before) (replica_counts faults after)
+  pub stored : (status ≡ NoMemory → ⊥) → TellStored segments after (played_by part fates).cluster
+  pub others : (status ≡ NoMemory → ⊥)
+      → let backups = backup_count (played_by part fates).cluster in drop (LANES * backups) after ≡ drop (LANES * backups) before

@@ -1,14 +1,14 @@
 -- What a command of a script makes of a cluster: the text that it writes, the cluster after it, what occurred, and why the run ends there,
--- if it does. `calls` is what the calls of replicas come to that it makes, one after the other.
+-- if it does. `fates` is what becomes of the calls of replicas: one for each move of a command that settles, and one for a delivery.
 use Rattle.std.specs.Prelude.{ℕ, ◌||◌, Bool, nat_le, List, [], ◌∷◌, map, sum, Option, Some, None, if◌then◌else◌, unwrap_or, slice_get}
 use Rattle.rk_message.specs.Wire.{bytes_on}
 use Rattle.rk_ledger.specs.Values.{value_bytes}
-use Rattle.rk_world.specs.Backup.{Called, Gave}
 use Rattle.rk_world.specs.Cluster.{Cluster, Occurrence}
-use Rattle.rk_cluster.specs.Acted.{Acted, acted, all_acted}
+use Rattle.rk_cluster.specs.Acted.{Acted, all_acted}
 use Rattle.rk_cluster.specs.Codes as codes
 use Rattle.rk_cluster.specs.Makes as makes
 use Rattle.rk_cluster.specs.Numbers.{number_of}
+use Rattle.rk_cluster.specs.Replicas.{Fate, Kept}
 use Rattle.rk_cluster.specs.declared.code.Code.{Code}
 use Rattle.rk_cluster.specs.declared.code.Code.TheVariants.{Limit, TooLate}
 use Rattle.rk_settle.specs.Advance.{advance}
@@ -28,8 +28,8 @@ use Rattle.rk_script.specs.declared.command.Reach.TheVariants as wanted
 use Rattle.rk_lines.specs.Lines.{said_lines}
 use Rattle.rk_play.specs.Shows.{dump_code, dump_text, history_text, where_code, where_text}
 
--- why a run ends at a command: a code refuses it, a number of a lane is worn, or replicas failed in so many rounds; or it is not over with
--- these calls of replicas
+-- why a run ends at a command: a code refuses it, a number of a lane is worn, or replicas failed in so many rounds; or it is not over after
+-- so many moves
 pub data Stop : Type 0 where
   Refuses : (code : ℕ) → Stop
   Wears : (number : ℕ) → Stop
@@ -55,27 +55,16 @@ ending_at stop cluster occurred = record { text = []; cluster = cluster; occurre
 abbrev pub refused_by : Code → Cluster → Effect
 refused_by code cluster = ending_at (Refuses (number_of code)) cluster []
 
--- an occurrence, and those behind it, unless a lane was worn there
-abbrev pub before_worn : Occurrence → Option ℕ → List Occurrence → List Occurrence
-before_worn occurrence None later = occurrence ∷ later
-before_worn occurrence (Some number) later = []
-
--- those of some occurrences that came, up to the first that met a lane that is worn
-abbrev pub that_came : Cluster → List Occurrence → List Occurrence
-that_came cluster [] = []
-that_came cluster (occurrence ∷ later) =
-    before_worn occurrence (acted cluster occurrence).worn (that_came (acted cluster occurrence).cluster later)
-
 -- what events have made, unless one met a lane that is worn
-abbrev pub carried_by : List Occurrence → Acted → Option ℕ → Effect
-carried_by occurred after None = writing (said_lines after.said) after.cluster occurred
-carried_by occurred after (Some number) = ending_at (Wears number) after.cluster occurred
+abbrev pub carried_by : Acted → Option ℕ → Effect
+carried_by after None = writing (said_lines after.said) after.cluster after.came
+carried_by after (Some number) = ending_at (Wears number) after.cluster after.came
 
 -- a command that makes events, unless a code refuses it
 abbrev pub carried : Cluster → Option Code → List Occurrence → Effect
 carried cluster (Some code) occurrences = refused_by code cluster
 carried cluster None occurrences =
-    let after = all_acted cluster occurrences in carried_by (that_came cluster occurrences) after after.worn
+    let after = all_acted cluster occurrences in carried_by after after.worn
 
 -- why a settling command stopped
 abbrev pub stop_of : Option SettleError → Stop
@@ -107,46 +96,46 @@ reach_of wanted.Pulled = reaches.Pulled
 reach_of wanted.Joined = reaches.Joined
 reach_of wanted.Finished = reaches.Finished
 
--- what the one call of a replica comes to that a delivery may make
-abbrev pub only_call : List Called → Called
-only_call calls = unwrap_or (slice_get calls 0) (Gave None)
+-- what becomes of the one call of a replica that a delivery may make
+abbrev pub only_fate : List Fate → Fate
+only_fate fates = unwrap_or (slice_get fates 0) Kept
 
 -- what a command makes of a cluster; how many masters and backups there are is no longer to be said
-abbrev pub effect : Cluster → Command → List Called → Effect
-effect cluster (commands.Masters masters) calls = refused_by TooLate cluster
-effect cluster (commands.Backups backups) calls = refused_by TooLate cluster
-effect cluster (commands.Table table master) calls =
+abbrev pub effect : Cluster → Command → List Fate → Effect
+effect cluster (commands.Masters masters) fates = refused_by TooLate cluster
+effect cluster (commands.Backups backups) fates = refused_by TooLate cluster
+effect cluster (commands.Table table master) fates =
     carried cluster (codes.table_code cluster table master) (makes.table_makes cluster table master)
-effect cluster (commands.Client client) calls =
+effect cluster (commands.Client client) fates =
     carried cluster (codes.client_code cluster client) (makes.client_makes cluster client)
-effect cluster (commands.Call client table key op) calls =
+effect cluster (commands.Call client table key op) fates =
     carried cluster (codes.call_code cluster client table) (makes.call_makes client table key op)
-effect cluster (commands.Serve client) calls =
-    settled cluster (serve_code cluster client) (moved_all (course_of cluster (serve cluster client)) calls)
-effect cluster (commands.Repeat client) calls =
+effect cluster (commands.Serve client) fates =
+    settled cluster (serve_code cluster client) (moved_all (course_of cluster (serve cluster client)) fates)
+effect cluster (commands.Repeat client) fates =
     carried cluster (codes.again_code cluster client) (makes.again_makes cluster client)
-effect cluster (commands.Migrate tablet master) calls =
+effect cluster (commands.Migrate tablet master) fates =
     carried cluster (codes.migrate_code cluster tablet master) (makes.migrate_makes cluster tablet master)
-effect cluster (commands.Advance tablet reach) calls =
+effect cluster (commands.Advance tablet reach) fates =
     settled cluster (advance_code cluster tablet (reach_of reach))
-    (moved_all (course_of cluster (advance cluster tablet (reach_of reach))) calls)
-effect cluster (commands.Priority tablet) calls =
-    settled cluster (priority_code cluster tablet) (moved_all (course_of cluster (priority cluster tablet)) calls)
-effect cluster (commands.Split tablet hash) calls =
+    (moved_all (course_of cluster (advance cluster tablet (reach_of reach))) fates)
+effect cluster (commands.Priority tablet) fates =
+    settled cluster (priority_code cluster tablet) (moved_all (course_of cluster (priority cluster tablet)) fates)
+effect cluster (commands.Split tablet hash) fates =
     carried cluster (codes.split_code cluster tablet hash) (makes.split_makes cluster tablet hash)
-effect cluster (commands.Turn lane) calls = carried cluster None (makes.turn_makes cluster lane)
-effect cluster (commands.Deliver lane place) calls =
-    carried cluster (codes.place_code cluster lane place) (makes.deliver_makes cluster lane place (only_call calls))
-effect cluster (commands.Forget lane place) calls =
+effect cluster (commands.Turn lane) fates = carried cluster None (makes.turn_makes cluster lane)
+effect cluster (commands.Deliver lane place) fates =
+    carried cluster (codes.place_code cluster lane place) (makes.deliver_makes cluster lane place (only_fate fates))
+effect cluster (commands.Forget lane place) fates =
     carried cluster (codes.place_code cluster lane place) (makes.forget_makes cluster lane place)
-effect cluster (commands.Crash master) calls =
+effect cluster (commands.Crash master) fates =
     carried cluster (codes.crash_code cluster master) (makes.crash_makes cluster master)
-effect cluster (commands.Notice master) calls =
+effect cluster (commands.Notice master) fates =
     carried cluster (codes.notice_code cluster master) (makes.notice_makes cluster master)
-effect cluster commands.Settle calls = settled cluster None (moved_all (course_of cluster (settle cluster)) calls)
-effect cluster (commands.Where tablet) calls = shown cluster (where_code cluster tablet) (where_text cluster tablet)
-effect cluster (commands.Dump tablet) calls = shown cluster (dump_code cluster tablet) (dump_text cluster tablet)
-effect cluster commands.History calls = shown cluster None (history_text cluster)
+effect cluster commands.Settle fates = settled cluster None (moved_all (course_of cluster (settle cluster)) fates)
+effect cluster (commands.Where tablet) fates = shown cluster (where_code cluster tablet) (where_text cluster tablet)
+effect cluster (commands.Dump tablet) fates = shown cluster (dump_code cluster tablet) (dump_text cluster tablet)
+effect cluster commands.History fates = shown cluster None (history_text cluster)
 
 -- so many bytes of values in the journals, or of frames on the wires, are too many for another command
 abbrev pub MOST_BYTES : ℕ
@@ -165,6 +154,6 @@ abbrev pub is_full : Cluster → Bool
 is_full cluster = nat_le MOST_BYTES (journal_bytes cluster) || nat_le MOST_BYTES (wire_bytes cluster)
 
 -- what a command makes of a cluster, unless that is full
-abbrev pub effect_within : Cluster → Command → List Called → Effect
-effect_within cluster command calls =
-    if is_full cluster then refused_by Limit cluster else effect cluster command calls
+abbrev pub effect_within : Cluster → Command → List Fate → Effect
+effect_within cluster command fates =
+    if is_full cluster then refused_by Limit cluster else effect cluster command fates

@@ -27,9 +27,10 @@ pub record HasLent {R : Type 0} (backups : ℕ) (old new its : Vec R) (kept : Ke
   pub others_are : kept.others.items ≡ drop (LANES * backups) old.items
   pub room : IsRoom kept new
 
--- replicas are those of lanes, each lane's at the places that it has in turn, and behind them the others
+-- replicas are those of eight lanes, each lane's at the places that it has in turn, and behind them the others
 pub record AreGivenBack {R : Type 0} (lanes : List (LaneState R)) (others replicas : List R) : Type 0 where
   pub its : List R
   pub whole : replicas ≡ its ++ others
   pub count : length replicas ≡ REPLICAS
+  pub eight : length lanes ≡ LANES
   pub each : (number : ℕ) (lane : LaneState R) → slice_get lanes number ≡ Some lane → IsEighth its number (replicas_of lane.backups)

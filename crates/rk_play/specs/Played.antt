@@ -1,12 +1,12 @@
--- A script played: what is written, piece by piece, how the run ends, and the cluster then. Beside the script it is known from what the
--- calls of replicas come to, a list of these for each command.
-use Rattle.std.specs.Prelude.{ℕ, List, [], ◌∷◌, ◌++◌, Option, Some, None, is_some, Result, Ok, Err, unwrap_or, if◌then◌else◌}
+-- A script played: what is written, piece by piece, how the run ends, and the cluster then. Beside the script it is known from what becomes
+-- of the calls of replicas, a list of fates for each command.
+use Rattle.std.specs.Prelude.{ℕ, List, [], ◌∷◌, ◌++◌, Option, Some, None, is_some, Result, Ok, Err, map, replicate, take, unwrap_or, if◌then◌else◌}
 use Rattle.std.specs.List.{concat}
 use Rattle.rk_types.specs.declared.status.Status.{Status}
 use Rattle.rk_types.specs.declared.status.Status.TheVariants.{Done, NoMemory, Refused, ReplicaFault, Worn}
-use Rattle.rk_world.specs.Backup.{Called}
 use Rattle.rk_world.specs.Cluster.{Cluster, Occurrence, new_cluster}
 use Rattle.rk_cluster.specs.Numbers.{number_of}
+use Rattle.rk_cluster.specs.Replicas.{Fate, Kept}
 use Rattle.rk_cluster.specs.declared.code.Code.TheVariants.{TooLate}
 use Rattle.rk_script.specs.Codes.{code_number}
 use Rattle.rk_script.specs.Script.{script_of}
@@ -56,21 +56,21 @@ abbrev pub continued : ℕ → Effect → Option Stop → (Cluster → Played) �
 continued line effect (Some stop) rest = behind [] effect.occurred (stopped_at line stop effect.cluster)
 continued line effect None rest = behind (effect.text ∷ []) effect.occurred (rest effect.cluster)
 
--- the first of some lists of calls, and the others
-abbrev pub first_calls : List (List Called) → List Called
-first_calls [] = []
-first_calls (calls ∷ others) = calls
+-- the first of some lists of fates, and the others
+abbrev pub first_fates : List (List Fate) → List Fate
+first_fates [] = []
+first_fates (fates ∷ others) = fates
 
-abbrev pub other_calls : List (List Called) → List (List Called)
-other_calls [] = []
-other_calls (calls ∷ others) = others
+abbrev pub other_fates : List (List Fate) → List (List Fate)
+other_fates [] = []
+other_fates (fates ∷ others) = others
 
 -- numbered commands played in a cluster
-abbrev pub played_in : List Numbered → List (List Called) → Cluster → Played
-played_in [] calls cluster = ending Done cluster
-played_in (first ∷ others) calls cluster =
-    let it = effect_within cluster first.command (first_calls calls) in
-    continued first.line it it.stop (λ next. played_in others (other_calls calls) next)
+abbrev pub played_in : List Numbered → List (List Fate) → Cluster → Played
+played_in [] fates cluster = ending Done cluster
+played_in (first ∷ others) fates cluster =
+    let it = effect_within cluster first.command (first_fates fates) in
+    continued first.line it it.stop (λ next. played_in others (other_fates fates) next)
 
 -- how many masters and backups a script asks for
 pub record Setting : Type 0 where
@@ -104,18 +104,41 @@ opened_by line (commands.Backups backups) setting next all =
 opened_by line command setting next all = all (cluster_by setting)
 
 -- numbered commands played from a setting on
-abbrev pub played_from : List Numbered → List (List Called) → Setting → Played
-played_from [] calls setting = ending Done (cluster_by setting)
-played_from (first ∷ others) calls setting =
+abbrev pub played_from : List Numbered → List (List Fate) → Setting → Played
+played_from [] fates setting = ending Done (cluster_by setting)
+played_from (first ∷ others) fates setting =
     opened_by first.line first.command setting
-    (λ next. played_from others calls next) (λ cluster. played_in (first ∷ others) calls cluster)
+    (λ next. played_from others fates next) (λ cluster. played_in (first ∷ others) fates cluster)
 
 -- commands played from the start, or a refusal before anything runs
-abbrev pub played_of : Result (List Numbered) ParseError → List (List Called) → Played
-played_of (Ok commands) calls = played_from commands calls unset
-played_of (Err (faults.Refused line code)) calls = refused_at line (code_number code) (cluster_by unset)
-played_of (Err faults.NoMemory) calls = ending NoMemory (cluster_by unset)
+abbrev pub played_of : Result (List Numbered) ParseError → List (List Fate) → Played
+played_of (Ok commands) fates = played_from commands fates unset
+played_of (Err (faults.Refused line code)) fates = refused_at line (code_number code) (cluster_by unset)
+played_of (Err faults.NoMemory) fates = ending NoMemory (cluster_by unset)
 
 -- a script played
-abbrev pub played : List ℕ → List (List Called) → Played
-played script calls = played_of (script_of script) calls
+abbrev pub played : List ℕ → List (List Fate) → Played
+played script fates = played_of (script_of script) fates
+
+-- the first commands of a script alone; none where it is refused before anything runs
+abbrev pub first_commands : ℕ → Result (List Numbered) ParseError → Result (List Numbered) ParseError
+first_commands count (Ok commands) = Ok (take count commands)
+first_commands count (Err fault) = Ok []
+
+-- a part of commands played, or of a refusal before anything runs: so many of the first alone, or all
+abbrev pub part_of : Result (List Numbered) ParseError → Option ℕ → List (List Fate) → Played
+part_of commands (Some count) fates = played_of (first_commands count commands) fates
+part_of commands None fates = played_of commands fates
+
+-- a part of a script played
+abbrev pub played_part : Option ℕ → List ℕ → List (List Fate) → Played
+played_part part script fates = part_of (script_of script) part fates
+
+-- the fates of all calls of replicas, command after command
+abbrev pub all_fates : List (List Fate) → List Fate
+all_fates [] = []
+all_fates (fates ∷ others) = fates ++ all_fates others
+
+-- each call of a replica goes well, with as many moves as these for each command
+abbrev pub faultless : List ℕ → List (List Fate)
+faultless moves = map (λ count. replicate count Kept) moves

@@ -3,27 +3,28 @@ use Rattle.std.specs.Prelude.{◌≡◌, ◌≤◌, ℕ, Bool, true, false, List
 use Rattle.std.specs.List.{concat}
 use Rattle.std.specs.Io.KnownBytes.{Appends, Keeps}
 use Rattle.rk_outside.specs.Segments.{Segments}
-use Rattle.rk_world.specs.Backup.{Called}
 use Rattle.rk_world.specs.Cluster.{Cluster, Occurrence}
-use Rattle.rk_world.specs.ClusterRuns.{Leads}
+use Rattle.rk_cluster.specs.Faults.{CountsGoOn}
+use Rattle.rk_cluster.specs.Replicas.{Fate}
 use Rattle.rk_cluster.specs.State.{ClusterState, IsOf}
 use Rattle.rk_script.specs.declared.command.Numbered.{Numbered}
-use Rattle.rk_play.specs.Played.{Played, behind, played_in}
+use Rattle.rk_play.specs.Played.{all_fates, behind, played_in}
 
--- a run that was to be played so in a cluster has written these pieces, and these commands are left, in a cluster that the one in code
--- stands for, to which a run has led
-pub record IsReached {R : Type 0} (segments : R → Option Segments) (start : Cluster) (now : ClusterState R) (left : List Numbered) (pieces : List (List ℕ)) (played_by : List (List Called) → Played) : Type 0 where
+-- these commands, played in a cluster by these fates, write these pieces, and leave a cluster that the one in code stands for, in which
+-- whatever follows is played by the fates that follow
+pub record IsReached {R : Type 0} (segments : R → Option Segments) (start : Cluster) (now : ClusterState R) (ran : List Numbered) (fates : List (List Fate)) (pieces : List (List ℕ)) : Type 0 where
   pub cluster : Cluster
   pub is : IsOf segments now cluster
-  pub leads : Leads start cluster
   pub occurred : List Occurrence
-  pub goes_on : (later : List (List Called)) → played_by later ≡ behind pieces occurred (played_in left later cluster)
+  pub goes_on : (left : List Numbered) (later : List (List Fate))
+      → played_in (ran ++ left) (fates ++ later) start ≡ behind pieces occurred (played_in left later cluster)
 
--- by what the calls of replicas came to, these commands have written these pieces, and these are left of them
-pub record Reached {R : Type 0} (segments : R → Option Segments) (old now : ClusterState R) (all left : List Numbered) (pieces : List (List ℕ)) : Type 0 where
-  pub used : List (List Called)
-  pub reached : (cluster : Cluster) → IsOf segments old cluster
-      → IsReached segments cluster now left pieces (λ later. played_in all (used ++ later) cluster)
+-- by the fates of the calls of replicas, these commands have run and have written these pieces; for each call that failed the count of its
+-- replica rose
+pub record Reached {R : Type 0} (segments : R → Option Segments) (faults : R → ℕ) (old now : ClusterState R) (ran : List Numbered) (pieces : List (List ℕ)) : Type 0 where
+  pub fates : List (List Fate)
+  pub counts : CountsGoOn faults (all_fates fates) old now
+  pub reached : (cluster : Cluster) → IsOf segments old cluster → IsReached segments cluster now ran fates pieces
 
 -- of pieces so many were put into a sink, and the rest is held back
 pub record IsSent (old now : Option (List ℕ)) (pieces : List (List ℕ)) (held : List ℕ) : Type 0 where
@@ -32,10 +33,12 @@ pub record IsSent (old now : Option (List ℕ)) (pieces : List (List ℕ)) (held
   pub written : Appends old now (concat (take sent pieces))
   pub rest : held ≡ concat (drop sent pieces)
 
--- these commands are left, and of what the others have written a part is held back
-pub record IsOn {R : Type 0} (segments : R → Option Segments) (old now : ClusterState R) (all left : List Numbered) (was written : Option (List ℕ)) (held : List ℕ) : Type 0 where
+-- these commands are left of all, and of what the others have written a part is held back
+pub record IsOn {R : Type 0} (segments : R → Option Segments) (faults : R → ℕ) (old now : ClusterState R) (all left : List Numbered) (was written : Option (List ℕ)) (held : List ℕ) : Type 0 where
+  pub ran : List Numbered
+  pub whole : ran ++ left ≡ all
   pub pieces : List (List ℕ)
-  pub reached : Reached segments old now all left pieces
+  pub reached : Reached segments faults old now ran pieces
   pub sent : IsSent was written pieces held
 
 -- what was held back still is where it is less than a piece, and else all of it was put into the sink

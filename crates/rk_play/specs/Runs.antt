@@ -1,5 +1,5 @@
 -- What a run in code says of the run played: its status, what its sink holds after it, and what its replicas tell.
-use Rattle.std.specs.Prelude.{◌≡◌, ℕ, ◌+◌, ◌-◌, ◌*◌, ◌<◌, ◌≤◌, List, length, take, Option, Some, slice_get}
+use Rattle.std.specs.Prelude.{◌≡◌, ℕ, ◌+◌, ◌-◌, ◌*◌, ◌<◌, ◌≤◌, nat_lt, if◌then◌else◌, List, drop, length, map, take, Option, None, Some, Result, Ok, Err, slice_get, ⊤}
 use Rattle.std.specs.List.{concat}
 use Rattle.std.specs.Io.KnownBytes.{Appends, IsAtEnd, Keeps}
 use Rattle.rk_types.specs.NumberMap.{get}
@@ -11,25 +11,30 @@ use Rattle.rk_outside.specs.Faults.{Rose}
 use Rattle.rk_outside.specs.Parts.{AppendsPart, ConsumesBetween}
 use Rattle.rk_outside.specs.Segments.{Segments}
 use Rattle.rk_script.specs.declared.script.TheConstants.{LONGEST_SCRIPT}
-use Rattle.rk_world.specs.Backup.{Called}
-use Rattle.rk_log.specs.declared.copied.TheConstants.{MOST_BACKUPS}
-use Rattle.rk_world.specs.Cluster.{Cluster, lane_at, new_cluster}
-use Rattle.rk_world.specs.ClusterRuns.{Leads}
-use Rattle.rk_world.specs.Premises.{MOST_MASTERS}
-use Rattle.rk_play.specs.Played.{Played, played, text_of}
+use Rattle.rk_script.specs.Script.{script_of}
+use Rattle.rk_script.specs.declared.command.Numbered.{Numbered}
+use Rattle.rk_script.specs.declared.script.ParseError.{ParseError}
+use Rattle.rk_world.specs.Cluster.{Cluster, lane_at}
+use Rattle.rk_cluster.specs.Faults.{Counts, GoOn}
+use Rattle.rk_cluster.specs.Replicas.{Fate}
+use Rattle.rk_play.specs.Played.{Played, all_fates, played_part, text_of}
 
 -- the status is that of the run played, and its whole text was written
 pub record Ends (p : Played) (status : Status) (old new : Option (List ℕ)) : Type 0 where
   pub ended : p.status ≡ status
   pub written : Appends old new (text_of p)
 
--- the run halted before one of its commands, or before the first: the pieces of those before it were written. A run that would have come
--- to its end halted before its last command at the latest
+-- memory was wanting behind this run: the pieces of the first of its commands were written, and all of them came to their end
 pub record Halts (p : Played) (old new : Option (List ℕ)) : Type 0 where
+  pub ended : p.status ≡ Done
   pub pieces : ℕ
   pub few : pieces ≤ length p.pieces
-  pub fewer : p.status ≡ Done → pieces ≤ length p.pieces - 1
   pub written : Appends old new (concat (take pieces p.pieces))
+
+-- the sink failed: it has a part of the text of this run, which came to an end
+pub record Breaks (p : Played) (old new : Option (List ℕ)) : Type 0 where
+  pub ended : p.status ≡ NoMemory → ⊥
+  pub written : AppendsPart old new (text_of p)
 
 -- what each status says of the run played; the others do not come
 abbrev pub Runs : Played → Status → Option (List ℕ) → Option (List ℕ) → Type 0
@@ -38,7 +43,7 @@ Runs p Refused old new = Ends p Refused old new
 Runs p Worn old new = Ends p Worn old new
 Runs p ReplicaFault old new = Ends p ReplicaFault old new
 Runs p ReadFault old new = Keeps old new
-Runs p WriteFault old new = AppendsPart old new (text_of p)
+Runs p WriteFault old new = Breaks p old new
 Runs p NoMemory old new = Halts p old new
 Runs p Usage old new = ⊥
 Runs p Audit old new = ⊥
@@ -55,22 +60,41 @@ TellStored segments replicas cluster =
     (lane place : ℕ) (stored : Segments) → lane < LANES → get (lane_at cluster lane).backups (place + 1) ≡ Some stored
     → TellsAt segments replicas (LANES * place + lane) stored
 
--- a run of a new cluster, with as many masters and backups as there may be, leads to this one
-pub record IsLedTo (cluster : Cluster) : Type 0 where
-  pub masters : ℕ
-  pub backups : ℕ
-  pub few_masters : masters ≤ MOST_MASTERS
-  pub backed : 1 ≤ backups
-  pub few_backups : backups ≤ MOST_BACKUPS
-  pub leads : Leads (new_cluster masters backups) cluster
+-- the counts of faults of the replicas of a run, by lane and by the place of the backup
+abbrev pub replica_counts : {R : Type 0} → (R → ℕ) → List R → Counts
+replica_counts faults replicas lane place =
+    if nat_lt lane LANES then slice_get (map faults replicas) (LANES * place + lane) else None
 
--- by what the calls of replicas came to, a run of a script has this status, its sink holds what was written, and unless memory was
--- wanting its replicas tell what the backups store at the end; and unless the sink failed either, a run of a new cluster has led there
-pub record Plays {R : Type 0} (segments : R → Option Segments) (script : List ℕ) (status : Status) (old new : Option (List ℕ)) (replicas : List R) : Type 0 where
-  pub calls : List (List Called)
-  pub runs : Runs (played script calls) status old new
-  pub stored : (status ≡ NoMemory → ⊥) → (status ≡ ReadFault → ⊥) → TellStored segments replicas (played script calls).cluster
-  pub led : (status ≡ NoMemory → ⊥) → (status ≡ ReadFault → ⊥) → (status ≡ WriteFault → ⊥) → IsLedTo (played script calls).cluster
+-- how many backups each lane of a cluster has
+abbrev pub backup_count : Cluster → ℕ
+backup_count cluster = (lane_at cluster 0).backup_count
+
+-- how many commands a script has; none where it is refused before anything runs
+abbrev pub count_of : Result (List Numbered) ParseError → ℕ
+count_of (Ok commands) = length commands
+count_of (Err fault) = 0
+
+-- a run is all of a script with so many commands, or, where memory was wanting, what comes before one of its commands; where the sink failed
+-- it may be any part
+abbrev pub MayBePart : Status → ℕ → Option ℕ → Type 0
+MayBePart NoMemory most (Some count) = count ≤ most - 1
+MayBePart WriteFault most part = ⊤
+MayBePart NoMemory most None = ⊥
+MayBePart status most None = ⊤
+MayBePart status most part = ⊥
+
+-- by the fates of the calls of replicas a script, or its first commands, was played with this status, and its sink holds what was written.
+-- Unless memory was wanting, for each call that failed the count of its replica rose, the replicas tell what the backups store at the end of
+-- that run, and those of backups that the run does not have are as they were
+pub record Plays {R : Type 0} (segments : R → Option Segments) (faults : R → ℕ) (script : List ℕ) (status : Status) (old new : Option (List ℕ)) (before after : List R) : Type 0 where
+  pub part : Option ℕ
+  pub may : MayBePart status (count_of (script_of script)) part
+  pub fates : List (List Fate)
+  pub runs : Runs (played_part part script fates) status old new
+  pub counts : (status ≡ NoMemory → ⊥) → GoOn (all_fates fates) (replica_counts faults before) (replica_counts faults after)
+  pub stored : (status ≡ NoMemory → ⊥) → (status ≡ ReadFault → ⊥) → TellStored segments after (played_part part script fates).cluster
+  pub others : (status ≡ NoMemory → ⊥)
+      → let backups = backup_count (played_part part script fates).cluster in drop (LANES * backups) after ≡ drop (LANES * backups) before
 
 -- a status tells of a fault exactly where there was one: the count of faults rose where it does, and elsewhere it stays
 pub record HasStatusCause (fault status : Status) (before now : ℕ) : Type 0 where

@@ -1,7 +1,8 @@
 // What a command of a script does in a cluster, and writes.
-ghost use Rattle.std.specs.Prelude.{◌≡◌, ◌≢◌, ◌++◌, IfErr, IsErrAnd, IsOkAnd, OnOk};
+ghost use Rattle.std.specs.Prelude.{◌≡◌, ◌≢◌, [], ◌++◌, IfErr, IsErrAnd, IsOkAnd, OnOk};
 ghost use Rattle.rk_lines.specs.Lines.{said_lines};
 ghost use Rattle.rk_cluster.specs.Faults.{CountsGoOn};
+ghost use Rattle.rk_cluster.specs.Masters.{backups_of};
 ghost use Rattle.rk_play.specs.Came.{Ran, Stopped};
 ghost use Rattle.rk_play.specs.Effects.{effect, effect_within};
 ghost use Rattle.rk_play.specs.Faults.{HasFaults};
@@ -29,10 +30,11 @@ pub(crate) fn run_within<R: Replica + Drop>(
     text: &mut Vec<u8>,
 ) -> Result<(), PlayError>
     requires { IsLawfulCommand command }
-    ensures ok { OnOk result (Ran R.segments cluster.old cluster.new (λ c calls. effect_within c command calls) text.old.items text.new.items) }
-    ensures err { IfErr result (Stopped R.segments cluster.old cluster.new (λ c calls. effect_within c command calls)) }
+    ensures ok { OnOk result (Ran R.segments R.faults cluster.old cluster.new (λ c fates. effect_within c command fates) text.old.items text.new.items) }
+    ensures err { IfErr result (Stopped R.segments R.faults cluster.old cluster.new (λ c fates. effect_within c command fates)) }
     ensures kept { IfErr result (λ e. e ≢ no_memory → text.new.items ≡ text.old.items) }
-    ensures counts { CountsGoOn R.faults 0 cluster.old cluster.new }
+    ensures backups { backups_of cluster.new ≡ backups_of cluster.old }
+    ensures counts { CountsGoOn R.faults [] cluster.old cluster.new }
     ensures cause { IfErr result (HasFaults R.faults cluster.old cluster.new) }
 {
     if is_full(cluster) {
@@ -49,10 +51,11 @@ fn run_command<R: Replica + Drop>(
     text: &mut Vec<u8>,
 ) -> Result<(), PlayError>
     requires { IsLawfulCommand command }
-    ensures ok { OnOk result (Ran R.segments cluster.old cluster.new (λ c calls. effect c command calls) text.old.items text.new.items) }
-    ensures err { IfErr result (Stopped R.segments cluster.old cluster.new (λ c calls. effect c command calls)) }
+    ensures ok { OnOk result (Ran R.segments R.faults cluster.old cluster.new (λ c fates. effect c command fates) text.old.items text.new.items) }
+    ensures err { IfErr result (Stopped R.segments R.faults cluster.old cluster.new (λ c fates. effect c command fates)) }
     ensures kept { IfErr result (λ e. e ≢ no_memory → text.new.items ≡ text.old.items) }
-    ensures counts { CountsGoOn R.faults 0 cluster.old cluster.new }
+    ensures backups { backups_of cluster.new ≡ backups_of cluster.old }
+    ensures counts { CountsGoOn R.faults [] cluster.old cluster.new }
     ensures cause { IfErr result (HasFaults R.faults cluster.old cluster.new) }
 {
     match command {

@@ -4,13 +4,14 @@ ghost use Rattle.std.specs.Io.KnownBytes.{IsAtEnd};
 ghost use Rattle.rk_outside.specs.Parts.{ConsumesBetween};
 ghost use Rattle.rk_world.specs.Cluster.{Cluster as Whole};
 ghost use Rattle.rk_cluster.specs.Faults.{GoOn};
+ghost use Rattle.rk_settle.specs.Faults.{RoseInRounds};
 ghost use Rattle.rk_cluster.specs.Fresh.{AreEmpty};
 ghost use Rattle.rk_settle.specs.Course.{MOST_FAULTS};
 ghost use Rattle.rk_script.specs.Lawful.{IsLawful};
 ghost use Rattle.rk_script.specs.Script.{script_of};
-ghost use Rattle.rk_play.specs.Concluded.{Concludes, ConcludesBy, IsWritten, MayComeTo, PlaysBy};
-ghost use Rattle.rk_play.specs.Played.{cluster_by, played_from, played_in, played_of, refused_at, stopped_at, unset};
-ghost use Rattle.rk_play.specs.Runs.{HasStatusCause, IsRead, Plays};
+ghost use Rattle.rk_play.specs.Concluded.{Concludes, ConcludesBy, IsWritten, MayComeTo, PlaysBy, part_in};
+ghost use Rattle.rk_play.specs.Played.{cluster_by, part_of, refused_at, stopped_at};
+ghost use Rattle.rk_play.specs.Runs.{HasStatusCause, IsRead, Plays, count_of, replica_counts};
 ghost use Rattle.rk_play.specs.Settings.{IsSetting, setting_of};
 ghost use Rattle.rk_play.specs.Stops.{stop_by};
 
@@ -34,8 +35,9 @@ const DEFAULT_COUNT: u8 = 2;
 /// Plays the script that the source has, and writes its text to the sink.
 ///
 /// The replicas hold nothing; backup b of lane l has the one at place 8 * (b - 1) + l, counted from 0. Unless memory was
-/// wanting or the source failed, they come back in their order, and those of backups that are there tell what these store at the
-/// end. A script that is too long is read up to one piece past the longest.
+/// wanting, they come back in their order, and no count of their faults fell: those of backups that are there tell what these
+/// store at the end, and the others are as they were. Where the source failed, all are. A script that is too long is read up
+/// to one piece past the longest.
 pub fn play<S: Source, K: Sink, R: Replica + Drop>(
     alloc: Global,
     source: &mut S,
@@ -44,8 +46,11 @@ pub fn play<S: Source, K: Sink, R: Replica + Drop>(
 ) -> Status
     requires { length replicas.old.items ≡ 32 }
     ensures plays { AreEmpty R.segments replicas.old.items → IfSome (S.left source.old) (λ script.
-        Plays R.segments script result (K.written sink.old) (K.written sink.new) replicas.new.items) }
+        Plays R.segments R.faults script result (K.written sink.old) (K.written sink.new) replicas.old.items replicas.new.items) }
     ensures count { (result ≡ Status.NoMemory → ⊥) → length replicas.new.items ≡ 32 }
+    ensures counts { (result ≡ Status.NoMemory → ⊥)
+        → GoOn [] (replica_counts R.faults replicas.old.items) (replica_counts R.faults replicas.new.items) }
+    ensures untouched { result ≡ Status.ReadFault → replicas.new.items ≡ replicas.old.items }
     ensures usage { result ≡ Status.Usage → ⊥ }
     ensures audit { result ≡ Status.Audit → ⊥ }
     ensures all_read { result ≡ Status.Done → IsAtEnd (S.left source.new) }
@@ -53,7 +58,8 @@ pub fn play<S: Source, K: Sink, R: Replica + Drop>(
     ensures most_read { ConsumesBetween (S.left source.old) (S.left source.new) 0 (LONGEST_SCRIPT + PIECE) }
     ensures read_cause { HasStatusCause Status.ReadFault result (S.faults source.old) (S.faults source.new) }
     ensures write_cause { HasStatusCause Status.WriteFault result (K.faults sink.old) (K.faults sink.new) }
-    ensures replica_cause { result ≡ Status.ReplicaFault → GoOn MOST_FAULTS (map R.faults replicas.old.items) (map R.faults replicas.new.items) }
+    ensures replica_cause { result ≡ Status.ReplicaFault
+        → RoseInRounds MOST_FAULTS (replica_counts R.faults replicas.old.items) (replica_counts R.faults replicas.new.items) }
 {
     match read_all(alloc, LONGEST_SCRIPT, source) {
         Ok(script) => play_script(alloc, script.as_slice(), sink, replicas),
@@ -72,11 +78,15 @@ fn play_script<K: Sink, R: Replica + Drop>(
 ) -> Status
     requires { length replicas.old.items ≡ 32 }
     ensures plays { AreEmpty R.segments replicas.old.items
-        → PlaysBy R.segments (λ calls. played_of (script_of script.now) calls) result (K.written sink.old) (K.written sink.new) replicas.new.items }
+        → PlaysBy R.segments R.faults (part_of (script_of script.now)) (count_of (script_of script.now)) result
+        (K.written sink.old) (K.written sink.new) replicas.old.items replicas.new.items }
     ensures count { (result ≡ Status.NoMemory → ⊥) → length replicas.new.items ≡ 32 }
+    ensures counts { (result ≡ Status.NoMemory → ⊥)
+        → GoOn [] (replica_counts R.faults replicas.old.items) (replica_counts R.faults replicas.new.items) }
     ensures status { MayComeTo result }
     ensures cause { HasStatusCause Status.WriteFault result (K.faults sink.old) (K.faults sink.new) }
-    ensures replica_cause { result ≡ Status.ReplicaFault → GoOn MOST_FAULTS (map R.faults replicas.old.items) (map R.faults replicas.new.items) }
+    ensures replica_cause { result ≡ Status.ReplicaFault
+        → RoseInRounds MOST_FAULTS (replica_counts R.faults replicas.old.items) (replica_counts R.faults replicas.new.items) }
 {
     match parse(alloc, script) {
         Ok(commands) => play_commands(alloc, commands, sink, replicas),
@@ -95,11 +105,15 @@ fn play_commands<K: Sink, R: Replica + Drop>(
     requires lawful { All IsLawful commands.items }
     requires count { length replicas.old.items ≡ 32 }
     ensures plays { AreEmpty R.segments replicas.old.items
-        → PlaysBy R.segments (λ calls. played_from commands.items calls unset) result (K.written sink.old) (K.written sink.new) replicas.new.items }
+        → PlaysBy R.segments R.faults (part_of (Ok commands.items)) (length commands.items) result
+        (K.written sink.old) (K.written sink.new) replicas.old.items replicas.new.items }
     ensures count { (result ≡ Status.NoMemory → ⊥) → length replicas.new.items ≡ 32 }
+    ensures counts { (result ≡ Status.NoMemory → ⊥)
+        → GoOn [] (replica_counts R.faults replicas.old.items) (replica_counts R.faults replicas.new.items) }
     ensures status { MayComeTo result }
     ensures cause { HasStatusCause Status.WriteFault result (K.faults sink.old) (K.faults sink.new) }
-    ensures replica_cause { result ≡ Status.ReplicaFault → GoOn MOST_FAULTS (map R.faults replicas.old.items) (map R.faults replicas.new.items) }
+    ensures replica_cause { result ≡ Status.ReplicaFault
+        → RoseInRounds MOST_FAULTS (replica_counts R.faults replicas.old.items) (replica_counts R.faults replicas.new.items) }
 {
     let mut commands = commands;
     let opening = match read_opening(commands.as_slice()) {
@@ -124,11 +138,15 @@ fn play_opened<K: Sink, R: Replica + Drop>(
     requires setting { IsSetting (setting_of opening) }
     requires count { length replicas.old.items ≡ 32 }
     ensures plays { AreEmpty R.segments replicas.old.items
-        → PlaysBy R.segments (λ calls. played_in commands.items calls (cluster_by (setting_of opening))) result (K.written sink.old) (K.written sink.new) replicas.new.items }
+        → PlaysBy R.segments R.faults (part_in commands.items (cluster_by (setting_of opening))) (length commands.items) result
+        (K.written sink.old) (K.written sink.new) replicas.old.items replicas.new.items }
     ensures count { (result ≡ Status.NoMemory → ⊥) → length replicas.new.items ≡ 32 }
+    ensures counts { (result ≡ Status.NoMemory → ⊥)
+        → GoOn [] (replica_counts R.faults replicas.old.items) (replica_counts R.faults replicas.new.items) }
     ensures status { MayComeTo result }
     ensures cause { HasStatusCause Status.WriteFault result (K.faults sink.old) (K.faults sink.new) }
-    ensures replica_cause { result ≡ Status.ReplicaFault → GoOn MOST_FAULTS (map R.faults replicas.old.items) (map R.faults replicas.new.items) }
+    ensures replica_cause { result ≡ Status.ReplicaFault
+        → RoseInRounds MOST_FAULTS (replica_counts R.faults replicas.old.items) (replica_counts R.faults replicas.new.items) }
 {
     let masters = opening.masters.unwrap_or(DEFAULT_COUNT);
     let backups = opening.backups.unwrap_or(DEFAULT_COUNT);

@@ -3,7 +3,9 @@ ghost use Rattle.std.specs.Prelude.{◌≡◌, All, [], length, nat_lt, OnOk, On
 ghost use Rattle.rk_outside.specs.Faults.{HasCause};
 ghost use Rattle.rk_outside.specs.Parts.{AppendsPart};
 ghost use Rattle.rk_cluster.specs.Faults.{CountsGoOn};
+ghost use Rattle.rk_cluster.specs.Masters.{backups_of};
 ghost use Rattle.rk_settle.specs.Course.{MOST_FAULTS};
+ghost use Rattle.rk_settle.specs.Faults.{FailsInRounds};
 ghost use Rattle.rk_script.specs.Lawful.{IsLawful};
 ghost use Rattle.rk_play.specs.Reached.{Spills};
 ghost use Rattle.rk_play.specs.Ended.{EndsBy, HasEndCause, end_by};
@@ -28,10 +30,11 @@ pub(crate) fn run_all<R: Replica + Drop, K: Sink>(
 ) -> End
     requires lawful { All IsLawful commands.items }
     requires empty { held.old.items ≡ [] }
-    ensures ends { EndsBy R.segments cluster.old cluster.new commands.items (K.written sink.old) (K.written sink.new) held.new.items result }
+    ensures ends { EndsBy R.segments R.faults cluster.old cluster.new commands.items (K.written sink.old) (K.written sink.new) held.new.items result }
     ensures cause { HasEndCause result (K.faults sink.old) (K.faults sink.new) }
-    ensures counts { CountsGoOn R.faults 0 cluster.old cluster.new }
-    ensures replica_cause { EndsByReplicas result → CountsGoOn R.faults MOST_FAULTS cluster.old cluster.new }
+    ensures backups { backups_of cluster.new ≡ backups_of cluster.old }
+    ensures counts { CountsGoOn R.faults [] cluster.old cluster.new }
+    ensures replica_cause { EndsByReplicas result → FailsInRounds R.faults MOST_FAULTS cluster.old cluster.new }
 {
     'commands: for numbered in commands {
         if spill(held, sink).is_err() {

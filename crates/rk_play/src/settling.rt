@@ -1,6 +1,7 @@
 // What the settling commands do.
-ghost use Rattle.std.specs.Prelude.{◌≡◌, ◌≢◌, IfErr, OnOk};
+ghost use Rattle.std.specs.Prelude.{◌≡◌, ◌≢◌, [], IfErr, OnOk};
 ghost use Rattle.rk_cluster.specs.Faults.{CountsGoOn};
+ghost use Rattle.rk_cluster.specs.Masters.{backups_of};
 ghost use Rattle.rk_play.specs.Came.{Ran, Stopped};
 ghost use Rattle.rk_play.specs.Effects.{effect, reach_of as reach_of_lem};
 ghost use Rattle.rk_play.specs.Faults.{HasFaults};
@@ -21,13 +22,15 @@ pub(crate) fn settle_all<R: Replica + Drop>(
     cluster: &mut Cluster<R>,
     text: &mut Vec<u8>,
 ) -> Result<(), PlayError>
-    ensures ok { OnOk result (Ran R.segments cluster.old cluster.new (λ c calls. effect c commands.Settle calls) text.old.items text.new.items) }
-    ensures err { IfErr result (Stopped R.segments cluster.old cluster.new (λ c calls. effect c commands.Settle calls)) }
+    ensures ok { OnOk result (Ran R.segments R.faults cluster.old cluster.new (λ c fates. effect c commands.Settle fates) text.old.items text.new.items) }
+    ensures err { IfErr result (Stopped R.segments R.faults cluster.old cluster.new (λ c fates. effect c commands.Settle fates)) }
     ensures kept { IfErr result (λ e. e ≢ no_memory → text.new.items ≡ text.old.items) }
-    ensures counts { CountsGoOn R.faults 0 cluster.old cluster.new }
+    ensures backups { backups_of cluster.new ≡ backups_of cluster.old }
+    ensures counts { CountsGoOn R.faults [] cluster.old cluster.new }
     ensures cause { IfErr result (HasFaults R.faults cluster.old cluster.new) }
 {
-    let said = settle(alloc, cluster)?;
+    let mut said = Vec::new(alloc);
+    settle(alloc, cluster, &mut said)?;
     push_all_said(text, said.as_slice())?;
     Ok(())
 }
@@ -39,16 +42,18 @@ pub(crate) fn serve_call<R: Replica + Drop>(
     client: u32,
     text: &mut Vec<u8>,
 ) -> Result<(), PlayError>
-    ensures ok { OnOk result (Ran R.segments cluster.old cluster.new (λ c calls. effect c (commands.Serve client) calls) text.old.items text.new.items) }
-    ensures err { IfErr result (Stopped R.segments cluster.old cluster.new (λ c calls. effect c (commands.Serve client) calls)) }
+    ensures ok { OnOk result (Ran R.segments R.faults cluster.old cluster.new (λ c fates. effect c (commands.Serve client) fates) text.old.items text.new.items) }
+    ensures err { IfErr result (Stopped R.segments R.faults cluster.old cluster.new (λ c fates. effect c (commands.Serve client) fates)) }
     ensures kept { IfErr result (λ e. e ≢ no_memory → text.new.items ≡ text.old.items) }
-    ensures counts { CountsGoOn R.faults 0 cluster.old cluster.new }
+    ensures backups { backups_of cluster.new ≡ backups_of cluster.old }
+    ensures counts { CountsGoOn R.faults [] cluster.old cluster.new }
     ensures cause { IfErr result (HasFaults R.faults cluster.old cluster.new) }
 {
     if let Some(code) = serve_code(cluster, client) {
         return Err(PlayError::Refused(code));
     }
-    let said = serve(alloc, cluster, client)?;
+    let mut said = Vec::new(alloc);
+    serve(alloc, cluster, client, &mut said)?;
     push_all_said(text, said.as_slice())?;
     Ok(())
 }
@@ -61,17 +66,19 @@ pub(crate) fn advance_tablet<R: Replica + Drop>(
     wanted: Wanted,
     text: &mut Vec<u8>,
 ) -> Result<(), PlayError>
-    ensures ok { OnOk result (Ran R.segments cluster.old cluster.new (λ c calls. effect c (commands.Advance tablet wanted) calls) text.old.items text.new.items) }
-    ensures err { IfErr result (Stopped R.segments cluster.old cluster.new (λ c calls. effect c (commands.Advance tablet wanted) calls)) }
+    ensures ok { OnOk result (Ran R.segments R.faults cluster.old cluster.new (λ c fates. effect c (commands.Advance tablet wanted) fates) text.old.items text.new.items) }
+    ensures err { IfErr result (Stopped R.segments R.faults cluster.old cluster.new (λ c fates. effect c (commands.Advance tablet wanted) fates)) }
     ensures kept { IfErr result (λ e. e ≢ no_memory → text.new.items ≡ text.old.items) }
-    ensures counts { CountsGoOn R.faults 0 cluster.old cluster.new }
+    ensures backups { backups_of cluster.new ≡ backups_of cluster.old }
+    ensures counts { CountsGoOn R.faults [] cluster.old cluster.new }
     ensures cause { IfErr result (HasFaults R.faults cluster.old cluster.new) }
 {
     let reach = reach_of(wanted);
     if let Some(code) = advance_code(cluster, tablet, reach) {
         return Err(PlayError::Refused(code));
     }
-    let said = advance(alloc, cluster, tablet, reach)?;
+    let mut said = Vec::new(alloc);
+    advance(alloc, cluster, tablet, reach, &mut said)?;
     push_all_said(text, said.as_slice())?;
     Ok(())
 }
@@ -83,16 +90,18 @@ pub(crate) fn hasten<R: Replica + Drop>(
     tablet: u32,
     text: &mut Vec<u8>,
 ) -> Result<(), PlayError>
-    ensures ok { OnOk result (Ran R.segments cluster.old cluster.new (λ c calls. effect c (commands.Priority tablet) calls) text.old.items text.new.items) }
-    ensures err { IfErr result (Stopped R.segments cluster.old cluster.new (λ c calls. effect c (commands.Priority tablet) calls)) }
+    ensures ok { OnOk result (Ran R.segments R.faults cluster.old cluster.new (λ c fates. effect c (commands.Priority tablet) fates) text.old.items text.new.items) }
+    ensures err { IfErr result (Stopped R.segments R.faults cluster.old cluster.new (λ c fates. effect c (commands.Priority tablet) fates)) }
     ensures kept { IfErr result (λ e. e ≢ no_memory → text.new.items ≡ text.old.items) }
-    ensures counts { CountsGoOn R.faults 0 cluster.old cluster.new }
+    ensures backups { backups_of cluster.new ≡ backups_of cluster.old }
+    ensures counts { CountsGoOn R.faults [] cluster.old cluster.new }
     ensures cause { IfErr result (HasFaults R.faults cluster.old cluster.new) }
 {
     if let Some(code) = priority_code(cluster, tablet) {
         return Err(PlayError::Refused(code));
     }
-    let said = priority(alloc, cluster, tablet)?;
+    let mut said = Vec::new(alloc);
+    priority(alloc, cluster, tablet, &mut said)?;
     push_all_said(text, said.as_slice())?;
     Ok(())
 }

@@ -62,8 +62,8 @@ pub(crate) fn show_tablet<R: Replica + Drop>(
     tablet: u32,
     text: &mut Vec<u8>,
 ) -> Result<(), PlayError>
-    ensures ok { OnOk result (Ran R.segments cluster.now cluster.now (λ c calls. shown c (shows.where_code c tablet) (shows.where_text c tablet)) text.old.items text.new.items) }
-    ensures err { IfErr result (Stopped R.segments cluster.now cluster.now (λ c calls. shown c (shows.where_code c tablet) (shows.where_text c tablet))) }
+    ensures ok { OnOk result (Ran R.segments R.faults cluster.now cluster.now (λ c fates. shown c (shows.where_code c tablet) (shows.where_text c tablet)) text.old.items text.new.items) }
+    ensures err { IfErr result (Stopped R.segments R.faults cluster.now cluster.now (λ c fates. shown c (shows.where_code c tablet) (shows.where_text c tablet))) }
     ensures kept { IfErr result (λ e. e ≢ PlayError.NoMemory → text.new.items ≡ text.old.items) }
     ensures cause { IfErr result (λ e. IsOfReplicas e → ⊥) }
 {
@@ -100,8 +100,8 @@ pub(crate) fn show_records<R: Replica + Drop>(
     tablet: u32,
     text: &mut Vec<u8>,
 ) -> Result<(), PlayError>
-    ensures ok { OnOk result (Ran R.segments cluster.now cluster.now (λ c calls. shown c (shows.dump_code c tablet) (shows.dump_text c tablet)) text.old.items text.new.items) }
-    ensures err { IfErr result (Stopped R.segments cluster.now cluster.now (λ c calls. shown c (shows.dump_code c tablet) (shows.dump_text c tablet))) }
+    ensures ok { OnOk result (Ran R.segments R.faults cluster.now cluster.now (λ c fates. shown c (shows.dump_code c tablet) (shows.dump_text c tablet)) text.old.items text.new.items) }
+    ensures err { IfErr result (Stopped R.segments R.faults cluster.now cluster.now (λ c fates. shown c (shows.dump_code c tablet) (shows.dump_text c tablet))) }
     ensures kept { IfErr result (λ e. e ≢ PlayError.NoMemory → text.new.items ≡ text.old.items) }
     ensures cause { IfErr result (λ e. IsOfReplicas e → ⊥) }
 {
@@ -159,8 +159,8 @@ pub(crate) fn show_history<R: Replica + Drop>(
     cluster: &Cluster<R>,
     text: &mut Vec<u8>,
 ) -> Result<(), PlayError>
-    ensures ok { OnOk result (Ran R.segments cluster.now cluster.now (λ c calls. shown c None (shows.history_text c)) text.old.items text.new.items) }
-    ensures err { IfErr result (Stopped R.segments cluster.now cluster.now (λ c calls. shown c None (shows.history_text c))) }
+    ensures ok { OnOk result (Ran R.segments R.faults cluster.now cluster.now (λ c fates. shown c None (shows.history_text c)) text.old.items text.new.items) }
+    ensures err { IfErr result (Stopped R.segments R.faults cluster.now cluster.now (λ c fates. shown c None (shows.history_text c))) }
     ensures kept { IfErr result (λ e. e ≢ PlayError.NoMemory → text.new.items ≡ text.old.items) }
     ensures cause { IfErr result (λ e. IsOfReplicas e → ⊥) }
 {

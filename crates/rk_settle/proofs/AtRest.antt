@@ -1,12 +1,12 @@
 -- Where `settle` ends its cluster is at rest.
-use Rattle.std.proofs.Common.{◌≡◌, Bool, true, false, List, [], ◌∷◌, ◌++◌, inl, inr, map, refl, sym, subst, ap, ◌∙◌, append_assoc, append-nil, ⊎_elim}
+use Rattle.std.proofs.Common.{◌≡◌, Bool, true, false, List, [], ◌∷◌, ◌++◌, inl, inr, map, refl, sym, subst, ◌∙◌, append_assoc, append-nil, ⊎_elim}
 use Rattle.std.specs.Prelude.{ℕ, ◌⊎◌, Option, None, Some, if◌then◌else◌}
 use Rattle.std.specs.List.{flat_map}
-use Rattle.rk_world.specs.Backup.{Called}
 use Rattle.rk_world.specs.Cluster.{Cluster, Occurrence}
 use Rattle.rk_cluster.specs.Acted.{Acted, all_acted}
 use Rattle.rk_cluster.specs.Delivering.{is_lost_at_backup}
 use Rattle.rk_cluster.specs.Makes.{deliver_in_makes}
+use Rattle.rk_cluster.specs.Replicas.{Fate}
 use Rattle.rk_settle.specs.Course.{Course, act_makes, course_of, is_at_limit, moved, moved_all, moved_by, occurring, occurring_by, round_over, with_tasks}
 use Rattle.rk_settle.specs.Rest.{is_at_rest}
 use Rattle.rk_settle.specs.Settle.{lane_numbers, lane_tasks, settle}
@@ -36,16 +36,16 @@ last_by course false is =
     let round : List Task = round_of (flat_map lane_tasks (lane_numbers course.cluster)) in
     settling (with_tasks course ((round ++ tasks.Settles ∷ []) ++ [])) round (append-nil (round ++ tasks.Settles ∷ []))
 
-occurs_by : (course : Course) (occurrences : List Occurrence) (failed : Bool) (front : List Task) (came : Acted) (worn : Option ℕ) → IsSettling course
-    → IsSettling (occurring_by course occurrences failed (front ++ tasks.Settles ∷ []) came worn)
-occurs_by course occurrences failed front came None is =
-    settling (occurring_by course occurrences failed (front ++ tasks.Settles ∷ []) came None) front refl
-occurs_by course occurrences failed front came (Some number) is = is
+occurs_by : (course : Course) (failed : Bool) (front : List Task) (came : Acted) (worn : Option ℕ) → IsSettling course
+    → IsSettling (occurring_by course failed (front ++ tasks.Settles ∷ []) came worn)
+occurs_by course failed front came None is =
+    settling (occurring_by course failed (front ++ tasks.Settles ∷ []) came None) front refl
+occurs_by course failed front came (Some number) is = is
 
 occurs : (course : Course) (occurrences : List Occurrence) (failed : Bool) (front : List Task) → IsSettling course
     → IsSettling (occurring course occurrences failed (front ++ tasks.Settles ∷ []))
 occurs course occurrences failed front is =
-    let came : Acted = all_acted course.cluster occurrences in occurs_by course occurrences failed front came came.worn is
+    let came : Acted = all_acted course.cluster occurrences in occurs_by course failed front came came.worn is
 
 begins_by : (course : Course) (front : List Task) (b : Bool) → IsSettling course
     → IsSettling (if b then course else with_tasks course (front ++ tasks.Settles ∷ []))
@@ -53,38 +53,38 @@ begins_by course front true is = is
 begins_by course front false is = settling (with_tasks course (front ++ tasks.Settles ∷ [])) front refl
 
 -- a move
-by_tasks : (course : Course) (called : Called) (front : List Task) → IsSettling course → IsSettling (moved_by course called (front ++ tasks.Settles ∷ []))
-by_tasks course called [] is = last_by course (is_at_rest course.cluster) refl
-by_tasks course called (tasks.Occurs lane act ∷ front) is = occurs course (act_makes course.cluster lane act) false front is
-by_tasks course called (tasks.Delivers lane number ∷ front) is =
-    occurs course (deliver_in_makes course.cluster lane number called) (is_lost_at_backup course.cluster lane number called) front is
-by_tasks course called (tasks.Begins ∷ front) is = begins_by course front (is_at_limit course) is
-by_tasks course called (tasks.Ends ∷ front) is = settling (round_over course (front ++ tasks.Settles ∷ [])) front refl
-by_tasks course called (task ∷ front) is =
-    settling (moved_by course called (task ∷ front ++ tasks.Settles ∷ [])) (unfolded course.cluster task ++ front)
+by_tasks : (course : Course) (fate : Fate) (front : List Task) → IsSettling course → IsSettling (moved_by course fate (front ++ tasks.Settles ∷ []))
+by_tasks course fate [] is = last_by course (is_at_rest course.cluster) refl
+by_tasks course fate (tasks.Occurs lane act ∷ front) is = occurs course (act_makes course.cluster lane act) false front is
+by_tasks course fate (tasks.Delivers lane number ∷ front) is =
+    occurs course (deliver_in_makes course.cluster lane number fate) (is_lost_at_backup course.cluster lane number fate) front is
+by_tasks course fate (tasks.Begins ∷ front) is = begins_by course front (is_at_limit course) is
+by_tasks course fate (tasks.Ends ∷ front) is = settling (round_over course (front ++ tasks.Settles ∷ [])) front refl
+by_tasks course fate (task ∷ front) is =
+    settling (moved_by course fate (task ∷ front ++ tasks.Settles ∷ [])) (unfolded course.cluster task ++ front)
     (sym (append_assoc (unfolded course.cluster task) front (tasks.Settles ∷ [])))
 
-moves : (course : Course) (called : Called) → IsSettling course → IsSettling (moved course called)
-moves course called is =
+moves : (course : Course) (fate : Fate) → IsSettling course → IsSettling (moved course fate)
+moves course fate is =
     ⊎_elim
-    (λ (last : SettlesLast course.tasks). subst (λ (left : List Task). IsSettling (moved_by course called left)) (sym last.is) (by_tasks course called last.front is))
+    (λ (last : SettlesLast course.tasks). subst (λ (left : List Task). IsSettling (moved_by course fate left)) (sym last.is) (by_tasks course fate last.front is))
     (λ (over : (course.tasks ≡ []) × (is_at_rest course.cluster ≡ true)).
-    subst (λ (left : List Task). IsSettling (moved_by course called left)) (sym over.0) is) is
+    subst (λ (left : List Task). IsSettling (moved_by course fate left)) (sym over.0) is) is
 
-all_moves : (course : Course) (calls : List Called) → IsSettling course → IsSettling (moved_all course calls)
+all_moves : (course : Course) (fates : List Fate) → IsSettling course → IsSettling (moved_all course fates)
 all_moves course [] is = is
-all_moves course (called ∷ calls) is = all_moves (moved course called) calls (moves course called is)
+all_moves course (fate ∷ fates) is = all_moves (moved course fate) fates (moves course fate is)
 
 -- some task is left where the last one settles
 some_left : (left front : List Task) → left ≡ front ++ tasks.Settles ∷ [] → left ≡ [] → ⊥
 some_left left [] is none = let never : [] ≡ tasks.Settles ∷ [] = sym none ∙ is in cc never
 some_left left (task ∷ front) is none = let never : [] ≡ task ∷ front ++ tasks.Settles ∷ [] = sym none ∙ is in cc never
 
-pub settled_rests : (cluster : Cluster) (calls : List Called) → (moved_all (course_of cluster (settle cluster)) calls).tasks ≡ []
-    → is_at_rest (moved_all (course_of cluster (settle cluster)) calls).cluster ≡ true
-settled_rests cluster calls none =
-    let end : Course = moved_all (course_of cluster (settle cluster)) calls in
+pub settled_rests : (cluster : Cluster) (fates : List Fate) → (moved_all (course_of cluster (settle cluster)) fates).tasks ≡ []
+    → is_at_rest (moved_all (course_of cluster (settle cluster)) fates).cluster ≡ true
+settled_rests cluster fates none =
+    let end : Course = moved_all (course_of cluster (settle cluster)) fates in
     ⊎_elim
     (λ (last : SettlesLast end.tasks). absurd (some_left end.tasks last.front last.is none))
     (λ (over : (end.tasks ≡ []) × (is_at_rest end.cluster ≡ true)). over.1)
-    (all_moves (course_of cluster (settle cluster)) calls (settling (course_of cluster (settle cluster)) (map tasks.Notices (lane_numbers cluster)) refl))
+    (all_moves (course_of cluster (settle cluster)) fates (settling (course_of cluster (settle cluster)) (map tasks.Notices (lane_numbers cluster)) refl))

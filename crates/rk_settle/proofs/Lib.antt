@@ -1,3 +1,4 @@
+pub mod Keeping
 pub mod Courses
 pub mod Failing
 pub mod Moving
@@ -13,3 +14,4 @@ pub mod Occurred
 mod Examples
 pub mod Making
 pub mod AtRest
+pub mod Lossless

@@ -1,14 +1,17 @@
 -- The moves of a command in code, one after the other.
 use Rattle.std.proofs.Common.{◌≡◌, ℕ, ◌+◌, ◌<◌, ◌≤◌, Bool, true, false, nat_le, List, [], ◌∷◌, ◌++◌, Option, None, Some, if◌then◌else◌, refl, sym, ap, subst, ◌∙◌}
-use Rattle.std.specs.Bool.{⊤}
 use Rattle.std.proofs.lemmas.Bool.{le-leb, lt-leb}
+use Rattle.std.proofs.lemmas.List.{append-nil}
 use Rattle.std.proofs.lemmas.List.Sums.{fold-append}
 use Rattle.rk_outside.specs.Segments.{Segments}
-use Rattle.rk_world.specs.Backup.{Called, Gave}
+use Rattle.rk_types.specs.declared.node.Said.{Said}
 use Rattle.rk_world.specs.Cluster.{Cluster}
+use Rattle.rk_cluster.specs.Faults.{CountsGoOn, counts_in}
+use Rattle.rk_cluster.specs.Replicas.{Fate, Kept}
 use Rattle.rk_cluster.specs.State.{ClusterState}
+use Rattle.rk_cluster.proofs.Faults.{counts_same, counts_then, go_on_kept}
 use Rattle.rk_settle.specs.Course.{Course, MOST_FAULTS, error_by, moved, moved_all, moved_by, round_over, with_tasks}
-use Rattle.rk_settle.specs.Outcomes.{IsStopped}
+use Rattle.rk_settle.specs.Outcomes.{IsStopped, Keeps}
 use Rattle.rk_settle.specs.States.{ClusterTells, IsCourse, Moves, Stops}
 use Rattle.rk_settle.specs.Unfolding.{unfolded}
 use Rattle.rk_settle.specs.declared.course.Progress.{Progress}
@@ -17,22 +20,35 @@ use Rattle.rk_settle.specs.declared.error.SettleError.TheVariants as errors
 use Rattle.rk_settle.specs.declared.task.Act.{Act}
 use Rattle.rk_settle.specs.declared.task.Task.{Task}
 use Rattle.rk_settle.specs.declared.task.Task.TheVariants as made
+use Rattle.rk_settle.proofs.Keeping.{keeps_same, keeps_then}
 
 -- some moves were made
-pub record MovesAll {R : Type 0} (segments : R → Option Segments) (old new : ClusterState R) (before after : List Task) (was is : Progress) : Type 0 where
-  pub calls : List Called
-  pub moves : (start : Cluster) (course : Course) → IsCourse segments start old before was course → IsCourse segments start new after is (moved_all course calls)
+pub record MovesAll {R : Type 0} (segments : R → Option Segments) (faults : R → ℕ) (old new : ClusterState R) (before after : List Task) (was is : Progress) : Type 0 where
+  pub fates : List Fate
+  pub counts : CountsGoOn faults fates old new
+  pub kept : Keeps was.said.items is.said.items
+  pub moves : (start : Cluster) (had : List Said) (course : Course) → IsCourse segments start had old before was course
+      → IsCourse segments start had new after is (moved_all course fates)
 
--- a command stopped after some moves
-pub record StopsAfter {R : Type 0} (segments : R → Option Segments) (old new : ClusterState R) (left : List Task) (progress : Progress) (error : SettleError) : Type 0 where
-  pub calls : List Called
-  pub stopped : (start : Cluster) (course : Course) → IsCourse segments start old left progress course → IsStopped segments start new error (moved_all course calls)
+-- a command stopped after some moves, and clients have said this
+pub record StopsAfter {R : Type 0} (segments : R → Option Segments) (faults : R → ℕ) (old new : ClusterState R) (left : List Task) (progress : Progress) (has : List Said) (error : SettleError) : Type 0 where
+  pub fates : List Fate
+  pub counts : CountsGoOn faults fates old new
+  pub stopped : (start : Cluster) (had : List Said) (course : Course) → IsCourse segments start had old left progress course
+      → IsStopped segments start new had has error (moved_all course fates)
 
--- so where it is worn or replicas failed; nothing is said where memory was wanting, or where it made more moves than are counted
-abbrev pub StopsIn : {R : Type 0} → (R → Option Segments) → ClusterState R → ClusterState R → List Task → Progress → SettleError → Type 0
-StopsIn segments old new left progress errors.NoMemory = ⊤
-StopsIn segments old new left progress errors.TooLong = ⊤
-StopsIn segments old new left progress error = StopsAfter segments old new left progress error
+-- clients have said this after some moves
+pub record SaysAfter {R : Type 0} (segments : R → Option Segments) (faults : R → ℕ) (old new : ClusterState R) (left : List Task) (progress : Progress) (has : List Said) : Type 0 where
+  pub fates : List Fate
+  pub counts : CountsGoOn faults fates old new
+  pub said : (start : Cluster) (had : List Said) (course : Course) → IsCourse segments start had old left progress course
+      → had ++ (moved_all course fates).said ≡ has
+
+-- so if a lane is worn or replicas failed; if memory was wanting, or it made more moves than are counted, only what clients said is known
+abbrev pub StopsIn : {R : Type 0} → (R → Option Segments) → (R → ℕ) → ClusterState R → ClusterState R → List Task → Progress → List Said → SettleError → Type 0
+StopsIn segments faults old new left progress has errors.NoMemory = SaysAfter segments faults old new left progress has
+StopsIn segments faults old new left progress has errors.TooLong = SaysAfter segments faults old new left progress has
+StopsIn segments faults old new left progress has error = StopsAfter segments faults old new left progress has error
 
 -- a smaller number is below a limit
 below_limit : (limit count : ℕ) → count < limit → nat_le limit count ≡ false
@@ -51,7 +67,7 @@ pub record Unfolds (task : Task) : Type 0 where
 
 -- such a task unfolds
 moved_unfolding : (course : Course) (task : Task) (rest : List Task) → Unfolds task
-    → moved_by course (Gave None) (task ∷ rest) ≡ with_tasks course (unfolded course.cluster task ++ rest)
+    → moved_by course Kept (task ∷ rest) ≡ with_tasks course (unfolded course.cluster task ++ rest)
 moved_unfolding course (made.Occurs lane act) rest is = absurd (is.occurs lane act refl)
 moved_unfolding course (made.Delivers lane number) rest is = absurd (is.delivers lane number refl)
 moved_unfolding course made.Begins rest is = absurd (is.begins refl)
@@ -72,28 +88,32 @@ moved_unfolding course (made.Advances lane tablet reach) rest is = refl
 moved_unfolding course (made.Reaches lane tablet reach) rest is = refl
 moved_unfolding course (made.Freezes lane tablet master) rest is = refl
 
-module _ {R : Type 0} (segments : R → Option Segments) (state : ClusterState R) where
+module _ {R : Type 0} (segments : R → Option Segments) (faults : R → ℕ) (state : ClusterState R) where
   -- a round begins
   pub begins_moves : (task : Task) (rest : List Task) (was is : Progress) → task ≡ made.Begins → was.faults < MOST_FAULTS → is ≡ was
-      → Moves segments state state (task ∷ rest) rest was is
+      → Moves segments faults state state (task ∷ rest) rest was is
   begins_moves task rest was is begins below same = record {
-    called = Gave None;
-    moves = λ start course stands.
-        subst (λ (left : List Task). IsCourse segments start state rest is (moved_by course (Gave None) left)) (sym (stands.tasks ∙ ap (λ (first : Task). first ∷ rest) begins))
-        (subst (λ (b : Bool). IsCourse segments start state rest is (if b then course else with_tasks course rest))
+    fate = Kept;
+    counts = go_on_kept (counts_in faults state.lanes) (counts_in faults state.lanes) (counts_same faults state);
+    kept = subst (λ (progress : Progress). Keeps was.said.items progress.said.items) (sym same) (keeps_same was.said.items);
+    moves = λ start had course stands.
+        subst (λ (left : List Task). IsCourse segments start had state rest is (moved_by course Kept left)) (sym (stands.tasks ∙ ap (λ (first : Task). first ∷ rest) begins))
+        (subst (λ (b : Bool). IsCourse segments start had state rest is (if b then course else with_tasks course rest))
         (sym (ap (nat_le MOST_FAULTS) stands.faults ∙ below_limit MOST_FAULTS was.faults below))
-        (subst (λ (progress : Progress). IsCourse segments start state rest progress (with_tasks course rest)) (sym same)
+        (subst (λ (progress : Progress). IsCourse segments start had state rest progress (with_tasks course rest)) (sym same)
         (record { cluster = stands.cluster; leads = stands.leads; tasks = refl; said = stands.said; faults = stands.faults; failing = stands.failing })));
   }
 
   -- a round is over
   pub ends_moves : (task : Task) (rest : List Task) (was is : Progress) → task ≡ made.Ends
-      → is ≡ (record was { faults = was.faults + (if was.failing then 1 else 0); failing = false }) → Moves segments state state (task ∷ rest) rest was is
+      → is ≡ (record was { faults = was.faults + (if was.failing then 1 else 0); failing = false }) → Moves segments faults state state (task ∷ rest) rest was is
   ends_moves task rest was is ends so = record {
-    called = Gave None;
-    moves = λ start course stands.
-        subst (λ (left : List Task). IsCourse segments start state rest is (moved_by course (Gave None) left)) (sym (stands.tasks ∙ ap (λ (first : Task). first ∷ rest) ends))
-        (subst (λ (progress : Progress). IsCourse segments start state rest progress (round_over course rest)) (sym so)
+    fate = Kept;
+    counts = go_on_kept (counts_in faults state.lanes) (counts_in faults state.lanes) (counts_same faults state);
+    kept = subst (λ (progress : Progress). Keeps was.said.items progress.said.items) (sym so) (keeps_same was.said.items);
+    moves = λ start had course stands.
+        subst (λ (left : List Task). IsCourse segments start had state rest is (moved_by course Kept left)) (sym (stands.tasks ∙ ap (λ (first : Task). first ∷ rest) ends))
+        (subst (λ (progress : Progress). IsCourse segments start had state rest progress (round_over course rest)) (sym so)
         (record {
           cluster = stands.cluster;
           leads = stands.leads;
@@ -106,12 +126,14 @@ module _ {R : Type 0} (segments : R → Option Segments) (state : ClusterState R
 
   -- a task unfolds
   pub unfolds_moves : (task : Task) (rest after : List Task) (progress : Progress) → Unfolds task
-      → ClusterTells segments state (λ cluster. unfolded cluster task ++ rest) after → Moves segments state state (task ∷ rest) after progress progress
+      → ClusterTells segments state (λ cluster. unfolded cluster task ++ rest) after → Moves segments faults state state (task ∷ rest) after progress progress
   unfolds_moves task rest after progress unfolds tells = record {
-    called = Gave None;
-    moves = λ start course stands.
-        subst (λ (left : List Task). IsCourse segments start state after progress (moved_by course (Gave None) left)) (sym stands.tasks)
-        (subst (λ (next : Course). IsCourse segments start state after progress next) (sym (moved_unfolding course task rest unfolds))
+    fate = Kept;
+    counts = go_on_kept (counts_in faults state.lanes) (counts_in faults state.lanes) (counts_same faults state);
+    kept = keeps_same progress.said.items;
+    moves = λ start had course stands.
+        subst (λ (left : List Task). IsCourse segments start had state after progress (moved_by course Kept left)) (sym stands.tasks)
+        (subst (λ (next : Course). IsCourse segments start had state after progress next) (sym (moved_unfolding course task rest unfolds))
         (record { cluster = stands.cluster; leads = stands.leads; tasks = tells course.cluster stands.cluster; said = stands.said; faults = stands.faults; failing = stands.failing }));
   }
 
@@ -120,36 +142,68 @@ module _ {R : Type 0} (segments : R → Option Segments) (state : ClusterState R
       → Stops segments state state (task ∷ rest) progress e
   begins_stops task rest progress e begins is above =
       subst (Stops segments state state (task ∷ rest) progress) (sym is)
-      (λ start course stands. record {
+      (λ start had course stands. record {
         cluster = stands.cluster;
         leads = stands.leads;
+        said = stands.said;
         stops =
             ap (error_by course) (stands.tasks ∙ ap (λ (first : Task). first ∷ rest) begins)
             ∙ ap (λ (b : Bool). if b then Some (errors.Replica course.faults) else None) (ap (nat_le MOST_FAULTS) stands.faults ∙ at_limit MOST_FAULTS progress.faults above)
             ∙ ap (λ (count : ℕ). Some (errors.Replica count)) stands.faults;
       })
 
-module _ {R : Type 0} (segments : R → Option Segments) where
+module _ {R : Type 0} (segments : R → Option Segments) (faults : R → ℕ) where
   -- no move yet
-  pub none_moved : (state : ClusterState R) (left : List Task) (progress : Progress) → MovesAll segments state state left left progress progress
-  none_moved state left progress = record { calls = []; moves = λ start course stands. stands }
+  pub none_moved : (state : ClusterState R) (left : List Task) (progress : Progress) → MovesAll segments faults state state left left progress progress
+  none_moved state left progress = record {
+    fates = [];
+    counts = counts_same faults state;
+    kept = keeps_same progress.said.items;
+    moves = λ start had course stands. stands;
+  }
 
   -- one more move
-  pub one_more : (begun now next : ClusterState R) (first left after : List Task) (was is later : Progress) → MovesAll segments begun now first left was is
-      → Moves segments now next left after is later → MovesAll segments begun next first after was later
+  pub one_more : (begun now next : ClusterState R) (first left after : List Task) (was is later : Progress) → MovesAll segments faults begun now first left was is
+      → Moves segments faults now next left after is later → MovesAll segments faults begun next first after was later
   one_more begun now next first left after was is later all move = record {
-    calls = all.calls ++ move.called ∷ [];
-    moves = λ start course stands.
-        subst (λ (it : Course). IsCourse segments start next after later it) (sym (fold-append moved course all.calls (move.called ∷ [])))
-        (move.moves start (moved_all course all.calls) (all.moves start course stands));
+    fates = all.fates ++ move.fate ∷ [];
+    counts = counts_then faults all.fates (move.fate ∷ []) begun now next all.counts move.counts;
+    kept = keeps_then was.said.items is.said.items later.said.items all.kept move.kept;
+    moves = λ start had course stands.
+        subst (λ (it : Course). IsCourse segments start had next after later it) (sym (fold-append moved course all.fates (move.fate ∷ [])))
+        (move.moves start had (moved_all course all.fates) (all.moves start had course stands));
+  }
+
+  -- the counts rose in the moves so far, and fall no more
+  counts_on : (begun now next : ClusterState R) (fates : List Fate) → CountsGoOn faults fates begun now → CountsGoOn faults [] now next → CountsGoOn faults fates begun next
+  counts_on begun now next fates so on =
+      subst (λ (all : List Fate). CountsGoOn faults all begun next) (append-nil fates) (counts_then faults fates [] begun now next so on)
+
+  stops_after : (begun now next : ClusterState R) (first left : List Task) (was is : Progress) (e : SettleError) → (all : MovesAll segments faults begun now first left was is)
+      → CountsGoOn faults [] now next
+      → ((start : Cluster) (had : List Said) (course : Course) → IsCourse segments start had now left is course → IsStopped segments start next had is.said.items e course)
+      → StopsAfter segments faults begun next first was is.said.items e
+  stops_after begun now next first left was is e all on stops = record {
+    fates = all.fates;
+    counts = counts_on begun now next all.fates all.counts on;
+    stopped = λ start had course stands. stops start had (moved_all course all.fates) (all.moves start had course stands);
+  }
+
+  -- clients have said what they said in the moves so far
+  pub says_after : (begun now next : ClusterState R) (first left : List Task) (was is : Progress) → MovesAll segments faults begun now first left was is
+      → CountsGoOn faults [] now next → SaysAfter segments faults begun next first was is.said.items
+  says_after begun now next first left was is all on = record {
+    fates = all.fates;
+    counts = counts_on begun now next all.fates all.counts on;
+    said = λ start had course stands. (all.moves start had course stands).said;
   }
 
   -- what stops now stops after the moves so far
-  pub stops_in : (begun now next : ClusterState R) (first left : List Task) (was is : Progress) (e : SettleError) → MovesAll segments begun now first left was is
-      → Stops segments now next left is e → StopsIn segments begun next first was e
-  stops_in begun now next first left was is errors.NoMemory all stops = tt
-  stops_in begun now next first left was is errors.TooLong all stops = tt
-  stops_in begun now next first left was is (errors.Worn number) all stops =
-      record { calls = all.calls; stopped = λ start course stands. stops start (moved_all course all.calls) (all.moves start course stands) }
-  stops_in begun now next first left was is (errors.Replica rounds) all stops =
-      record { calls = all.calls; stopped = λ start course stands. stops start (moved_all course all.calls) (all.moves start course stands) }
+  pub stops_in : (begun now next : ClusterState R) (first left : List Task) (was is : Progress) (e : SettleError) → MovesAll segments faults begun now first left was is
+      → CountsGoOn faults [] now next → Stops segments now next left is e → StopsIn segments faults begun next first was is.said.items e
+  stops_in begun now next first left was is errors.NoMemory all on stops = says_after begun now next first left was is all on
+  stops_in begun now next first left was is errors.TooLong all on stops = says_after begun now next first left was is all on
+  stops_in begun now next first left was is (errors.Worn number) all on stops =
+      stops_after begun now next first left was is (errors.Worn number) all on stops
+  stops_in begun now next first left was is (errors.Replica rounds) all on stops =
+      stops_after begun now next first left was is (errors.Replica rounds) all on stops

@@ -1,25 +1,31 @@
 -- What occurs in the course of a command makes its cluster, and may occur there at any time.
-use Rattle.std.proofs.Common.{◌≡◌, ℕ, ◌<◌, Bool, true, false, List, [], ◌∷◌, ◌++◌, All, Option, None, Some, if◌then◌else◌, refl, sym, ap, subst, ◌∙◌}
+use Rattle.std.proofs.Common.{◌≡◌, ℕ, ◌<◌, Bool, true, false, List, [], ◌∷◌, ◌++◌, All, Option, None, Some, Result, Ok, Err, if◌then◌else◌, refl, sym, ap, subst, ◌∙◌}
 use Rattle.std.specs.Int.{w32}
 use Rattle.std.proofs.lemmas.List.{append-nil}
 use Rattle.std.proofs.lemmas.List.Elements.{All-append, All-cons, All-head, All-nil, All-tail}
-use Rattle.std.proofs.lemmas.Option.{none-some}
 use Rattle.rk_types.specs.NumberMap.{get}
 use Rattle.rk_types.specs.declared.hashing.TheConstants.{LANES}
 use Rattle.rk_types.specs.declared.node.Node.{Node}
 use Rattle.rk_types.specs.declared.node.Node.TheVariants as nodes
 use Rattle.rk_entry.specs.Numbers.{IsNumber}
 use Rattle.rk_message.specs.declared.message.Message.{Message}
-use Rattle.rk_world.specs.Backup.{Called}
-use Rattle.rk_world.specs.Cluster.{Accepts, Asks, Calls, Cluster, Happens, Joins, Occurrence, cluster_after, cluster_run, lane_at}
+use Rattle.rk_world.specs.declared.error.StepError.{StepError}
+use Rattle.rk_world.specs.Backup.{Gave}
+use Rattle.rk_world.specs.Calls.{Visited, accept, ask}
+use Rattle.rk_world.specs.Cluster.{Accepts, Asks, Calls, Cluster, Happens, Joins, Occurrence, cluster_after, cluster_run, cluster_stepped, cluster_visited, lane_at, session_at}
 use Rattle.rk_world.specs.Premises.{MayHappen}
-use Rattle.rk_world.specs.World.{new_world}
+use Rattle.rk_world.specs.Replicas.{IsTold}
+use Rattle.rk_world.specs.Step.{Stepped, step}
+use Rattle.rk_world.specs.World.{World, new_world}
 use Rattle.rk_world.specs.declared.event.Event.{Event}
 use Rattle.rk_world.specs.declared.event.Event.TheVariants as events
-use Rattle.rk_cluster.specs.Acted.{acted, all_acted, going_on}
+use Rattle.rk_lane.specs.Events.{receiver_by}
+use Rattle.rk_cluster.specs.Acted.{Acted, acted, all_acted, came_in, going_on}
 use Rattle.rk_cluster.specs.Delivering.{is_lost_at_backup}
 use Rattle.rk_cluster.specs.Makes.{deliver_in_makes, delivery, delivery_of, has_receiver}
+use Rattle.rk_cluster.specs.Replicas.{Fate, left_by}
 use Rattle.rk_cluster.specs.Steps.{IsPlain}
+use Rattle.rk_cluster.proofs.Leading.{runs_join}
 use Rattle.rk_settle.specs.Course.{Course, act_makes, has_actor, is_at_limit, moved, moved_by, occurring, occurring_by, with_tasks}
 use Rattle.rk_settle.specs.Lawful.{AreTasks, IsAct, IsTask}
 use Rattle.rk_settle.specs.Tasks.{occurrence_of}
@@ -40,20 +46,66 @@ acted_is cluster (Calls client table key op) = refl
 acted_is cluster (Asks lane client) = refl
 acted_is cluster (Accepts lane number client) = refl
 
-acted_by : (cluster : Cluster) (occurrence : Occurrence) (later : List Occurrence)
-    → ((next : Cluster) → (all_acted next later).worn ≡ None → (all_acted next later).cluster ≡ cluster_run next later)
-    → (worn : Option ℕ) → (acted cluster occurrence).worn ≡ worn → (going_on (acted cluster occurrence) worn (λ next. all_acted next later)).worn ≡ None
-    → (going_on (acted cluster occurrence) worn (λ next. all_acted next later)).cluster ≡ cluster_run cluster (occurrence ∷ later)
-acted_by cluster occurrence later rest None is none =
-    rest (acted cluster occurrence).cluster none ∙ ap (λ (next : Cluster). cluster_run next later) (acted_is cluster occurrence)
-acted_by cluster occurrence later rest (Some number) is none = absurd (none-some number (sym none ∙ is))
+-- so is it after those that came: one that is refused changes nothing
+stepped_is : (cluster : Cluster) (lane : ℕ) (occurrence : Occurrence) (stepped : Result Stepped StepError) → cluster_after cluster occurrence ≡ cluster_stepped cluster lane stepped
+    → cluster_stepped cluster lane stepped ≡ cluster_run cluster (came_in occurrence stepped)
+stepped_is cluster lane occurrence (Ok stepped) is = sym is
+stepped_is cluster lane occurrence (Err error) is = refl
 
--- so is it after some, one after the other, where no lane was worn
-pub acted_all_is : (cluster : Cluster) (occurrences : List Occurrence) → (all_acted cluster occurrences).worn ≡ None
-    → (all_acted cluster occurrences).cluster ≡ cluster_run cluster occurrences
-acted_all_is cluster [] none = refl
-acted_all_is cluster (occurrence ∷ later) none =
-    acted_by cluster occurrence later (λ next. acted_all_is next later) (acted cluster occurrence).worn refl none
+visited_is : (cluster : Cluster) (lane client : ℕ) (occurrence : Occurrence) (visited : Result Visited StepError) → cluster_after cluster occurrence ≡ cluster_visited cluster lane client visited
+    → cluster_visited cluster lane client visited ≡ cluster_run cluster (came_in occurrence visited)
+visited_is cluster lane client occurrence (Ok visited) is = sym is
+visited_is cluster lane client occurrence (Err error) is = refl
+
+pub came_is : (cluster : Cluster) (occurrence : Occurrence) → (acted cluster occurrence).cluster ≡ cluster_run cluster (acted cluster occurrence).came
+came_is cluster (Happens lane event called) = stepped_is cluster lane (Happens lane event called) (step (lane_at cluster lane) event called) refl
+came_is cluster (Joins client) = refl
+came_is cluster (Calls client table key op) = refl
+came_is cluster (Asks lane client) = visited_is cluster lane client (Asks lane client) (ask (lane_at cluster lane) (session_at cluster client)) refl
+came_is cluster (Accepts lane number client) =
+    visited_is cluster lane client (Accepts lane number client) (accept (lane_at cluster lane) number (session_at cluster client)) refl
+
+going_is : (cluster : Cluster) (occurrence : Occurrence) (next : Cluster → Acted) → ((after : Cluster) → (next after).cluster ≡ cluster_run after (next after).came) → (worn : Option ℕ)
+    → (going_on (acted cluster occurrence) worn next).cluster ≡ cluster_run cluster (going_on (acted cluster occurrence) worn next).came
+going_is cluster occurrence next rest None =
+    let first : Acted = acted cluster occurrence in
+    rest first.cluster
+    ∙ ap (λ (after : Cluster). cluster_run after (next first.cluster).came) (came_is cluster occurrence)
+    ∙ sym (runs_join cluster first.came (next first.cluster).came)
+going_is cluster occurrence next rest (Some number) = came_is cluster occurrence
+
+-- so is it after some, one after the other
+pub acted_all_is : (cluster : Cluster) (occurrences : List Occurrence) → (all_acted cluster occurrences).cluster ≡ cluster_run cluster (all_acted cluster occurrences).came
+acted_all_is cluster [] = refl
+acted_all_is cluster (occurrence ∷ later) =
+    going_is cluster occurrence (λ next. all_acted next later) (λ next. acted_all_is next later) (acted cluster occurrence).worn
+
+-- ---- what came was to come
+
+module _ (Holds : Occurrence → Type 0) where
+  answered_come : {T : Type 0} (occurrence : Occurrence) (answer : Result T StepError) → Holds occurrence → All Holds (came_in occurrence answer)
+  answered_come occurrence (Ok answer) holds = All-cons Holds occurrence [] holds (All-nil Holds)
+  answered_come occurrence (Err error) holds = All-nil Holds
+
+  one_come : (cluster : Cluster) (occurrence : Occurrence) → Holds occurrence → All Holds (acted cluster occurrence).came
+  one_come cluster (Happens lane event called) holds = answered_come (Happens lane event called) (step (lane_at cluster lane) event called) holds
+  one_come cluster (Joins client) holds = All-cons Holds (Joins client) [] holds (All-nil Holds)
+  one_come cluster (Calls client table key op) holds = All-cons Holds (Calls client table key op) [] holds (All-nil Holds)
+  one_come cluster (Asks lane client) holds = answered_come (Asks lane client) (ask (lane_at cluster lane) (session_at cluster client)) holds
+  one_come cluster (Accepts lane number client) holds =
+      answered_come (Accepts lane number client) (accept (lane_at cluster lane) number (session_at cluster client)) holds
+
+  going_come : (first : Acted) (worn : Option ℕ) (next : Cluster → Acted) → All Holds first.came → ((after : Cluster) → All Holds (next after).came)
+      → All Holds (going_on first worn next).came
+  going_come first None next come rest = All-append Holds first.came (next first.cluster).came come (rest first.cluster)
+  going_come first (Some number) next come rest = come
+
+  -- what holds of each that was to come holds of each that came
+  pub all_come : (cluster : Cluster) (occurrences : List Occurrence) → All Holds occurrences → All Holds (all_acted cluster occurrences).came
+  all_come cluster [] all = All-nil Holds
+  all_come cluster (occurrence ∷ later) all =
+      going_come (acted cluster occurrence) (acted cluster occurrence).worn (λ next. all_acted next later) (one_come cluster occurrence (All-head Holds occurrence later all))
+      (λ next. all_come next later (All-tail Holds occurrence later all))
 
 -- ---- what may occur
 
@@ -75,6 +127,62 @@ plain_crashes_none : (event : Event) → IsPlain event → IsNoCrash event
 plain_crashes_none (events.Crash master) plain = absurd plain
 plain_crashes_none event plain = tt
 
+-- ---- what replicas answer
+
+-- where a replica is called, it answers what it stores, or fails
+abbrev pub IsToldAt : Cluster → Occurrence → Type 0
+IsToldAt cluster (Happens lane event called) = IsTold (lane_at cluster lane) event called
+IsToldAt cluster occurrence = Unit {0}
+
+-- so it is at each of these
+abbrev pub AreToldFrom : Cluster → List Occurrence → Type 0
+AreToldFrom cluster [] = Unit {0}
+AreToldFrom cluster (occurrence ∷ later) = IsToldAt cluster occurrence × AreToldFrom (cluster_after cluster occurrence) later
+
+answered_told : {T : Type 0} (cluster : Cluster) (occurrence : Occurrence) (answer : Result T StepError) → IsToldAt cluster occurrence → AreToldFrom cluster (came_in occurrence answer)
+answered_told cluster occurrence (Ok answer) told = (told, tt)
+answered_told cluster occurrence (Err error) told = tt
+
+one_told : (cluster : Cluster) (occurrence : Occurrence) → IsToldAt cluster occurrence → AreToldFrom cluster (acted cluster occurrence).came
+one_told cluster (Happens lane event called) told = answered_told cluster (Happens lane event called) (step (lane_at cluster lane) event called) told
+one_told cluster (Joins client) told = (tt, tt)
+one_told cluster (Calls client table key op) told = (tt, tt)
+one_told cluster (Asks lane client) told = answered_told cluster (Asks lane client) (ask (lane_at cluster lane) (session_at cluster client)) tt
+one_told cluster (Accepts lane number client) told = answered_told cluster (Accepts lane number client) (accept (lane_at cluster lane) number (session_at cluster client)) tt
+
+alone_told : (cluster : Cluster) (first : Acted) (worn : Option ℕ) → AreToldFrom cluster first.came → AreToldFrom cluster (going_on first worn (λ next. all_acted next [])).came
+alone_told cluster first None told = subst (AreToldFrom cluster) (sym (append-nil first.came)) told
+alone_told cluster first (Some number) told = told
+
+-- what comes of one thing, if it is to occur
+where_told : (cluster : Cluster) (b : Bool) (occurrence : Occurrence) → IsToldAt cluster occurrence → AreToldFrom cluster (all_acted cluster (if b then occurrence ∷ [] else [])).came
+where_told cluster true occurrence told = alone_told cluster (acted cluster occurrence) (acted cluster occurrence).worn (one_told cluster occurrence told)
+where_told cluster false occurrence told = tt
+
+-- a plain event calls no replica
+plain_told : (w : World) (event : Event) → IsPlain event → IsTold w event (Gave None)
+plain_told w (events.Deliver number) plain = absurd plain
+plain_told w _ plain = record { fault = None; told = refl }
+
+act_told : (masters : ℕ) (cluster : Cluster) (lane : ℕ) (act : Act) → IsAct masters act → IsToldAt cluster (occurrence_of lane act)
+act_told masters cluster lane (acts.Happens event) is = plain_told (lane_at cluster lane) event is.0
+act_told masters cluster lane (acts.Asks client) is = tt
+
+delivery_told : (cluster : Cluster) (lane number : ℕ) (fate : Fate) (to : Node) → IsToldAt cluster (delivery cluster lane number fate to)
+delivery_told cluster lane number fate (nodes.Client client) = tt
+delivery_told cluster lane number fate nodes.Coordinator = record { fault = left_by fate lane (receiver_by (events.Deliver number) (lane_at cluster lane).wire); told = refl }
+delivery_told cluster lane number fate (nodes.Master master) = record { fault = left_by fate lane (receiver_by (events.Deliver number) (lane_at cluster lane).wire); told = refl }
+delivery_told cluster lane number fate (nodes.Backup backup) = record { fault = left_by fate lane (receiver_by (events.Deliver number) (lane_at cluster lane).wire); told = refl }
+
+message_told : (cluster : Cluster) (lane number : ℕ) (fate : Fate) (found : Option Message) → AreToldFrom cluster (all_acted cluster (delivery_of cluster lane number fate found)).came
+message_told cluster lane number fate None = tt
+message_told cluster lane number fate (Some message) =
+    where_told cluster (has_receiver cluster message.to) (delivery cluster lane number fate message.to) (delivery_told cluster lane number fate message.to)
+
+-- what comes of the delivery of a message
+pub delivered_told : (cluster : Cluster) (lane number : ℕ) (fate : Fate) → AreToldFrom cluster (all_acted cluster (deliver_in_makes cluster lane number fate)).came
+delivered_told cluster lane number fate = message_told cluster lane number fate (get (lane_at cluster lane).wire.messages number)
+
 module _ (masters : ℕ) where
   -- an act
   act_allowed : (lane : ℕ) (act : Act) → lane < LANES → IsAct masters act → IsAllowed masters (occurrence_of lane act)
@@ -86,19 +194,19 @@ module _ (masters : ℕ) where
   where_allowed false occurrence allowed = All-nil (IsAllowed masters)
 
   -- the delivery of a message
-  delivery_allowed : (lane number : ℕ) (called : Called) (to : Node) → lane < LANES → IsAllowed masters (delivery lane number called to)
-  delivery_allowed lane number called (nodes.Client client) inside = inside
-  delivery_allowed lane number called nodes.Coordinator inside = (inside, tt, tt)
-  delivery_allowed lane number called (nodes.Master master) inside = (inside, tt, tt)
-  delivery_allowed lane number called (nodes.Backup backup) inside = (inside, tt, tt)
+  delivery_allowed : (cluster : Cluster) (lane number : ℕ) (fate : Fate) (to : Node) → lane < LANES → IsAllowed masters (delivery cluster lane number fate to)
+  delivery_allowed cluster lane number fate (nodes.Client client) inside = inside
+  delivery_allowed cluster lane number fate nodes.Coordinator inside = (inside, tt, tt)
+  delivery_allowed cluster lane number fate (nodes.Master master) inside = (inside, tt, tt)
+  delivery_allowed cluster lane number fate (nodes.Backup backup) inside = (inside, tt, tt)
 
-  delivered_by : (cluster : Cluster) (lane number : ℕ) (called : Called) (found : Option Message) → lane < LANES → All (IsAllowed masters) (delivery_of cluster lane number called found)
-  delivered_by cluster lane number called None inside = All-nil (IsAllowed masters)
-  delivered_by cluster lane number called (Some message) inside =
-      where_allowed (has_receiver cluster message.to) (delivery lane number called message.to) (delivery_allowed lane number called message.to inside)
+  delivered_by : (cluster : Cluster) (lane number : ℕ) (fate : Fate) (found : Option Message) → lane < LANES → All (IsAllowed masters) (delivery_of cluster lane number fate found)
+  delivered_by cluster lane number fate None inside = All-nil (IsAllowed masters)
+  delivered_by cluster lane number fate (Some message) inside =
+      where_allowed (has_receiver cluster message.to) (delivery cluster lane number fate message.to) (delivery_allowed cluster lane number fate message.to inside)
 
-  pub delivered_allowed : (cluster : Cluster) (lane number : ℕ) (called : Called) → lane < LANES → All (IsAllowed masters) (deliver_in_makes cluster lane number called)
-  delivered_allowed cluster lane number called inside = delivered_by cluster lane number called (get (lane_at cluster lane).wire.messages number) inside
+  pub delivered_allowed : (cluster : Cluster) (lane number : ℕ) (fate : Fate) → lane < LANES → All (IsAllowed masters) (deliver_in_makes cluster lane number fate)
+  delivered_allowed cluster lane number fate inside = delivered_by cluster lane number fate (get (lane_at cluster lane).wire.messages number) inside
 
   -- ---- a move
 
@@ -109,6 +217,7 @@ module _ (masters : ℕ) where
     pub occurred : next.occurred ≡ course.occurred ++ occurrences
     pub cluster_is : next.cluster ≡ cluster_run course.cluster occurrences
     pub lawful : AreTasks masters course.tasks → NamesMasters masters course.cluster → All (IsAllowed masters) occurrences × AreTasks masters next.tasks
+    pub told : AreTasks masters course.tasks → AreToldFrom course.cluster occurrences
 
   module _ (course : Course) where
     -- one at which nothing occurs
@@ -119,6 +228,7 @@ module _ (masters : ℕ) where
       occurred = occurred ∙ sym (append-nil course.occurred);
       cluster_is = cluster;
       lawful = λ are names. (All-nil (IsAllowed masters), lawful are names);
+      told = λ are. tt;
     }
 
     stays : IsMove course course
@@ -132,18 +242,20 @@ module _ (masters : ℕ) where
       rest_are are = All-tail (IsTask masters) task rest (subst (AreTasks masters) is are)
 
       occurs_by : (occurrences : List Occurrence) (failed : Bool) → (IsTask masters task → All (IsAllowed masters) occurrences)
-          → (worn : Option ℕ) → (all_acted course.cluster occurrences).worn ≡ worn
-          → IsMove course (occurring_by course occurrences failed rest (all_acted course.cluster occurrences) worn)
-      occurs_by occurrences failed allowed None none = record {
-        occurrences = occurrences;
+          → (IsTask masters task → AreToldFrom course.cluster (all_acted course.cluster occurrences).came) → (worn : Option ℕ) → (all_acted course.cluster occurrences).worn ≡ worn
+          → IsMove course (occurring_by course failed rest (all_acted course.cluster occurrences) worn)
+      occurs_by occurrences failed allowed told None none = record {
+        occurrences = (all_acted course.cluster occurrences).came;
         occurred = refl;
-        cluster_is = acted_all_is course.cluster occurrences none;
-        lawful = λ are names. (allowed (first_is are), rest_are are);
+        cluster_is = acted_all_is course.cluster occurrences;
+        lawful = λ are names. (all_come (IsAllowed masters) course.cluster occurrences (allowed (first_is are)), rest_are are);
+        told = λ are. told (first_is are);
       }
-      occurs_by occurrences failed allowed (Some number) worn = stays
+      occurs_by occurrences failed allowed told (Some number) worn = stays
 
-      occurs : (occurrences : List Occurrence) (failed : Bool) → (IsTask masters task → All (IsAllowed masters) occurrences) → IsMove course (occurring course occurrences failed rest)
-      occurs occurrences failed allowed = occurs_by occurrences failed allowed (all_acted course.cluster occurrences).worn refl
+      occurs : (occurrences : List Occurrence) (failed : Bool) → (IsTask masters task → All (IsAllowed masters) occurrences)
+          → (IsTask masters task → AreToldFrom course.cluster (all_acted course.cluster occurrences).came) → IsMove course (occurring course occurrences failed rest)
+      occurs occurrences failed allowed told = occurs_by occurrences failed allowed told (all_acted course.cluster occurrences).worn refl
 
       unfolds : IsMove course (with_tasks course (unfolded course.cluster task ++ rest))
       unfolds =
@@ -151,22 +263,24 @@ module _ (masters : ℕ) where
           (λ are names.
           All-append (IsTask masters) (unfolded course.cluster task) rest (unfolded_are masters course.cluster names task (first_is are)) (rest_are are))
 
-    move_by : (called : Called) (left : List Task) → course.tasks ≡ left → IsMove course (moved_by course called left)
-    move_by called [] is = stays
-    move_by called (tasks.Occurs lane act ∷ rest) is =
+    move_by : (fate : Fate) (left : List Task) → course.tasks ≡ left → IsMove course (moved_by course fate left)
+    move_by fate [] is = stays
+    move_by fate (tasks.Occurs lane act ∷ rest) is =
         occurs (tasks.Occurs lane act) rest is (act_makes course.cluster lane act) false
         (λ task. where_allowed (has_actor course.cluster act) (occurrence_of lane act) (act_allowed lane act task.0 task.1))
-    move_by called (tasks.Delivers lane number ∷ rest) is =
-        occurs (tasks.Delivers lane number) rest is (deliver_in_makes course.cluster lane number called) (is_lost_at_backup course.cluster lane number called)
-        (λ inside. delivered_allowed course.cluster lane number called inside)
-    move_by called (tasks.Begins ∷ rest) is =
+        (λ task. where_told course.cluster (has_actor course.cluster act) (occurrence_of lane act) (act_told masters course.cluster lane act task.1))
+    move_by fate (tasks.Delivers lane number ∷ rest) is =
+        occurs (tasks.Delivers lane number) rest is (deliver_in_makes course.cluster lane number fate) (is_lost_at_backup course.cluster lane number fate)
+        (λ inside. delivered_allowed course.cluster lane number fate inside)
+        (λ inside. delivered_told course.cluster lane number fate)
+    move_by fate (tasks.Begins ∷ rest) is =
         elim (is_at_limit course) as (λ b. IsMove course (if b then course else with_tasks course rest)) [
           | true ↦ stays
           | false ↦ silent (with_tasks course rest) refl refl (λ are names. rest_are tasks.Begins rest is are)
         ]
-    move_by called (tasks.Ends ∷ rest) is = silent (moved_by course called (tasks.Ends ∷ rest)) refl refl (λ are names. rest_are tasks.Ends rest is are)
-    move_by called (task ∷ rest) is = unfolds task rest is
+    move_by fate (tasks.Ends ∷ rest) is = silent (moved_by course fate (tasks.Ends ∷ rest)) refl refl (λ are names. rest_are tasks.Ends rest is are)
+    move_by fate (task ∷ rest) is = unfolds task rest is
 
     -- each move does
-    pub move_is : (called : Called) → IsMove course (moved course called)
-    move_is called = move_by called course.tasks refl
+    pub move_is : (fate : Fate) → IsMove course (moved course fate)
+    move_is fate = move_by fate course.tasks refl

@@ -1,19 +1,19 @@
--- A scene for worked examples: a cluster with one tablet and a client, whose replicas tell what they store and never fail, and the course
+-- A scene for worked examples: a cluster with one tablet and a client, whose replicas never fail, and the course
 -- of a command there.
-use Rattle.std.specs.Prelude.{length, replicate, ℕ, List, [], ◌∷◌, map, None}
+use Rattle.std.specs.Prelude.{length, replicate, ℕ, List, [], ◌∷◌, map}
 use Rattle.rk_types.specs.declared.call.Op.TheVariants.{Put}
 use Rattle.rk_transfer.specs.declared.role.Role.{Role}
 use Rattle.rk_tablet_map.specs.declared.phase.Phase.{Phase}
 use Rattle.rk_world.specs.Cluster.{Calls, Cluster, cluster_after, cluster_run, new_cluster}
 use Rattle.rk_world.specs.World.{tablet_in}
 use Rattle.rk_cluster.specs.Makes.{client_makes, migrate_makes, table_makes}
-use Rattle.rk_settle.specs.Course.{Course, course_of}
-use Rattle.rk_settle.specs.Told.{moved_with_all}
+use Rattle.rk_cluster.specs.Replicas.{Kept}
+use Rattle.rk_settle.specs.Course.{Course, course_of, moved_all}
 use Rattle.rk_settle.specs.declared.task.Task.{Task}
 
 -- the course of these tasks after so many moves
 abbrev pub course_after : ℕ → Cluster → List Task → Course
-course_after moves cluster tasks = moved_with_all (course_of cluster tasks) (replicate moves None)
+course_after moves cluster tasks = moved_all (course_of cluster tasks) (replicate moves Kept)
 
 -- a key of lane 4, and a value
 abbrev pub a : List ℕ

@@ -2,12 +2,12 @@
 -- still once no task is left, and where the command stops: a lane is worn, or replicas have failed in too many rounds.
 use Rattle.std.specs.Prelude.{ℕ, ◌+◌, ◌||◌, Bool, true, false, nat_le, if◌then◌else◌, fold, List, [], ◌∷◌, ◌++◌, Option, Some, None}
 use Rattle.rk_types.specs.declared.node.Said.{Said}
-use Rattle.rk_world.specs.Backup.{Called, Gave}
 use Rattle.rk_world.specs.Cluster.{Cluster, Occurrence}
 use Rattle.rk_cluster.specs.Acted.{Acted, all_acted}
 use Rattle.rk_cluster.specs.Delivering.{is_lost_at_backup}
 use Rattle.rk_cluster.specs.Looks.{is_client}
 use Rattle.rk_cluster.specs.Makes.{deliver_in_makes}
+use Rattle.rk_cluster.specs.Replicas.{Fate, Kept}
 use Rattle.rk_settle.specs.Tasks.{occurrence_of}
 use Rattle.rk_settle.specs.declared.task.Act.{Act}
 use Rattle.rk_settle.specs.declared.task.Act.TheVariants as acts
@@ -40,22 +40,22 @@ course_of cluster tasks =
 abbrev pub with_tasks : Course → List Task → Course
 with_tasks course tasks = record course { tasks = tasks }
 
--- these occurred, where a replica failed or not, and these tasks are left; where a lane is worn all is left as it was
-abbrev pub occurring_by : Course → List Occurrence → Bool → List Task → Acted → Option ℕ → Course
-occurring_by course occurrences failed rest came None = record {
-  cluster = came.cluster;
+-- this came, where a replica failed or not, and these tasks are left; where a lane is worn all is left as it was
+abbrev pub occurring_by : Course → Bool → List Task → Acted → Option ℕ → Course
+occurring_by course failed rest it None = record {
+  cluster = it.cluster;
   tasks = rest;
-  occurred = course.occurred ++ occurrences;
-  said = course.said ++ came.said;
+  occurred = course.occurred ++ it.came;
+  said = course.said ++ it.said;
   faults = course.faults;
   failing = course.failing || failed;
 }
-occurring_by course occurrences failed rest came (Some number) = course
+occurring_by course failed rest it (Some number) = course
 
 -- one thing occurs, or none, unless its lane is worn, and these tasks are left
 abbrev pub occurring : Course → List Occurrence → Bool → List Task → Course
 occurring course occurrences failed rest =
-    let came = all_acted course.cluster occurrences in occurring_by course occurrences failed rest came came.worn
+    let it = all_acted course.cluster occurrences in occurring_by course failed rest it it.worn
 
 -- whether replicas have failed in as many rounds as they may
 abbrev pub is_at_limit : Course → Bool
@@ -76,22 +76,22 @@ abbrev pub act_makes : Cluster → ℕ → Act → List Occurrence
 act_makes cluster lane act = if has_actor cluster act then occurrence_of lane act ∷ [] else []
 
 -- the first of these tasks makes its move
-abbrev pub moved_by : Course → Called → List Task → Course
-moved_by course called [] = course
-moved_by course called (tasks.Occurs lane act ∷ rest) = occurring course (act_makes course.cluster lane act) false rest
-moved_by course called (tasks.Delivers lane number ∷ rest) =
-    occurring course (deliver_in_makes course.cluster lane number called) (is_lost_at_backup course.cluster lane number called) rest
-moved_by course called (tasks.Begins ∷ rest) = if is_at_limit course then course else with_tasks course rest
-moved_by course called (tasks.Ends ∷ rest) = round_over course rest
-moved_by course called (task ∷ rest) = with_tasks course (unfolded course.cluster task ++ rest)
+abbrev pub moved_by : Course → Fate → List Task → Course
+moved_by course fate [] = course
+moved_by course fate (tasks.Occurs lane act ∷ rest) = occurring course (act_makes course.cluster lane act) false rest
+moved_by course fate (tasks.Delivers lane number ∷ rest) =
+    occurring course (deliver_in_makes course.cluster lane number fate) (is_lost_at_backup course.cluster lane number fate) rest
+moved_by course fate (tasks.Begins ∷ rest) = if is_at_limit course then course else with_tasks course rest
+moved_by course fate (tasks.Ends ∷ rest) = round_over course rest
+moved_by course fate (task ∷ rest) = with_tasks course (unfolded course.cluster task ++ rest)
 
--- a move; `called` is what the call of a replica comes to, if the move makes one
-abbrev pub moved : Course → Called → Course
-moved course called = moved_by course called course.tasks
+-- a move; `fate` is what becomes of the call of a replica, if the move makes one
+abbrev pub moved : Course → Fate → Course
+moved course fate = moved_by course fate course.tasks
 
--- the course after moves
-abbrev pub moved_all : Course → List Called → Course
-moved_all course calls = fold moved course calls
+-- the course after moves, one for each fate
+abbrev pub moved_all : Course → List Fate → Course
+moved_all course fates = fold moved course fates
 
 -- what is worn, if something is refused there
 abbrev pub worn_error : Option ℕ → Option SettleError
@@ -106,7 +106,7 @@ occurrence_error cluster occurrences = worn_error (all_acted cluster occurrences
 abbrev pub error_by : Course → List Task → Option SettleError
 error_by course (tasks.Occurs lane act ∷ rest) = occurrence_error course.cluster (act_makes course.cluster lane act)
 error_by course (tasks.Delivers lane number ∷ rest) =
-    occurrence_error course.cluster (deliver_in_makes course.cluster lane number (Gave None))
+    occurrence_error course.cluster (deliver_in_makes course.cluster lane number Kept)
 error_by course (tasks.Begins ∷ rest) = if is_at_limit course then Some (errors.Replica course.faults) else None
 error_by course left = None
 

@@ -12,7 +12,6 @@ pub mod Advance
 pub mod Unfolding
 pub mod Course
 pub mod Faults
-pub mod Told
 pub mod Codes
 pub mod Outcomes
 pub mod States

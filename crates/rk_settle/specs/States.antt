@@ -1,39 +1,45 @@
 -- What the course of a command in code stands for, and how it goes on.
-use Rattle.std.specs.Prelude.{◌≡◌, ℕ, List, length, Option, ⊤}
+use Rattle.std.specs.Prelude.{◌≡◌, ℕ, List, [], ◌∷◌, ◌++◌, length, Option, ⊤}
 use Rattle.rk_types.specs.declared.hashing.TheConstants.{LANES}
+use Rattle.rk_types.specs.declared.node.Said.{Said}
 use Rattle.rk_outside.specs.Segments.{Segments}
-use Rattle.rk_world.specs.Backup.{Called}
 use Rattle.rk_world.specs.Cluster.{Cluster, lane_at}
-use Rattle.rk_world.specs.ClusterRuns.{Leads}
 use Rattle.rk_lane.specs.LaneState.{LaneState}
+use Rattle.rk_cluster.specs.Effects.{RunsTo}
+use Rattle.rk_cluster.specs.Faults.{CountsGoOn}
+use Rattle.rk_cluster.specs.Replicas.{Fate}
 use Rattle.rk_cluster.specs.State.{ClusterState, IsOf, IsWorld}
 use Rattle.rk_settle.specs.Course.{Course, moved}
-use Rattle.rk_settle.specs.Outcomes.{IsStopped}
+use Rattle.rk_settle.specs.Outcomes.{IsStopped, Keeps}
 use Rattle.rk_settle.specs.declared.course.Progress.{Progress}
 use Rattle.rk_settle.specs.declared.error.SettleError.{SettleError}
 use Rattle.rk_settle.specs.declared.error.SettleError.TheVariants as errors
 use Rattle.rk_settle.specs.declared.task.Task.{Task}
 
--- a command in code that began in a cluster, with these tasks left, stands for a course of the definitions: all but what occurred, which
--- nothing looks at, is the same, and a run has led there
-pub record IsCourse {R : Type 0} (segments : R → Option Segments) (start : Cluster) (state : ClusterState R) (left : List Task) (progress : Progress) (course : Course) : Type 0 where
+-- a command in code that began in a cluster after clients had said this, with these tasks left, stands for a course of the definitions: all
+-- but what occurred, which the code does not keep, is the same, and what occurred leads there
+pub record IsCourse {R : Type 0} (segments : R → Option Segments) (start : Cluster) (had : List Said) (state : ClusterState R) (left : List Task) (progress : Progress) (course : Course) : Type 0 where
   pub cluster : IsOf segments state course.cluster
-  pub leads : Leads start course.cluster
+  pub leads : RunsTo start course.occurred course.cluster
   pub tasks : course.tasks ≡ left
-  pub said : course.said ≡ progress.said.items
+  pub said : had ++ course.said ≡ progress.said.items
   pub faults : course.faults ≡ progress.faults
   pub failing : course.failing ≡ progress.failing
 
--- a move was made, by what the call of a replica came to, if one was called
-pub record Moves {R : Type 0} (segments : R → Option Segments) (old new : ClusterState R) (before after : List Task) (was is : Progress) : Type 0 where
-  pub called : Called
-  pub moves : (start : Cluster) (course : Course) → IsCourse segments start old before was course → IsCourse segments start new after is (moved course called)
+-- a move was made, by the fate of the call of a replica, if one was called; where that failed its count rose
+pub record Moves {R : Type 0} (segments : R → Option Segments) (faults : R → ℕ) (old new : ClusterState R) (before after : List Task) (was is : Progress) : Type 0 where
+  pub fate : Fate
+  pub counts : CountsGoOn faults (fate ∷ []) old new
+  pub kept : Keeps was.said.items is.said.items
+  pub moves : (start : Cluster) (had : List Said) (course : Course) → IsCourse segments start had old before was course
+      → IsCourse segments start had new after is (moved course fate)
 
 -- a command stops where it is, for this reason; nothing is said where memory was wanting
 abbrev pub Stops : {R : Type 0} → (R → Option Segments) → ClusterState R → ClusterState R → List Task → Progress → SettleError → Type 0
 Stops segments old new left progress errors.NoMemory = ⊤
 Stops segments old new left progress error =
-    (start : Cluster) (course : Course) → IsCourse segments start old left progress course → IsStopped segments start new error course
+    (start : Cluster) (had : List Said) (course : Course) → IsCourse segments start had old left progress course
+    → IsStopped segments start new had progress.said.items error course
 
 -- in each cluster that one in code stands for, this is seen
 abbrev pub ClusterTells : {R T : Type 0} → (R → Option Segments) → ClusterState R → (Cluster → T) → T → Type 0

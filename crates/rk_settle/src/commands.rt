@@ -1,5 +1,5 @@
 // The settling commands.
-ghost use Rattle.std.specs.Prelude.{◌≡◌, ◌++◌, List, map, IfErr, IfOk, OnOk};
+ghost use Rattle.std.specs.Prelude.{◌≡◌, ◌++◌, [], List, map, IfErr, OnOk};
 ghost use Rattle.std.specs.List.{range_with_len};
 ghost use Rattle.rk_types.specs.declared.hashing.TheConstants.{LANES};
 ghost use Rattle.rk_cluster.specs.Faults.{CountsGoOn};
@@ -7,7 +7,7 @@ ghost use Rattle.rk_cluster.specs.Masters.{backups_of, masters_of};
 ghost use Rattle.rk_settle.specs.Advance.{advance as advance_lem};
 ghost use Rattle.rk_settle.specs.Faults.{HasFaults};
 ghost use Rattle.rk_settle.specs.Lawful.{AreTasks};
-ghost use Rattle.rk_settle.specs.Outcomes.{Ends, Fails};
+ghost use Rattle.rk_settle.specs.Outcomes.{Ends, Fails, Keeps};
 ghost use Rattle.rk_settle.specs.Priority.{priority as priority_lem};
 ghost use Rattle.rk_settle.specs.Serve.{serve as serve_lem};
 ghost use Rattle.rk_settle.specs.Settle.{settle as settle_lem};
@@ -25,43 +25,49 @@ use rk_types::{NoMemory, Said, hash, lane_of};
 use std::alloc::Global;
 
 /// Crashed masters are noticed, and then rounds run until the cluster is at rest: in each lane the nodes take their turns,
-/// and the wire is emptied. Gives what clients said. `Worn` comes where a number of a lane has grown too great, and
-/// `Replica` where replicas failed in a hundred rounds: what came before has happened.
+/// and the wire is emptied. What clients say is put behind what was said before, in each of these commands. `Worn` comes if a number of a
+/// lane has grown too great, and `Replica` if replicas failed in a hundred rounds: what came before has happened, and what clients said up
+/// to then is there. After `NoMemory` and `TooLong` what they said up to some move is there.
 pub fn settle<R: Replica + Drop>(
     alloc: Global,
     cluster: &mut Cluster<R>,
-) -> Result<Vec<Said>, SettleError>
-    ensures ok { IfOk result (λ said. Ends R.segments cluster.old cluster.new settle_lem said.items) }
-    ensures err { IfErr result (Fails R.segments cluster.old cluster.new settle_lem) }
+    said: &mut Vec<Said>,
+) -> Result<(), SettleError>
+    ensures ok { OnOk result (Ends R.segments R.faults cluster.old cluster.new settle_lem said.old.items said.new.items) }
+    ensures err { IfErr result (Fails R.segments R.faults cluster.old cluster.new settle_lem said.old.items said.new.items) }
+    ensures kept { Keeps said.old.items said.new.items }
     ensures masters { masters_of cluster.new ≡ masters_of cluster.old }
     ensures backups { backups_of cluster.new ≡ backups_of cluster.old }
-    ensures counts { CountsGoOn R.faults 0 cluster.old cluster.new }
+    ensures counts { CountsGoOn R.faults [] cluster.old cluster.new }
     ensures cause { IfErr result (HasFaults R.faults cluster.old cluster.new) }
 {
     let mut tasks = Tasks::new(alloc);
     tasks.push(Task::Settles)?;
     tasks.push_all(&notices())?;
-    run(alloc, cluster, tasks)
+    run(alloc, cluster, tasks, said)
 }
 
 /// The outstanding call of a client is brought on, up to its answer where it can be had: where the client does not know who
-/// owns the key, it asks; its request is delivered, once more after a Moved, and committed. Gives what the client said. A
-/// client without an outstanding call does nothing.
+/// owns the key, it asks; its request is delivered, once more after a Moved, and committed. A client without an outstanding call does
+/// nothing.
 pub fn serve<R: Replica + Drop>(
     alloc: Global,
     cluster: &mut Cluster<R>,
     client: u32,
-) -> Result<Vec<Said>, SettleError>
-    ensures ok { IfOk result (λ said. Ends R.segments cluster.old cluster.new (λ c. serve_lem c client) said.items) }
-    ensures err { IfErr result (Fails R.segments cluster.old cluster.new (λ c. serve_lem c client)) }
+    said: &mut Vec<Said>,
+) -> Result<(), SettleError>
+    ensures ok { OnOk result (Ends R.segments R.faults cluster.old cluster.new (λ c. serve_lem c client) said.old.items said.new.items) }
+    ensures err { IfErr result (Fails R.segments R.faults cluster.old cluster.new (λ c. serve_lem c client)
+        said.old.items said.new.items) }
+    ensures kept { Keeps said.old.items said.new.items }
     ensures masters { masters_of cluster.new ≡ masters_of cluster.old }
     ensures backups { backups_of cluster.new ≡ backups_of cluster.old }
-    ensures counts { CountsGoOn R.faults 0 cluster.old cluster.new }
+    ensures counts { CountsGoOn R.faults [] cluster.old cluster.new }
     ensures cause { IfErr result (HasFaults R.faults cluster.old cluster.new) }
 {
     let mut tasks = Tasks::new(alloc);
     push_serve(&mut tasks, cluster, client)?;
-    run(alloc, cluster, tasks)
+    run(alloc, cluster, tasks, said)
 }
 
 /// In each lane where a tablet moves, its target asks for the records that it wants first, if it wants some, and gets them.
@@ -69,17 +75,20 @@ pub fn priority<R: Replica + Drop>(
     alloc: Global,
     cluster: &mut Cluster<R>,
     tablet: u32,
-) -> Result<Vec<Said>, SettleError>
-    ensures ok { IfOk result (λ said. Ends R.segments cluster.old cluster.new (λ c. priority_lem c tablet) said.items) }
-    ensures err { IfErr result (Fails R.segments cluster.old cluster.new (λ c. priority_lem c tablet)) }
+    said: &mut Vec<Said>,
+) -> Result<(), SettleError>
+    ensures ok { OnOk result (Ends R.segments R.faults cluster.old cluster.new (λ c. priority_lem c tablet) said.old.items said.new.items) }
+    ensures err { IfErr result (Fails R.segments R.faults cluster.old cluster.new (λ c. priority_lem c tablet)
+        said.old.items said.new.items) }
+    ensures kept { Keeps said.old.items said.new.items }
     ensures masters { masters_of cluster.new ≡ masters_of cluster.old }
     ensures backups { backups_of cluster.new ≡ backups_of cluster.old }
-    ensures counts { CountsGoOn R.faults 0 cluster.old cluster.new }
+    ensures counts { CountsGoOn R.faults [] cluster.old cluster.new }
     ensures cause { IfErr result (HasFaults R.faults cluster.old cluster.new) }
 {
     let mut tasks = Tasks::new(alloc);
     tasks.push_all(&hastenings(tablet))?;
-    run(alloc, cluster, tasks)
+    run(alloc, cluster, tasks, said)
 }
 
 /// In each lane where a tablet migrates and is short of a reach, the migration is brought there.
@@ -88,17 +97,20 @@ pub fn advance<R: Replica + Drop>(
     cluster: &mut Cluster<R>,
     tablet: u32,
     reach: Reach,
-) -> Result<Vec<Said>, SettleError>
-    ensures ok { IfOk result (λ said. Ends R.segments cluster.old cluster.new (λ c. advance_lem c tablet reach) said.items) }
-    ensures err { IfErr result (Fails R.segments cluster.old cluster.new (λ c. advance_lem c tablet reach)) }
+    said: &mut Vec<Said>,
+) -> Result<(), SettleError>
+    ensures ok { OnOk result (Ends R.segments R.faults cluster.old cluster.new (λ c. advance_lem c tablet reach) said.old.items said.new.items) }
+    ensures err { IfErr result (Fails R.segments R.faults cluster.old cluster.new (λ c. advance_lem c tablet reach)
+        said.old.items said.new.items) }
+    ensures kept { Keeps said.old.items said.new.items }
     ensures masters { masters_of cluster.new ≡ masters_of cluster.old }
     ensures backups { backups_of cluster.new ≡ backups_of cluster.old }
-    ensures counts { CountsGoOn R.faults 0 cluster.old cluster.new }
+    ensures counts { CountsGoOn R.faults [] cluster.old cluster.new }
     ensures cause { IfErr result (HasFaults R.faults cluster.old cluster.new) }
 {
     let mut tasks = Tasks::new(alloc);
     tasks.push_all(&advances(tablet, reach))?;
-    run(alloc, cluster, tasks)
+    run(alloc, cluster, tasks, said)
 }
 
 // The outstanding call of a client, if there is one, is tried in its lane.

@@ -1,5 +1,5 @@
 // The course of a command: its tasks are done move by move.
-ghost use Rattle.std.specs.Prelude.{◌≡◌, ◌+◌, ◌-◌, ◌^◌, ◌<◌, ◌≤◌, ◌∷◌, ◌++◌, [], false, if◌then◌else◌, List, IfErr, IfOk, OnOk};
+ghost use Rattle.std.specs.Prelude.{◌≡◌, ◌+◌, ◌-◌, ◌^◌, ◌<◌, ◌≤◌, ◌∷◌, ◌++◌, [], false, if◌then◌else◌, List, IfErr, OnOk};
 ghost use Rattle.std.specs.Option.{option_to_list};
 ghost use Rattle.rk_types.specs.declared.hashing.TheConstants.{LANES};
 ghost use Rattle.rk_cluster.specs.Faults.{CountsGoOn};
@@ -8,7 +8,7 @@ ghost use Rattle.rk_cluster.specs.Masters.{backups_of, masters_of};
 ghost use Rattle.rk_settle.specs.Lawful.{AreTasks, IsAct, IsTask};
 ghost use Rattle.rk_settle.specs.Course.{MOST_FAULTS as most_faults};
 ghost use Rattle.rk_settle.specs.Faults.{HasFaults, IsOfReplicas, KeepsUp};
-ghost use Rattle.rk_settle.specs.Outcomes.{Ends, Fails};
+ghost use Rattle.rk_settle.specs.Outcomes.{Ends, Fails, Keeps};
 ghost use Rattle.rk_settle.specs.States.{EightTell, Moves, Stops};
 ghost use Rattle.rk_settle.specs.declared.course.Progress.{Progress as Came};
 ghost use Rattle.rk_settle.specs.declared.error.SettleError.TheVariants as errors;
@@ -23,12 +23,13 @@ use rk_cluster::{Cluster, Delivered};
 use rk_outside::Replica;
 use rk_types::{NoMemory, Said};
 use std::alloc::Global;
+use std::mem;
 
 /// In so many rounds replicas may fail before a command stops.
 const MOST_FAULTS: u64 = 100;
 
-/// What has come of a command so far: what clients said, in how many rounds a replica failed, and whether one failed in the
-/// round that runs.
+/// What has come of a command so far: what clients have said, also before it, in how many rounds a replica failed, and whether one failed
+/// in the round that runs.
 #[derive(Drop)]
 pub(crate) struct Progress {
     pub(crate) said: Vec<Said>,
@@ -37,46 +38,72 @@ pub(crate) struct Progress {
 }
 
 impl Progress {
-    /// Nothing was said, and no replica failed.
-    pub(crate) fn new(alloc: Global) -> Progress
-        ensures said { result.said.items ≡ [] }
+    /// Clients have said this before, and no replica failed.
+    pub(crate) fn after(said: Vec<Said>) -> Progress
+        ensures said { result.said ≡ said }
         ensures faults { result.faults ≡ 0 }
         ensures failing { result.failing ≡ false }
     {
         Progress {
-            said: Vec::new(alloc),
+            said,
             faults: 0,
             failing: false,
         }
     }
 }
 
-/// The tasks of a command are done, one after the other, until none is left: what clients said meanwhile. Where the command stops before
-/// that, what it has done stays done.
+/// The tasks of a command are done, one after the other, until none is left. What clients say meanwhile follows what they had said before.
+/// If the command stops before its end, what it has done stays done, and what was said stays said.
 pub(crate) fn run<R: Replica + Drop>(
     alloc: Global,
     cluster: &mut Cluster<R>,
     tasks: Tasks,
-) -> Result<Vec<Said>, SettleError>
+    said: &mut Vec<Said>,
+) -> Result<(), SettleError>
     requires { AreTasks (masters_of cluster.old) tasks }
     ensures ok { (command : Lanes → List Step) → EightTell R.segments cluster.old command tasks
-        → IfOk result (λ said. Ends R.segments cluster.old cluster.new command said.items) }
+        → OnOk result (Ends R.segments R.faults cluster.old cluster.new command said.old.items said.new.items) }
     ensures err { (command : Lanes → List Step) → EightTell R.segments cluster.old command tasks
-        → IfErr result (Fails R.segments cluster.old cluster.new command) }
+        → IfErr result (Fails R.segments R.faults cluster.old cluster.new command said.old.items said.new.items) }
+    ensures kept { Keeps said.old.items said.new.items }
     ensures masters { masters_of cluster.new ≡ masters_of cluster.old }
     ensures backups { backups_of cluster.new ≡ backups_of cluster.old }
-    ensures counts { CountsGoOn R.faults 0 cluster.old cluster.new }
+    ensures counts { CountsGoOn R.faults [] cluster.old cluster.new }
+    ensures cause { IfErr result (HasFaults R.faults cluster.old cluster.new) }
+{
+    let mut progress = Progress::after(mem::replace(said, Vec::new(alloc)));
+    let end = make_moves(cluster, tasks, &mut progress);
+    *said = progress.said;
+    end
+}
+
+// The tasks make their moves until none is left.
+fn make_moves<R: Replica + Drop>(
+    cluster: &mut Cluster<R>,
+    tasks: Tasks,
+    progress: &mut Progress,
+) -> Result<(), SettleError>
+    requires tasks { AreTasks (masters_of cluster.old) tasks }
+    requires faults { progress.old.faults ≡ 0 }
+    requires failing { progress.old.failing ≡ false }
+    ensures ok { (command : Lanes → List Step) → EightTell R.segments cluster.old command tasks
+        → OnOk result (Ends R.segments R.faults cluster.old cluster.new command progress.old.said.items progress.new.said.items) }
+    ensures err { (command : Lanes → List Step) → EightTell R.segments cluster.old command tasks
+        → IfErr result (Fails R.segments R.faults cluster.old cluster.new command progress.old.said.items progress.new.said.items) }
+    ensures kept { Keeps progress.old.said.items progress.new.said.items }
+    ensures masters { masters_of cluster.new ≡ masters_of cluster.old }
+    ensures backups { backups_of cluster.new ≡ backups_of cluster.old }
+    ensures counts { CountsGoOn R.faults [] cluster.old cluster.new }
     ensures cause { IfErr result (HasFaults R.faults cluster.old cluster.new) }
 {
     // Asked how many masters there are, a cluster tells that it has eight lanes.
     let _masters = cluster.masters();
     let mut tasks = tasks;
-    let mut progress = Progress::new(alloc);
     for _ in 0..u64::MAX {
         let Some(task) = tasks.pop() else {
-            return Ok(progress.said);
+            return Ok(());
         };
-        make_move(cluster, &mut tasks, &mut progress, task)?;
+        make_move(cluster, &mut tasks, progress, task)?;
     }
     Err(SettleError::TooLong)
 }
@@ -91,13 +118,14 @@ fn make_move<R: Replica + Drop>(
     requires task { IsTask (masters_of cluster.old) task }
     requires left { AreTasks (masters_of cluster.old) tasks.old }
     requires faults { progress.old.faults < 2 ^ 64 - 1 }
-    ensures ok { OnOk result (Moves R.segments cluster.old cluster.new (task ∷ tasks.old) tasks.new progress.old progress.new) }
+    ensures ok { OnOk result (Moves R.segments R.faults cluster.old cluster.new (task ∷ tasks.old) tasks.new progress.old progress.new) }
     ensures err { IfErr result (Stops R.segments cluster.old cluster.new (task ∷ tasks.old) progress.old) }
+    ensures silent { IfErr result (λ e. progress.new.said.items ≡ progress.old.said.items) }
     ensures lawful { OnOk result (AreTasks (masters_of cluster.new) tasks.new) }
     ensures faults { progress.new.faults ≤ progress.old.faults + 1 }
     ensures masters { masters_of cluster.new ≡ masters_of cluster.old }
     ensures backups { backups_of cluster.new ≡ backups_of cluster.old }
-    ensures counts { CountsGoOn R.faults 0 cluster.old cluster.new }
+    ensures counts { CountsGoOn R.faults [] cluster.old cluster.new }
     ensures failed { OnOk result (KeepsUp R.faults cluster.old cluster.new progress.old progress.new) }
     ensures cause { IfErr result (λ e. IsOfReplicas e → most_faults ≤ progress.old.faults) }
 {
@@ -117,13 +145,13 @@ fn make_move<R: Replica + Drop>(
 fn occur<R: Replica + Drop>(cluster: &mut Cluster<R>, lane: u8, act: Act) -> Result<(), SettleError>
     requires there { lane < LANES }
     requires act { IsAct (masters_of cluster.old) act }
-    ensures ok { OnOk result ((rest : List Step) (progress : Came) → Moves R.segments cluster.old cluster.new
+    ensures ok { OnOk result ((rest : List Step) (progress : Came) → Moves R.segments R.faults cluster.old cluster.new
         (made.Occurs lane act ∷ rest) rest progress progress) }
     ensures err { IfErr result (λ e. (rest : List Step) (progress : Came) → Stops R.segments cluster.old cluster.new
         (made.Occurs lane act ∷ rest) progress e) }
     ensures masters { masters_of cluster.new ≡ masters_of cluster.old }
     ensures backups { backups_of cluster.new ≡ backups_of cluster.old }
-    ensures counts { CountsGoOn R.faults 0 cluster.old cluster.new }
+    ensures counts { CountsGoOn R.faults [] cluster.old cluster.new }
     ensures cause { IfErr result (λ e. IsOfReplicas e → ⊥) }
 {
     match act {
@@ -145,14 +173,15 @@ fn deliver<R: Replica + Drop>(
     number: u64,
 ) -> Result<(), SettleError>
     requires { lane < LANES }
-    ensures ok { OnOk result ((rest : List Step) → Moves R.segments cluster.old cluster.new
+    ensures ok { OnOk result ((rest : List Step) → Moves R.segments R.faults cluster.old cluster.new
         (made.Delivers lane number ∷ rest) rest progress.old progress.new) }
     ensures err { IfErr result (λ e. (rest : List Step) → Stops R.segments cluster.old cluster.new
         (made.Delivers lane number ∷ rest) progress.old e) }
+    ensures silent { IfErr result (λ e. progress.new.said.items ≡ progress.old.said.items) }
     ensures faults { progress.new.faults ≡ progress.old.faults }
     ensures masters { masters_of cluster.new ≡ masters_of cluster.old }
     ensures backups { backups_of cluster.new ≡ backups_of cluster.old }
-    ensures counts { CountsGoOn R.faults 0 cluster.old cluster.new }
+    ensures counts { CountsGoOn R.faults [] cluster.old cluster.new }
     ensures failed { OnOk result (KeepsUp R.faults cluster.old cluster.new progress.old progress.new) }
     ensures cause { IfErr result (λ e. IsOfReplicas e → ⊥) }
 {
@@ -164,7 +193,8 @@ fn deliver<R: Replica + Drop>(
 
 // Puts what a client said, if it said something, behind the rest.
 fn tell(into: &mut Vec<Said>, said: Option<Said>) -> Result<(), NoMemory>
-    ensures { OnOk result (into.new.items ≡ into.old.items ++ option_to_list said) }
+    ensures ok { OnOk result (into.new.items ≡ into.old.items ++ option_to_list said) }
+    ensures err { IfErr result (λ e. into.new.items ≡ into.old.items) }
 {
     match said {
         Some(said) => {

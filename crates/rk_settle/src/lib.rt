@@ -3,8 +3,8 @@
 //! It stands on `rk_cluster`. A command is a list of tasks, and a course does them move by move: each move makes one occurrence, or none,
 //! or unfolds a task into smaller ones. What it promises: where [`settle`], [`serve`], [`priority`] and [`advance`] end, what they made of
 //! the cluster and what clients said is just what the course of the definitions comes to, after some moves; where they stop, it is where
-//! that course stops; and where [`settle`] ends its cluster is at rest. No bound on the moves of a command is told: it stops after
-//! 2^64 - 1 of them.
+//! that course stops, and the caller has what clients said up to there; and where [`settle`] ends its cluster is at rest. No bound on the
+//! moves of a command is told: it stops after 2^64 - 1 of them.
 //! [`serve_code`], [`priority_code`] and [`advance_code`] tell beforehand why a command is to be refused, if it is.
 #![tactic(auto)]
 

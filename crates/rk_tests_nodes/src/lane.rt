@@ -4,11 +4,12 @@ ghost use Rattle.rk_lane.specs.Events.{MayComeTo};
 
 use crate::comparing::same;
 use rk_lane::Lane;
+use rk_message::{Body, Message, Reply};
 use rk_outside::MemoryReplica;
 use rk_session::Session;
 use rk_tablet_map::Phase;
 use rk_tests::items::WHOLE;
-use rk_types::{Key, Node, Op, Value, hash, lane_of};
+use rk_types::{Answer, Key, Node, Op, Outcome, Value, hash, lane_of};
 use rk_world::{Event, Seen, StepError, Taken};
 use std::alloc::Global;
 use std::process::Abort;
@@ -276,5 +277,39 @@ fn a_refusal_changes_nothing(rt: HostRuntime) -> Result<(), Fail> {
         &(pair.lane.wire().count(), pair.lane.top(), pair.lane.spent()),
         &(0, top, false),
     );
+    Ok(())
+}
+
+// The session of client 7, whose first call was answered with this stamp, and which asks its second one.
+fn client_that_saw(alloc: Global, stamp: u64) -> Result<Session, Fail>
+    ensures { IfOk result (MayAct 2) }
+{
+    let key = Key::new(alloc, b"a")?;
+    let mut session = Session::new(alloc, 7);
+    session.ask(1, key.duplicate()?, Op::Get)?;
+    session.accept(Message {
+        from: Node::Master(1),
+        to: Node::Client(7),
+        body: Body::Reply(Reply {
+            seq: 1,
+            stamp,
+            place: 0,
+            answer: Answer::Done(Outcome::Absent),
+        }),
+    });
+    session.ask(1, key, Op::Get)?;
+    Ok(session)
+}
+
+// A client that has seen 2^48 takes no turn, and one that has seen one less asks where its key is.
+#[test]
+fn a_session_wears_out(rt: HostRuntime) -> Result<(), Fail> {
+    let mut pair = Pair::new(rt.alloc())?;
+    let mut worn = client_that_saw(rt.alloc(), 281_474_976_710_656)?;
+    let refused = pair.ask(&mut worn);
+    same(&rt, &refused, &Err(StepError::Worn(281_474_976_710_656)));
+    let mut session = client_that_saw(rt.alloc(), 281_474_976_710_655)?;
+    let sent = pair.ask(&mut session)?.sent;
+    same(&rt, &sent, &1);
     Ok(())
 }

@@ -1,5 +1,5 @@
 -- How the program starts: over replicas that are new, or without memory.
-use Rattle.std.proofs.Common.{◌≡◌, List, [], ◌∷◌, ℕ, ap, ◌∙◌}
+use Rattle.std.proofs.Common.{◌≡◌, List, [], ◌∷◌, ℕ, ap, ◌∙◌, arith}
 use Rattle.std.specs.Prelude.{Option, None, Some, IfSome}
 use Rattle.std.specs.List.{All}
 use Rattle.std.specs.FinMap.{get-empty}
@@ -10,27 +10,30 @@ use Rattle.rk_outside.specs.Replicas.{ReplicaState, new_replica, place_cmp, segm
 use Rattle.rk_outside.specs.Segments.{Segments}
 use Rattle.rk_world.specs.Backup.{no_segments}
 use Rattle.rk_cluster.specs.Fresh.{AreEmpty}
-use Rattle.rk_laws_answers.proofs.Playing.{script_answers}
-use Rattle.rk_play.specs.Played.{played}
+use Rattle.rk_scripts.proofs.answers.Playing.{script_answers}
+use Rattle.rk_script.specs.Script.{script_of}
+use Rattle.rk_scripts.proofs.play.Playing.{scripts_historical}
 use Rattle.rk_play.proofs.Concluding.{halts_at_once}
 use Rattle.rocksteady.specs.Run.{IsPlayed, PlaysOneMap}
 
--- where memory is wanting at once, nothing was written
+-- where memory is wanting at once, nothing was written: none of the script's commands was played
 pub halts_told : (told old : Option (List ℕ)) → IfSome told (λ script. IsPlayed script NoMemory old old)
 halts_told None old = tt
 halts_told (Some script) old = record {
-  calls = [];
-  runs = halts_at_once (played script []) old;
-  answers = script_answers script [];
-  one_map = λ whole. absurd whole;
+  part = Some 0;
+  may = omega arith;
+  fates = [];
+  runs = halts_at_once (script_of script) old;
+  answers = script_answers script (Some 0) [];
+  historical = scripts_historical script (Some 0) [];
 }
 
 -- a run over replicas that told so is a run played
-pub played_told : {R : Type 0} (segments : R → Option Segments) (told : Option (List ℕ)) (status : Status) (old new : Option (List ℕ)) (replicas : List R)
-    → IfSome told (λ script. PlaysOneMap segments script status old new replicas) → IfSome told (λ script. IsPlayed script status old new)
-played_told segments None status old new replicas it = tt
-played_told segments (Some script) status old new replicas it =
-    record { calls = it.plays.calls; runs = it.plays.runs; answers = it.answers; one_map = it.one_map }
+pub played_told : {R : Type 0} (segments : R → Option Segments) (faults : R → ℕ) (told : Option (List ℕ)) (status : Status) (old new : Option (List ℕ)) (before after : List R)
+    → IfSome told (λ script. PlaysOneMap segments faults script status old new before after) → IfSome told (λ script. IsPlayed script status old new)
+played_told segments faults None status old new before after it = tt
+played_told segments faults (Some script) status old new before after it =
+    record { part = it.plays.part; may = it.plays.may; fates = it.plays.fates; runs = it.plays.runs; answers = it.answers; historical = it.historical }
 
 -- a replica that is new tells that nothing was written
 new_tells : (replica : ReplicaState) → replica ≡ new_replica → segments_of replica ≡ no_segments

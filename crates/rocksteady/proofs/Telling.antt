@@ -1,40 +1,75 @@
--- A script played is one map.
-use Rattle.std.proofs.Common.{◌≡◌, List, ℕ, subst}
+-- A script played is one map, and is done where nothing fails.
+use Rattle.std.proofs.Common.{◌≡◌, ◌⊎◌, List, ℕ, ap, sym, inl, inr, refl, ◌∙◌, arith}
 use Rattle.std.specs.Prelude.{Option, None, Some, IfSome}
 use Rattle.rk_types.specs.declared.status.Status.{Status}
-use Rattle.rk_types.specs.declared.status.Status.TheVariants.{NoMemory, ReadFault, WriteFault}
+use Rattle.rk_types.specs.declared.status.Status.TheVariants.{Audit, Done, NoMemory, ReadFault, Refused, ReplicaFault, Usage, Worn, WriteFault}
 use Rattle.rk_outside.specs.Segments.{Segments}
-use Rattle.rk_world.specs.Backup.{Called}
-use Rattle.rk_laws_play.specs.Historical.{IsHistorical}
-use Rattle.rk_laws_play.proofs.Led.{one_map}
-use Rattle.rk_laws_play.proofs.Playing.{scripts_historical}
-use Rattle.rk_laws_answers.proofs.Playing.{script_answers}
-use Rattle.rk_play.specs.Played.{played}
-use Rattle.rk_play.specs.Runs.{Plays}
-use Rattle.rocksteady.specs.Run.{IsWhole, PlaysOneMap}
+use Rattle.rk_cluster.specs.Replicas.{Fate}
+use Rattle.rk_settle.specs.Faults.{RoseInRounds}
+use Rattle.rk_play.specs.Played.{played, played_part}
+use Rattle.rk_script.specs.Script.{script_of}
+use Rattle.rk_play.specs.Runs.{MayBePart, Plays, count_of, replica_counts}
+use Rattle.rk_scripts.specs.play.Alone.{IsFaultless, NoneRose}
+use Rattle.rk_scripts.proofs.play.Alone.{none_in_rounds, none_lost}
+use Rattle.rk_scripts.proofs.play.Playing.{scripts_historical}
+use Rattle.rk_scripts.proofs.answers.Playing.{script_answers}
+use Rattle.rocksteady.specs.Run.{IsSmooth, PlaysOneMap}
 
--- so has that which a source tells, whatever the calls of replicas come to
-pub history_told : (told : Option (List ℕ)) → IfSome told (λ script. (calls : List (List Called)) → IsHistorical (played script calls))
-history_told None = tt
-history_told (Some script) = scripts_historical script
+-- ---- a script that meets no code and no lane that is worn
 
--- a run that was played to its end was neither read nor written in part
-whole_apart : (status fault : Status) → IsWhole status → (IsWhole fault → ⊥) → status ≡ fault → ⊥
-whole_apart status fault whole never same = never (subst IsWhole same whole)
+refused_never : (script : List ℕ) (part : Option ℕ) (fates : List (List Fate)) (most : ℕ) → MayBePart Refused most part → (played_part part script fates).status ≡ Refused
+    → IsFaultless fates → IsSmooth script → ⊥
+refused_never script None fates most may ended faultless smooth =
+    (smooth faultless.moves).0 (ap (λ (it : List (List Fate)). (played script it).status) (sym faultless.are) ∙ ended)
+refused_never script (Some count) fates most may ended faultless smooth = absurd may
 
--- the answers of a run that is played are those of one map
-plays_one_map : {R : Type 0} (segments : R → Option Segments) (script : List ℕ) (status : Status) (old new : Option (List ℕ)) (replicas : List R)
-    → Plays segments script status old new replicas → PlaysOneMap segments script status old new replicas
-plays_one_map segments script status old new replicas plays = record {
-  plays = plays;
-  answers = script_answers script plays.calls;
-  one_map = λ whole.
-      one_map (played script plays.calls).cluster
-      (plays.led (whole_apart status NoMemory whole (λ never. never)) (whole_apart status ReadFault whole (λ never. never)) (whole_apart status WriteFault whole (λ never. never)));
-}
+worn_never : (script : List ℕ) (part : Option ℕ) (fates : List (List Fate)) (most : ℕ) → MayBePart Worn most part → (played_part part script fates).status ≡ Worn
+    → IsFaultless fates → IsSmooth script → ⊥
+worn_never script None fates most may ended faultless smooth =
+    (smooth faultless.moves).1 (ap (λ (it : List (List Fate)). (played script it).status) (sym faultless.are) ∙ ended)
+worn_never script (Some count) fates most may ended faultless smooth = absurd may
 
--- so it is of the script that a source tells
-pub one_map_told : {R : Type 0} (segments : R → Option Segments) (told : Option (List ℕ)) (status : Status) (old new : Option (List ℕ)) (replicas : List R)
-    → IfSome told (λ script. Plays segments script status old new replicas) → IfSome told (λ script. PlaysOneMap segments script status old new replicas)
-one_map_told segments None status old new replicas plays = tt
-one_map_told segments (Some script) status old new replicas plays = plays_one_map segments script status old new replicas plays
+module _ {R : Type 0} (segments : R → Option Segments) (faults : R → ℕ) (old new : Option (List ℕ)) (before after : List R) where
+  none_failed : (script : List ℕ) (status : Status) (plays : Plays segments faults script status old new before after) → (status ≡ NoMemory → ⊥)
+      → NoneRose (replica_counts faults before) (replica_counts faults after) → IsFaultless plays.fates
+  none_failed script status plays memory none =
+      none_lost plays.fates (replica_counts faults before) (replica_counts faults after) (plays.counts memory) none
+
+  -- the answers of a run that is played are those of one map
+  plays_one_map : (script : List ℕ) (status : Status) → Plays segments faults script status old new before after → PlaysOneMap segments faults script status old new before after
+  plays_one_map script status plays = record {
+    plays = plays;
+    answers = script_answers script plays.part plays.fates;
+    historical = scripts_historical script plays.part plays.fates;
+    alone = λ memory none. none_failed script status plays memory none;
+  }
+
+  -- where nothing failed, a smooth script is done, or memory was wanting
+  complete : (script : List ℕ) (status : Status) → Plays segments faults script status old new before after
+      → (status ≡ ReplicaFault → RoseInRounds 100 (replica_counts faults before) (replica_counts faults after)) → IsSmooth script
+      → NoneRose (replica_counts faults before) (replica_counts faults after) → (status ≡ ReadFault → ⊥) → (status ≡ WriteFault → ⊥) → (status ≡ Done) ⊎ (status ≡ NoMemory)
+  complete script Done plays rounds smooth none read write = inl refl
+  complete script NoMemory plays rounds smooth none read write = inr refl
+  complete script ReadFault plays rounds smooth none read write = absurd (read refl)
+  complete script WriteFault plays rounds smooth none read write = absurd (write refl)
+  complete script Refused plays rounds smooth none read write =
+      absurd (refused_never script plays.part plays.fates (count_of (script_of script)) plays.may plays.runs.ended (none_failed script Refused plays (λ same. absurd (cc same)) none) smooth)
+  complete script Worn plays rounds smooth none read write =
+      absurd (worn_never script plays.part plays.fates (count_of (script_of script)) plays.may plays.runs.ended (none_failed script Worn plays (λ same. absurd (cc same)) none) smooth)
+  complete script ReplicaFault plays rounds smooth none read write =
+      absurd (omega (arith, none_in_rounds 100 (replica_counts faults before) (replica_counts faults after) (rounds refl) none))
+  complete script Usage plays rounds smooth none read write = absurd plays.runs
+  complete script Audit plays rounds smooth none read write = absurd plays.runs
+
+  -- so it is of the script that a source tells
+  pub one_map_told : (told : Option (List ℕ)) (status : Status) → IfSome told (λ script. Plays segments faults script status old new before after)
+      → IfSome told (λ script. PlaysOneMap segments faults script status old new before after)
+  one_map_told None status plays = tt
+  one_map_told (Some script) status plays = plays_one_map script status plays
+
+  pub complete_told : (told : Option (List ℕ)) (status : Status) → IfSome told (λ script. Plays segments faults script status old new before after)
+      → (status ≡ ReplicaFault → RoseInRounds 100 (replica_counts faults before) (replica_counts faults after))
+      → IfSome told (λ script. IsSmooth script → NoneRose (replica_counts faults before) (replica_counts faults after)
+      → (status ≡ ReadFault → ⊥) → (status ≡ WriteFault → ⊥) → (status ≡ Done) ⊎ (status ≡ NoMemory))
+  complete_told None status plays rounds = tt
+  complete_told (Some script) status plays rounds = complete script status plays rounds

@@ -1,15 +1,17 @@
 -- What a run of the program says, by the words after its name.
-use Rattle.std.specs.Prelude.{List, [], ◌∷◌, Bool, false, ℕ, Option, bytes_eq, codes, ⊤}
+use Rattle.std.specs.Prelude.{◌≡◌, List, [], ◌∷◌, Bool, false, ℕ, Option, bytes_eq, codes}
 use Rattle.std.specs.Io.KnownBytes.{Appends}
 use Rattle.rk_types.specs.declared.status.Status.{Status}
-use Rattle.rk_types.specs.declared.status.Status.TheVariants.{NoMemory, ReadFault, Usage, WriteFault}
+use Rattle.rk_types.specs.declared.status.Status.TheVariants.{NoMemory, Refused, Usage, Worn, WriteFault}
 use Rattle.rk_outside.specs.Parts.{AppendsPart}
 use Rattle.rk_outside.specs.Segments.{Segments}
-use Rattle.rk_world.specs.Backup.{Called}
-use Rattle.rk_play.specs.Played.{played}
-use Rattle.rk_play.specs.Runs.{Plays, Runs}
-use Rattle.rk_laws_play.specs.OneMap.{IsOneMap}
-use Rattle.rk_laws_answers.specs.Pieces.{AreAnswers}
+use Rattle.rk_cluster.specs.Replicas.{Fate}
+use Rattle.rk_script.specs.Script.{script_of}
+use Rattle.rk_play.specs.Played.{faultless, played, played_part}
+use Rattle.rk_play.specs.Runs.{MayBePart, Plays, Runs, count_of, replica_counts}
+use Rattle.rk_scripts.specs.play.Alone.{IsFaultless, NoneRose}
+use Rattle.rk_scripts.specs.play.Historical.{IsHistorical}
+use Rattle.rk_scripts.specs.answers.Pieces.{AreAnswers, acting_in}
 
 -- whether the words after the program's name are those of a play
 abbrev pub is_play : List (List ℕ) → Bool
@@ -26,24 +28,26 @@ Refuses Usage old new = Appends old new usage_text
 Refuses WriteFault old new = AppendsPart old new usage_text
 Refuses _ old new = ⊥
 
--- a run with this status was played to its end: memory was not wanting, and neither the source nor the sink failed
-abbrev pub IsWhole : Status → Type 0
-IsWhole NoMemory = ⊥
-IsWhole ReadFault = ⊥
-IsWhole WriteFault = ⊥
-IsWhole status = ⊤
+-- a run of a script over replicas says what `play` says: by some fates of the calls of replicas, and for a script or for its first commands
+-- alone. The replies in the text of that run are the receipts of its sessions; it is a run of the definitions from a new cluster, and so has one
+-- history. Where no count of a replica rose no call of one failed, and the run is that of the script alone
+pub record PlaysOneMap {R : Type 0} (segments : R → Option Segments) (faults : R → ℕ) (script : List ℕ) (status : Status) (old new : Option (List ℕ)) (before after : List R) : Type 0 where
+  pub plays : Plays segments faults script status old new before after
+  pub answers : AreAnswers (acting_in plays.part script) (played_part plays.part script plays.fates)
+  pub historical : IsHistorical (played_part plays.part script plays.fates)
+  pub alone : (status ≡ NoMemory → ⊥) → NoneRose (replica_counts faults before) (replica_counts faults after) → IsFaultless plays.fates
 
--- a run of a script over replicas says what `play` says, and the replies in its text are the receipts of the sessions; where it was played to
--- its end these are the answers of one map
-pub record PlaysOneMap {R : Type 0} (segments : R → Option Segments) (script : List ℕ) (status : Status) (old new : Option (List ℕ)) (replicas : List R) : Type 0 where
-  pub plays : Plays segments script status old new replicas
-  pub answers : AreAnswers (played script plays.calls)
-  pub one_map : IsWhole status → IsOneMap (played script plays.calls).cluster
+-- a script that is played without faults, however far, meets no code and no lane that is worn
+abbrev pub IsSmooth : List ℕ → Type 0
+IsSmooth script =
+    (moves : List ℕ) → let it = played script (faultless moves) in (it.status ≡ Refused → ⊥) × (it.status ≡ Worn → ⊥)
 
--- by what the calls of replicas came to, a run of a script has this status, and its sink holds what was written, in which the replies are the
--- receipts of the sessions; where it was played to its end these are the answers of one map
+-- by some fates of the calls of replicas a run of a script, or of its first commands, has this status, and its sink holds what was written, in
+-- which the replies are the receipts of the sessions; it is a run of the definitions
 pub record IsPlayed (script : List ℕ) (status : Status) (old new : Option (List ℕ)) : Type 0 where
-  pub calls : List (List Called)
-  pub runs : Runs (played script calls) status old new
-  pub answers : AreAnswers (played script calls)
-  pub one_map : IsWhole status → IsOneMap (played script calls).cluster
+  pub part : Option ℕ
+  pub may : MayBePart status (count_of (script_of script)) part
+  pub fates : List (List Fate)
+  pub runs : Runs (played_part part script fates) status old new
+  pub answers : AreAnswers (acting_in part script) (played_part part script fates)
+  pub historical : IsHistorical (played_part part script fates)

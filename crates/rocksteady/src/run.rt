@@ -1,13 +1,12 @@
-ghost use Rattle.std.specs.Prelude.{◌≡◌, ◌+◌, List, map, length, true, false, IfSome, string_bytes};
+ghost use Rattle.std.specs.Prelude.{◌≡◌, ◌⊎◌, ◌+◌, [], map, length, true, false, IfSome, string_bytes};
 ghost use Rattle.std.specs.Io.KnownBytes.{IsAtEnd};
 ghost use Rattle.rk_cluster.specs.Faults.{GoOn};
 ghost use Rattle.rk_cluster.specs.Fresh.{AreEmpty};
 ghost use Rattle.rk_outside.specs.Parts.{ConsumesBetween};
-ghost use Rattle.rk_world.specs.Backup.{Called};
-ghost use Rattle.rk_laws_play.specs.Historical.{IsHistorical};
-ghost use Rattle.rk_play.specs.Played.{played};
-ghost use Rattle.rk_play.specs.Runs.{HasStatusCause, IsRead};
-ghost use Rattle.rocksteady.specs.Run.{PlaysOneMap, Refuses, is_play};
+ghost use Rattle.rk_settle.specs.Faults.{RoseInRounds};
+ghost use Rattle.rk_scripts.specs.play.Alone.{NoneRose};
+ghost use Rattle.rk_play.specs.Runs.{HasStatusCause, IsRead, replica_counts};
+ghost use Rattle.rocksteady.specs.Run.{IsSmooth, PlaysOneMap, Refuses, is_play};
 
 use rk_outside::{Gate, PIECE, Replica, Sink, Source, put_all};
 use rk_play::play;
@@ -48,7 +47,7 @@ fn write_usage<K: Sink>(sink: &mut K) -> Status
 /// what the sink and the replicas tell, the clause `play` says what each status means. A fault of the source, the sink or the
 /// replicas comes only where a count of theirs rose in this call, and `Done` only once the source has given its end. A script
 /// that is too long is read up to one piece past the longest.
-#[tactic(auto, using(crate::proofs::Telling::history_told, crate::proofs::Telling::one_map_told))]
+#[tactic(auto, using(crate::proofs::Telling::one_map_told, crate::proofs::Telling::complete_told))]
 pub fn run<X: Threads + Wait + Sync, S: Source, K: Sink, R: Replica + Send + Drop, G: Gate + Sync>(
     _rt: &X,
     alloc: Global,
@@ -60,18 +59,21 @@ pub fn run<X: Threads + Wait + Sync, S: Source, K: Sink, R: Replica + Send + Dro
 ) -> Status
     requires { length replicas.old.items ≡ 32 }
 
-    // What the sink holds afterwards and what the replicas tell, by the status. The answers are those of one map: the replies that
-    // were written are the receipts of the sessions, client by client; and whatever the script, and whatever the calls of replicas
-    // came to, the journals at the end of a run that was played to its end make one lawful history that is ordered with the sessions.
+    // By the status: what the sink holds afterwards, what the replicas report, and how often each of them failed. The run that this speaks
+    // of is one of the definitions, whatever failed: its replies are the receipts of the sessions, client by client, its journals make one
+    // lawful history that is ordered with the sessions, each lane is sound at each step, each migration that ends leaves the old tablet
+    // overlaid by later writes, and each refusal is justified. If no replica's count of faults rose it is the run of the script alone.
     ensures play { is_play (map string_bytes words.now) ≡ true → AreEmpty R.segments replicas.old.items
-        → IfSome (S.left source.old) (λ script.
-        PlaysOneMap R.segments script result (K.written sink.old) (K.written sink.new) replicas.new.items) }
+        → IfSome (S.left source.old) (λ script. PlaysOneMap R.segments R.faults script result (K.written sink.old) (K.written sink.new)
+        replicas.old.items replicas.new.items) }
+
+    // A script that meets no code and no lane that is worn is done, or memory was wanting, where neither source, sink nor replica failed.
+    ensures complete { is_play (map string_bytes words.now) ≡ true → AreEmpty R.segments replicas.old.items
+        → IfSome (S.left source.old) (λ script. IsSmooth script
+        → NoneRose (replica_counts R.faults replicas.old.items) (replica_counts R.faults replicas.new.items)
+        → (result ≡ Status.ReadFault → ⊥) → (result ≡ Status.WriteFault → ⊥) → (result ≡ Status.Done) ⊎ (result ≡ Status.NoMemory)) }
     ensures wrong_words { is_play (map string_bytes words.now) ≡ false →
         Refuses result (K.written sink.old) (K.written sink.new) }
-
-    // So it is with any answers of replicas that may come: the cluster that a script leaves is what its occurrences make of a new
-    // one, and where replicas answer what they store these are a run.
-    ensures history { IfSome (S.left source.old) (λ script. (calls : List (List Called)) → IsHistorical (played script calls)) }
 
     // What is gone from the source.
     ensures unread { is_play (map string_bytes words.now) ≡ false → source.new ≡ source.old }
@@ -86,12 +88,16 @@ pub fn run<X: Threads + Wait + Sync, S: Source, K: Sink, R: Replica + Send + Dro
     ensures read_cause { HasStatusCause Status.ReadFault result (S.faults source.old) (S.faults source.new) }
     ensures write_cause { HasStatusCause Status.WriteFault result (K.faults sink.old) (K.faults sink.new) }
 
-    // Replicas failed too often only where their counts of faults rose by a hundred in all, or one is as great as a count can be.
-    ensures replica_cause { result ≡ Status.ReplicaFault → GoOn 100 (map R.faults replicas.old.items) (map R.faults replicas.new.items) }
+    // Replicas failed too often only after a hundred rounds, in each of which the count of some replica rose.
+    ensures replica_cause { result ≡ Status.ReplicaFault
+        → RoseInRounds 100 (replica_counts R.faults replicas.old.items) (replica_counts R.faults replicas.new.items) }
 
     // The replicas that come back.
     ensures untouched { is_play (map string_bytes words.now) ≡ false → replicas.new.items ≡ replicas.old.items }
+    ensures unread_untouched { result ≡ Status.ReadFault → replicas.new.items ≡ replicas.old.items }
     ensures count { (result ≡ Status.NoMemory → ⊥) → length replicas.new.items ≡ 32 }
+    ensures counts { (result ≡ Status.NoMemory → ⊥)
+        → GoOn [] (replica_counts R.faults replicas.old.items) (replica_counts R.faults replicas.new.items) }
 {
     if !are_play(words) {
         return write_usage(sink);

@@ -1,7 +1,7 @@
 // How a client sends its last request again.
-ghost use Rattle.std.specs.Prelude.{◌≡◌, ◌<◌, ℕ, length, None, Some, IfErr, IfOk, OnOk};
+ghost use Rattle.std.specs.Prelude.{◌≡◌, ◌<◌, [], ℕ, length, None, Some, IfErr, IfOk, OnErr, OnOk};
 ghost use Rattle.rk_types.specs.declared.hashing.TheConstants.{LANES};
-ghost use Rattle.rk_cluster.specs.Again.{IsNextAt, IsSentAgain};
+ghost use Rattle.rk_cluster.specs.Again.{IsAgainCutShort, IsNextAt, IsSentAgain};
 ghost use Rattle.rk_cluster.specs.Codes.{again_code};
 ghost use Rattle.rk_cluster.specs.Effects.{EndsIn, IsCarriedOut};
 ghost use Rattle.rk_cluster.specs.Makes.{again_makes, request_lane as request_lane_lem};
@@ -28,7 +28,7 @@ impl<R: Replica + Drop> Cluster<R> {
         ensures err { IfErr result (EndsIn R.segments self.old self.new (λ cluster. again_code cluster client)
             (λ cluster. again_makes cluster client)) }
         ensures backups { backups_of self.new ≡ backups_of self.old }
-        ensures counts { CountsGoOn R.faults 0 self.old self.new }
+        ensures counts { CountsGoOn R.faults [] self.old self.new }
     {
         let alloc = self.alloc();
         let Some(session) = self.sessions.get(&client) else {
@@ -70,10 +70,11 @@ fn again_in<R: Replica + Drop>(
     requires next { IsNextAt lanes.old.items lane number }
     ensures ok { OnOk result (IsSentAgain R.segments lanes.old.items lanes.new.items lane client number None) }
     ensures err { IfErr result (WhereWorn (λ broken. IsSentAgain R.segments lanes.old.items lanes.new.items lane client number (Some broken))) }
+    ensures short { OnErr result (IsAgainCutShort R.segments lanes.old.items lanes.new.items lane client number) }
     ensures lanes { (masters : ℕ) → AreLanes masters 0 lanes.old.items → AreLanes masters 0 lanes.new.items }
     ensures count { length lanes.new.items ≡ length lanes.old.items }
     ensures backups { backup_counts lanes.new.items ≡ backup_counts lanes.old.items }
-    ensures counts { LanesGoOn R.faults 0 lanes.old.items lanes.new.items }
+    ensures counts { LanesGoOn R.faults [] lanes.old.items lanes.new.items }
 {
     act(lanes, lane, Event::Again(client))?;
     act(lanes, lane, Event::Deliver(number))?;

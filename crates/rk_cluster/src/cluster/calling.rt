@@ -1,5 +1,5 @@
 // How a client asks its next call.
-ghost use Rattle.std.specs.Prelude.{◌≡◌, ◌≤◌, ℕ, None, IfOk, IfErr, IsSomeAnd, OnOk, OnErr};
+ghost use Rattle.std.specs.Prelude.{◌≡◌, ◌≤◌, [], ℕ, None, IfOk, IfErr, IsSomeAnd, OnOk, OnErr};
 ghost use Rattle.rk_message.specs.Calls.{IsLawfulOp};
 ghost use Rattle.rk_types.specs.NumberMap.{get};
 ghost use Rattle.rk_world.specs.Client.{with_next_call};
@@ -40,7 +40,7 @@ impl<R: Replica + Drop> Cluster<R> {
         ensures err { IfErr result (EndsIn R.segments self.old self.new (λ cluster. call_code cluster client table)
             (λ cluster. call_makes client table key op)) }
         ensures backups { backups_of self.new ≡ backups_of self.old }
-        ensures counts { CountsGoOn R.faults 0 self.old self.new }
+        ensures counts { CountsGoOn R.faults [] self.old self.new }
     {
         let alloc = self.alloc();
         let first = &self.lanes[0];

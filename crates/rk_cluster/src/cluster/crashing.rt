@@ -5,20 +5,20 @@ ghost use Rattle.rk_types.specs.declared.hashing.TheConstants.{LANES as lane_cou
 ghost use Rattle.rk_world.specs.Premises.{IsMaster};
 ghost use Rattle.rk_world.specs.Runs.{lives_another as lives_another_lem};
 ghost use Rattle.rk_world.specs.World.{World};
-ghost use Rattle.rk_world.specs.declared.event.Event.TheVariants as events;
 ghost use Rattle.rk_cluster.specs.Codes.{crash_code};
-ghost use Rattle.rk_cluster.specs.Crashing.{IsOfCode, IsSameBeside, crashes};
+ghost use Rattle.rk_cluster.specs.Crashing.{IsOfCode, crashes};
 ghost use Rattle.rk_cluster.specs.Effects.{EndsIn, IsCarriedOut};
 ghost use Rattle.rk_cluster.specs.Makes.{crash_makes};
 ghost use Rattle.rk_cluster.specs.Faults.{CountsGoOn, LanesGoOn};
 ghost use Rattle.rk_cluster.specs.Masters.{backup_counts, backups_of};
 ghost use Rattle.rk_cluster.specs.State.{AreWorlds};
-ghost use Rattle.rk_cluster.specs.Steps.{AreLanes, CarriesSteps, IsHappening, MayComeAt};
+ghost use Rattle.rk_cluster.specs.Steps.{AreLanes, CarriesSteps};
 ghost use Rattle.rk_cluster.specs.Tests.{HoldsIn};
 
 use super::{Cluster, nothing_said};
 use crate::code::Code;
 use crate::error::ClusterError;
+use crate::steps::act_anyway;
 use rk_lane::Lane;
 use rk_outside::Replica;
 use rk_types::{LANES, Said};
@@ -34,7 +34,7 @@ impl<R: Replica + Drop> Cluster<R> {
             (λ cluster. crash_makes cluster master)) }
         ensures code { IfErr result IsOfCode }
         ensures backups { backups_of self.new ≡ backups_of self.old }
-        ensures counts { CountsGoOn R.faults 0 self.old self.new }
+        ensures counts { CountsGoOn R.faults [] self.old self.new }
     {
         let alloc = self.alloc();
         let first = &self.lanes[0];
@@ -68,21 +68,6 @@ fn lives_another<R: Replica + Drop>(lanes: &[Lane<R>], master: u8) -> bool
     true
 }
 
-// A master crashes in a lane, where another one lives. Takes no memory.
-fn crash_in<R: Replica + Drop>(lanes: &mut Vec<Lane<R>>, lane: u8, master: u8)
-    requires there { lane < length lanes.old.items }
-    requires may { MayComeAt lanes.old.items lane (events.Crash master) }
-    ensures happens { IsHappening R.segments lanes.old.items lanes.new.items lane (events.Crash master) None }
-    ensures beside { IsSameBeside lane lanes.old.items lanes.new.items }
-    ensures lanes { (masters : ℕ) → AreLanes masters 0 lanes.old.items → AreLanes masters 0 lanes.new.items }
-    ensures count { length lanes.new.items ≡ length lanes.old.items }
-    ensures backups { backup_counts lanes.new.items ≡ backup_counts lanes.old.items }
-    ensures counts { LanesGoOn R.faults 0 lanes.old.items lanes.new.items }
-{
-    // The one refusal is that the master has crashed already, and then nothing happens.
-    let _ = lanes[lane as usize].step(Event::Crash(master));
-}
-
 // A master crashes in each lane; in each one another master lives. Takes no memory.
 fn crash_all<R: Replica + Drop>(lanes: &mut Vec<Lane<R>>, masters: u8, master: u8)
     requires count { length lanes.old.items ≡ lane_count }
@@ -93,9 +78,10 @@ fn crash_all<R: Replica + Drop>(lanes: &mut Vec<Lane<R>>, masters: u8, master: u
     ensures lanes { AreLanes masters 0 lanes.new.items }
     ensures count { length lanes.new.items ≡ length lanes.old.items }
     ensures backups { backup_counts lanes.new.items ≡ backup_counts lanes.old.items }
-    ensures counts { LanesGoOn R.faults 0 lanes.old.items lanes.new.items }
+    ensures counts { LanesGoOn R.faults [] lanes.old.items lanes.new.items }
 {
     for lane in 0..LANES {
-        crash_in(lanes, lane, master);
+        // The one refusal is that the master has crashed already, and then nothing happens.
+        act_anyway(lanes, lane, Event::Crash(master));
     }
 }

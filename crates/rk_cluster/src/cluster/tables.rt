@@ -1,5 +1,5 @@
 // Calls that make tables, move tablets and split them.
-ghost use Rattle.std.specs.Prelude.{◌≡◌, ◌≤◌, IfOk, IfErr};
+ghost use Rattle.std.specs.Prelude.{◌≡◌, ◌≤◌, [], IfOk, IfErr};
 ghost use Rattle.rk_cluster.specs.Codes.{migrate_code, split_code, table_code};
 ghost use Rattle.rk_cluster.specs.Effects.{EndsIn, IsCarriedOut};
 ghost use Rattle.rk_cluster.specs.Faults.{CountsGoOn};
@@ -26,7 +26,7 @@ impl<R: Replica + Drop> Cluster<R> {
         ensures err { IfErr result (EndsIn R.segments self.old self.new (λ cluster. table_code cluster table master)
             (λ cluster. table_makes cluster table master)) }
         ensures backups { backups_of self.new ≡ backups_of self.old }
-        ensures counts { CountsGoOn R.faults 0 self.old self.new }
+        ensures counts { CountsGoOn R.faults [] self.old self.new }
     {
         let alloc = self.alloc();
         let tablet = admit_table(&self.lanes, &self.sessions, self.masters, table, master)?;
@@ -54,7 +54,7 @@ impl<R: Replica + Drop> Cluster<R> {
         ensures err { IfErr result (EndsIn R.segments self.old self.new (λ cluster. migrate_code cluster tablet to)
             (λ cluster. migrate_makes cluster tablet to)) }
         ensures backups { backups_of self.new ≡ backups_of self.old }
-        ensures counts { CountsGoOn R.faults 0 self.old self.new }
+        ensures counts { CountsGoOn R.faults [] self.old self.new }
     {
         let alloc = self.alloc();
         let concerned = admit_migration(alloc, &self.lanes, self.masters, tablet, to)?;
@@ -73,7 +73,7 @@ impl<R: Replica + Drop> Cluster<R> {
         ensures err { IfErr result (EndsIn R.segments self.old self.new (λ cluster. split_code cluster tablet at)
             (λ cluster. split_makes cluster tablet at)) }
         ensures backups { backups_of self.new ≡ backups_of self.old }
-        ensures counts { CountsGoOn R.faults 0 self.old self.new }
+        ensures counts { CountsGoOn R.faults [] self.old self.new }
     {
         let alloc = self.alloc();
         let new = admit_split(&self.lanes, tablet, at)?;

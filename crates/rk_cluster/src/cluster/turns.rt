@@ -1,5 +1,5 @@
 // How the nodes of a lane take their turns, and how one event comes to a lane.
-ghost use Rattle.std.specs.Prelude.{◌≡◌, ◌<◌, [], All, length, None, Some, IfErr, IfOk, OnOk};
+ghost use Rattle.std.specs.Prelude.{◌≡◌, ◌<◌, [], All, length, None, Some, IfErr, IfOk, OnErr, OnOk};
 ghost use Rattle.rk_types.specs.declared.hashing.TheConstants.{LANES};
 ghost use Rattle.rk_world.specs.Backup.{Gave};
 ghost use Rattle.rk_types.specs.NumberMap.{numbers};
@@ -12,6 +12,7 @@ ghost use Rattle.rk_cluster.specs.Effects.{ActsOne, EndsIn, IsCarriedOut};
 ghost use Rattle.rk_cluster.specs.Faults.{CountsGoOn};
 ghost use Rattle.rk_cluster.specs.Makes.{turn_makes};
 ghost use Rattle.rk_cluster.specs.Masters.{HasBackups, MayComeIn, backups_of, masters_of};
+ghost use Rattle.rk_cluster.specs.Spending.{IsShortOf};
 ghost use Rattle.rk_cluster.specs.Steps.{AreLanes, IsPlain, WhereWorn};
 
 use super::nothing_said;
@@ -52,9 +53,10 @@ impl<R: Replica + Drop> Cluster<R> {
         ensures ok { OnOk result (ActsOne R.segments self.old self.new (Happens lane event (Gave None)) [] None) }
         ensures err { IfErr result (WhereWorn (λ number. ActsOne R.segments self.old self.new
             (Happens lane event (Gave None)) [] (Some number))) }
+        ensures short { OnErr result (IsShortOf self.old self.new) }
         ensures masters { masters_of self.new ≡ masters_of self.old }
         ensures backups { backups_of self.new ≡ backups_of self.old }
-        ensures counts { CountsGoOn R.faults 0 self.old self.new }
+        ensures counts { CountsGoOn R.faults [] self.old self.new }
     {
         act(&mut self.lanes, lane, event)
     }
@@ -88,7 +90,7 @@ impl<R: Replica + Drop> Cluster<R> {
             (λ cluster. turn_makes cluster lane)) }
         ensures masters { masters_of self.new ≡ masters_of self.old }
         ensures backups { backups_of self.new ≡ backups_of self.old }
-        ensures counts { CountsGoOn R.faults 0 self.old self.new }
+        ensures counts { CountsGoOn R.faults [] self.old self.new }
     {
         let alloc = self.alloc();
         // Who takes a turn is settled before the first one does.

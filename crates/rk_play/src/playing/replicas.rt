@@ -4,7 +4,7 @@ ghost use Rattle.rk_types.specs.declared.hashing.TheConstants.{LANES as lane_cou
 ghost use Rattle.rk_log.specs.declared.copied.TheConstants.{MOST_BACKUPS as most_backups};
 ghost use Rattle.rk_lane.specs.LaneState.{replicas_of};
 ghost use Rattle.rk_cluster.specs.Dealt.{AreDealt};
-ghost use Rattle.rk_cluster.specs.Masters.{HasBackups};
+ghost use Rattle.rk_cluster.specs.Masters.{backups_of};
 ghost use Rattle.rk_play.specs.Lent.{AreGivenBack, HasLent, IsRoom, IsRoomFor};
 
 use rk_cluster::Cluster;
@@ -56,11 +56,13 @@ pub(super) fn give_back<R: Replica + Drop>(
     kept: Kept<R>,
     replicas: &mut Vec<R>,
 )
-    requires lanes { length cluster.lanes ≡ lane_count }
-    requires each { All (HasBackups kept.backups) cluster.lanes }
+    requires backups { backups_of cluster ≡ kept.backups }
     requires room { IsRoom kept replicas.old }
     ensures { AreGivenBack cluster.lanes kept.others.items replicas.new.items }
 {
+    // Asked how many masters and backups there are, a cluster tells that it has eight lanes, and in each as many backups.
+    let _masters = cluster.masters();
+    let _backups = cluster.backups();
     let mut hands = hands_of(cluster.into_lanes(), kept.hands);
     gather(&mut hands, replicas);
     put_behind(kept.others, replicas);

@@ -14,6 +14,6 @@ pub returns-clause-play : goal.returns-clause-play
 returns-clause-play g c = λ is.
     let words = c.as_slice.ensures.value ∙ c.in-Ok.ensures.words in
     let replicas = c.in-Ok-replicas.replicas.items in
-    played_told (λ (replica : ReplicaState). Some (segments_of replica)) (g.S.Source.left c.args.source.now) c.run.result (g.K.Sink.written c.args.sink.now)
-    (g.K.Sink.written c.run.new.sink) c.run.new.replicas.items
+    played_told (λ (replica : ReplicaState). Some (segments_of replica)) (λ (replica : ReplicaState). replica.faults) (g.S.Source.left c.args.source.now) c.run.result (g.K.Sink.written c.args.sink.now)
+    (g.K.Sink.written c.run.new.sink) replicas c.run.new.replicas.items
     (c.run.ensures.play (rw words is) (new_empty replicas c.in-Ok-replicas.ensures.new))

@@ -3,7 +3,7 @@ use Rattle.std.proofs.lemmas.Result.{err_from_is_err_and}
 use Rattle.rk_world.specs.declared.event.Event.TheVariants as events
 use Rattle.rk_cluster.specs.Steps.{IsHappening, StepsEndWorn}
 use Rattle.rk_cluster.specs.declared.steps.Deed.{Deed}
-use Rattle.rk_cluster.proofs.Deeds.{acting_all, acting_none, acting_one, acting_worn, may_come_at}
+use Rattle.rk_cluster.proofs.Deeds.{acting_all, acting_none, acting_one, acting_short, acting_worn, may_come_at}
 use Rattle.rk_cluster.proofs.Heard.{worn_weaker}
 use Rattle.rk_cluster.proofs.Faults.{lanes_then}
 use Rattle.rk_cluster.proofs.steps.act_all.Goals as goal
@@ -29,13 +29,20 @@ pub returns-in_err-act-clause-err : goal.returns-in_err-act-clause-err
 returns-in_err-act-clause-err g c =
     let lost = err_from_is_err_and c.from_residual.result c.from_residual.ensures.1 in
     rw (lost.1, lost.2)
-    (worn_weaker (λ number. IsHappening g.R.Replica.segments c.loop-deed.lanes.items c.act.new.lanes.items (slice_index_or c.args.deeds.now c.loop-deed.deed-index no_deed).lane
+    (worn_weaker (λ number. IsHappening g.R.Replica.segments g.R.Replica.faults c.loop-deed.lanes.items c.act.new.lanes.items (slice_index_or c.args.deeds.now c.loop-deed.deed-index no_deed).lane
     (slice_index_or c.args.deeds.now c.loop-deed.deed-index no_deed).event (Some number))
     (StepsEndWorn g.R.Replica.segments c.args.lanes.now.items c.act.new.lanes.items c.args.deeds.now) c.in_err-act.field-0.0
     (λ number happening. acting_worn g.R.Replica.segments g.R.Replica.faults c.args.lanes.now.items c.loop-deed.lanes.items c.act.new.lanes.items c.args.masters c.args.deeds.now c.loop-deed.deed-index
     (slice_index_or c.args.deeds.now c.loop-deed.deed-index no_deed) no_deed number c.loop-deed-test.true refl
     (c.requires.may c.loop-deed.deed-index no_deed c.loop-deed-test.true) happening c.loop-deed.invariant)
     c.in_err-act.ensures.err)
+
+pub returns-in_err-act-clause-short : goal.returns-in_err-act-clause-short
+returns-in_err-act-clause-short g c =
+    let lost = err_from_is_err_and c.from_residual.result c.from_residual.ensures.1 in
+    rw lost.1
+    (acting_short g.R.Replica.segments g.R.Replica.faults c.args.lanes.now.items c.loop-deed.lanes.items c.act.new.lanes.items c.args.masters c.args.deeds.now c.loop-deed.deed-index
+    c.loop-deed.invariant c.in_err-act.ensures.short)
 
 pub returns-clause-ok : goal.returns-clause-ok
 returns-clause-ok g c =

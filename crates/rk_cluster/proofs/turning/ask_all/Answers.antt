@@ -5,7 +5,7 @@ use Rattle.rk_cluster.specs.Effects.{ActsOne}
 use Rattle.rk_cluster.specs.Steps.{EndsWorn, state_of}
 use Rattle.rk_cluster.specs.Visits.{all_ask}
 use Rattle.rk_cluster.proofs.Heard.{worn_weaker}
-use Rattle.rk_cluster.proofs.Turned.{asking_all, asking_none, asking_one, asking_worn}
+use Rattle.rk_cluster.proofs.Turned.{asking_all, asking_none, asking_one, asking_short, asking_worn}
 use Rattle.rk_cluster.proofs.Faults.{lanes_then}
 use Rattle.rk_cluster.proofs.turning.ask_all.Goals as goal
 
@@ -33,6 +33,13 @@ returns-in_err-ask_in-clause-err g c =
     asking_worn g.R.Replica.segments g.R.Replica.faults start now next c.args.masters c.args.lane c.args.clients.now c.loop-client.client-index client 0 number c.loop-client-test.true refl one
     c.loop-client.invariant)
     c.in_err-ask_in.ensures.err)
+
+pub returns-in_err-ask_in-clause-short : goal.returns-in_err-ask_in-clause-short
+returns-in_err-ask_in-clause-short g c =
+    let lost = err_from_is_err_and c.from_residual.result c.from_residual.ensures.1 in
+    rw lost.1
+    (asking_short g.R.Replica.segments g.R.Replica.faults (state_of c.args.lanes.now.items c.args.sessions.now.entries) (state_of c.loop-client.lanes.items c.loop-client.sessions.entries)
+    (state_of c.ask_in.new.lanes.items c.ask_in.new.sessions.entries) c.args.masters c.args.lane c.args.clients.now c.loop-client.client-index c.loop-client.invariant c.in_err-ask_in.ensures.short)
 
 pub returns-clause-ok : goal.returns-clause-ok
 returns-clause-ok g c =

@@ -11,9 +11,10 @@ use Rattle.rk_world.specs.Premises.{MayAct}
 use Rattle.rk_cluster.specs.Effects.{ActsOne}
 use Rattle.rk_cluster.specs.Saying.{said_then}
 use Rattle.rk_cluster.specs.Steps.{MayAllAct, state_of}
-use Rattle.rk_cluster.specs.Visits.{HasSession}
-use Rattle.rk_cluster.proofs.Coming.{accepts, accepts_lane, has_after}
+use Rattle.rk_cluster.specs.Visits.{AcceptsShort, HasSession}
+use Rattle.rk_cluster.proofs.Coming.{accepts, accepts_lane, accepts_short, has_after}
 use Rattle.rk_cluster.proofs.Heard.{heard_well}
+use Rattle.rk_cluster.proofs.Shortage.{on_err_anyway}
 use Rattle.rk_cluster.proofs.Worlds.{counts_set, lane_set, masters_at, there_read}
 use Rattle.rk_world.specs.Calls as calls
 use Rattle.rk_cluster.proofs.Failing.{lanes_visited}
@@ -49,6 +50,22 @@ returns-clause-ok g c =
     c.accept-answer.ensures.ok c.accept-answer.ensures.refused c.accept-answer.ensures.kept c.accept-answer.ensures.session)))))
     c.tell.ensures.ok
 
+pub returns-clause-short : goal.returns-clause-short
+returns-clause-short g c =
+    let lanes = c.args.lanes.now.items in
+    let now = c.args.sessions.now.entries in
+    let there = there_read lanes c.args.lane c.index_mut-at.result.now c.requires.there c.index_mut-at.ensures.value in
+    let found : get now c.args.client ≡ Some c.in-Some.session.now = get_tree c.args.sessions.now c.args.client ∙ sym c.in-Some.ensures.value in
+    let later = c.accept-answer.new.session in
+    let written = c.get_mut.follows.holds later in
+    let put = insert_tree c.args.sessions.now (c.get_mut.follows.lender later) c.args.client later c.in-Some.ensures.ordered written.4 (written.3 (subst IsSome c.in-Some.ensures.value refl)) in
+    let order = in_order_tree c.args.sessions.now c.in-Some.ensures.ordered in
+    on_err_anyway c.tell.result
+    (subst (λ (sessions : NumberMap Session). AcceptsShort g.R.Replica.segments (state_of lanes now) (state_of (slice_set lanes c.args.lane c.accept-answer.new.self) sessions)
+    c.args.lane c.args.number c.args.client) (sym put)
+    (accepts_short g.R.Replica.segments lanes now c.args.lane c.args.number c.args.client c.index_mut-at.result.now c.accept-answer.new.self c.in-Some.session.now later c.accept-answer.result
+    there found order c.accept-answer.ensures.ok c.accept-answer.ensures.refused c.accept-answer.ensures.kept c.accept-answer.ensures.session))
+
 pub returns-clause-lanes : goal.returns-clause-lanes
 returns-clause-lanes g c =
     let there = there_read c.args.lanes.now.items c.args.lane c.index_mut-at.result.now c.requires.there c.index_mut-at.ensures.value in
@@ -81,5 +98,5 @@ returns-clause-clients g c =
 
 pub returns-clause-counts : goal.returns-clause-counts
 returns-clause-counts g c =
-    lanes_visited g.R.Replica.faults (λ w. calls.accept w c.args.number c.in-Some.session.now) c.args.lanes.now.items c.args.lane c.index_mut-at.result.now c.accept-answer.new.self c.accept-answer.new.session c.accept-answer.result
-    (there_read c.args.lanes.now.items c.args.lane c.index_mut-at.result.now c.requires.there c.index_mut-at.ensures.value) c.accept-answer.ensures.ok c.accept-answer.ensures.kept
+    lanes_visited g.R.Replica.faults c.args.lanes.now.items c.args.lane c.index_mut-at.result.now c.accept-answer.new.self
+    (there_read c.args.lanes.now.items c.args.lane c.index_mut-at.result.now c.requires.there c.index_mut-at.ensures.value) (λ w. calls.accept w c.args.number c.in-Some.session.now) c.accept-answer.new.session c.accept-answer.result c.accept-answer.ensures.ok c.accept-answer.ensures.kept

@@ -1,4 +1,4 @@
-use Rattle.std.proofs.Common.{◌≡◌, ℕ, [], Option, None, Some, IsSome, slice_set, refl, sym, subst, ◌∙◌}
+use Rattle.std.proofs.Common.{◌≡◌, ℕ, [], inl, inr, Option, None, Some, IsSome, slice_set, refl, sym, subst, ◌∙◌}
 use Rattle.std.proofs.lemmas.Result.{on_ok_weaker, IfErr-weaker}
 use Rattle.rk_types.specs.NumberMap.{NumberMap, get, insert}
 use Rattle.rk_types.proofs.NumberMaps.{each_insert}
@@ -7,10 +7,12 @@ use Rattle.rk_world.specs.Cluster.{Asks}
 use Rattle.rk_world.specs.Client.{Session}
 use Rattle.rk_world.specs.Premises.{MayAct}
 use Rattle.rk_cluster.specs.Effects.{ActsOne}
-use Rattle.rk_cluster.specs.Steps.{MayAllAct, state_of}
+use Rattle.rk_cluster.specs.Spending.{HasTurnedOne}
+use Rattle.rk_cluster.specs.Steps.{MayAllAct, failure_of, state_of}
 use Rattle.rk_cluster.specs.Visits.{HasSession}
 use Rattle.rk_cluster.proofs.Coming.{asks, asks_lane, has_after}
 use Rattle.rk_cluster.proofs.Heard.{heard_ends, heard_well}
+use Rattle.rk_cluster.proofs.Shortage.{kept_short, on_err_from, turned_short}
 use Rattle.rk_cluster.proofs.Worlds.{counts_set, lane_set, masters_at, there_read}
 use Rattle.rk_world.specs.Calls as calls
 use Rattle.rk_cluster.proofs.Failing.{lanes_visited}
@@ -68,6 +70,22 @@ returns-clause-err g c =
     c.ask-answer.ensures.kept c.ask-answer.ensures.session)))))
     c.heard.ensures.err
 
+pub returns-clause-short : goal.returns-clause-short
+returns-clause-short g c =
+    let lanes = c.args.lanes.now.items in
+    let there = there_read lanes c.args.lane c.index_mut-at.result.now c.requires.there c.index_mut-at.ensures.value in
+    let found : get c.args.sessions.now.entries c.args.client ≡ Some c.in-Some.session.now = get_tree c.args.sessions.now c.args.client ∙ sym c.in-Some.ensures.value in
+    let later = c.ask-answer.new.session in
+    let written = c.get_mut.follows.holds later in
+    let put = insert_tree c.args.sessions.now (c.get_mut.follows.lender later) c.args.client later c.in-Some.ensures.ordered written.4 (written.3 (subst IsSome c.in-Some.ensures.value refl)) in
+    on_err_from c.heard.result (λ e. failure_of c.ask-answer.result ≡ Some e)
+    (λ e failed. record {
+      lanes = inl (kept_short lanes c.args.lane c.index_mut-at.result.now c.ask-answer.new.self c.ask-answer.result e there c.ask-answer.ensures.kept failed);
+      sessions = inr (subst (HasTurnedOne c.args.sessions.now.entries) (sym put)
+          (turned_short c.args.sessions.now.entries c.args.client c.in-Some.session.now later c.ask-answer.result e found c.ask-answer.ensures.turned failed));
+    })
+    c.heard.ensures.err
+
 pub returns-clause-lanes : goal.returns-clause-lanes
 returns-clause-lanes g c =
     let there = there_read c.args.lanes.now.items c.args.lane c.index_mut-at.result.now c.requires.there c.index_mut-at.ensures.value in
@@ -100,5 +118,5 @@ returns-clause-clients g c =
 
 pub returns-clause-counts : goal.returns-clause-counts
 returns-clause-counts g c =
-    lanes_visited g.R.Replica.faults (λ w. calls.ask w c.in-Some.session.now) c.args.lanes.now.items c.args.lane c.index_mut-at.result.now c.ask-answer.new.self c.ask-answer.new.session c.ask-answer.result
-    (there_read c.args.lanes.now.items c.args.lane c.index_mut-at.result.now c.requires.there c.index_mut-at.ensures.value) c.ask-answer.ensures.ok c.ask-answer.ensures.kept
+    lanes_visited g.R.Replica.faults c.args.lanes.now.items c.args.lane c.index_mut-at.result.now c.ask-answer.new.self
+    (there_read c.args.lanes.now.items c.args.lane c.index_mut-at.result.now c.requires.there c.index_mut-at.ensures.value) (λ w. calls.ask w c.in-Some.session.now) c.ask-answer.new.session c.ask-answer.result c.ask-answer.ensures.ok c.ask-answer.ensures.kept

@@ -1,6 +1,5 @@
 -- The run goes on by one command a turn.
-use Rattle.std.proofs.Common.{◌≡◌, [], length, nat_lt, refl, sym, subst, ◌∙◌, arith}
-use Rattle.std.proofs.lemmas.List.{nil_from_length}
+use Rattle.std.proofs.Common.{[], length, nat_lt, refl, sym, subst, ◌∙◌, arith}
 use Rattle.std.proofs.lemmas.List.Elements.{All-tail}
 use Rattle.std.specs.Vec.Iter.{into_iter_items}
 use Rattle.rk_outside.specs.declared.reading.TheConstants.{PIECE}
@@ -18,14 +17,15 @@ commands-init g c = record {
   lawful = rw c.into_iter-numbered-iterator.ensures.into_iter_gives.0 c.requires.lawful;
   on =
       rw c.into_iter-numbered-iterator.ensures.into_iter_gives.0
-      (on_start g.R.Replica.segments c.args.cluster.now c.args.commands.items (g.K.Sink.written c.args.sink.now) c.args.held.now.items c.requires.empty);
+      (on_start g.R.Replica.segments g.R.Replica.faults c.args.cluster.now c.args.commands.items (g.K.Sink.written c.args.sink.now) c.args.held.now.items c.requires.empty);
   kept = refl;
+  backups = refl;
   counts = counts_same g.R.Replica.faults c.args.cluster.now;
 }
 
 pub returns-then-is_err-clause-ends : goal.returns-then-is_err-clause-ends
 returns-then-is_err-clause-ends g c =
-    on_failed g.R.Replica.segments c.args.cluster.now c.commands.cluster c.args.commands.items (into_iter_items c.commands.numbered-iterator) (g.K.Sink.written c.args.sink.now)
+    on_failed g.R.Replica.segments g.R.Replica.faults c.args.cluster.now c.commands.cluster c.args.commands.items (into_iter_items c.commands.numbered-iterator) (g.K.Sink.written c.args.sink.now)
     (g.K.Sink.written c.commands.sink) (g.K.Sink.written c.spill.new.sink) c.commands.held.items c.commands.invariant.on
     (where_err c.spill.result _ c.spill.ensures.err (sym c.is_err.ensures.value ∙ c.if-is_err.true))
 
@@ -35,26 +35,27 @@ commands-preserved g c =
     record {
       lawful = All-tail IsLawful c.in-Some.numbered (into_iter_items c.next.new.self) (rw c.in-Some.ensures.steps.0 at c.commands.invariant.lawful);
       on =
-          on_step g.R.Replica.segments c.args.cluster.now c.commands.cluster c.run_within.new.cluster c.args.commands.items (into_iter_items c.next.new.self) c.in-Some.numbered
+          on_step g.R.Replica.segments g.R.Replica.faults c.args.cluster.now c.commands.cluster c.run_within.new.cluster c.args.commands.items (into_iter_items c.next.new.self) c.in-Some.numbered
           (g.K.Sink.written c.args.sink.now) (g.K.Sink.written c.spill.new.sink) c.spill.new.held.items
-          (on_spilled g.R.Replica.segments c.args.cluster.now c.commands.cluster c.args.commands.items _ (g.K.Sink.written c.args.sink.now) (g.K.Sink.written c.commands.sink)
+          (on_spilled g.R.Replica.segments g.R.Replica.faults c.args.cluster.now c.commands.cluster c.args.commands.items _ (g.K.Sink.written c.args.sink.now) (g.K.Sink.written c.commands.sink)
           (g.K.Sink.written c.spill.new.sink) c.commands.held.items c.spill.new.held.items (nat_lt (length c.commands.held.items) PIECE)
           (rw c.in-Some.ensures.steps.0 at c.commands.invariant.on) (where_ok c.spill.result _ c.spill.ensures.ok fine))
           c.run_within.new.text.items c.in-Ok.ensures.ok;
       kept = where_ok c.spill.result _ c.spill.ensures.cause.kept fine ∙ c.commands.invariant.kept;
-      counts = counts_then g.R.Replica.faults 0 0 c.args.cluster.now c.commands.cluster c.run_within.new.cluster c.commands.invariant.counts c.run_within.ensures.counts;
+      backups = c.run_within.ensures.backups ∙ c.commands.invariant.backups;
+      counts = counts_then g.R.Replica.faults [] [] c.args.cluster.now c.commands.cluster c.run_within.new.cluster c.commands.invariant.counts c.run_within.ensures.counts;
     }
 
 pub returns-in-Err-clause-ends : goal.returns-in-Err-clause-ends
 returns-in-Err-clause-ends g c =
     let fine = sym c.is_err.ensures.value ∙ c.if-is_err.false in
     subst
-    (λ (end : End). EndsBy g.R.Replica.segments c.args.cluster.now c.run_within.new.cluster c.args.commands.items (g.K.Sink.written c.args.sink.now) (g.K.Sink.written c.spill.new.sink)
+    (λ (end : End). EndsBy g.R.Replica.segments g.R.Replica.faults c.args.cluster.now c.run_within.new.cluster c.args.commands.items (g.K.Sink.written c.args.sink.now) (g.K.Sink.written c.spill.new.sink)
     c.run_within.new.text.items end)
     (sym c.end_at.ensures)
-    (on_ended g.R.Replica.segments c.args.cluster.now c.commands.cluster c.run_within.new.cluster c.args.commands.items (into_iter_items c.next.new.self) c.in-Some.numbered
+    (on_ended g.R.Replica.segments g.R.Replica.faults c.args.cluster.now c.commands.cluster c.run_within.new.cluster c.args.commands.items (into_iter_items c.next.new.self) c.in-Some.numbered
     (g.K.Sink.written c.args.sink.now) (g.K.Sink.written c.spill.new.sink) c.spill.new.held.items
-    (on_spilled g.R.Replica.segments c.args.cluster.now c.commands.cluster c.args.commands.items _ (g.K.Sink.written c.args.sink.now) (g.K.Sink.written c.commands.sink)
+    (on_spilled g.R.Replica.segments g.R.Replica.faults c.args.cluster.now c.commands.cluster c.args.commands.items _ (g.K.Sink.written c.args.sink.now) (g.K.Sink.written c.commands.sink)
     (g.K.Sink.written c.spill.new.sink) c.commands.held.items c.spill.new.held.items (nat_lt (length c.commands.held.items) PIECE)
     (rw c.in-Some.ensures.steps.0 at c.commands.invariant.on) (where_ok c.spill.result _ c.spill.ensures.ok fine))
     c.in-Err.error c.run_within.new.text.items c.in-Err.ensures.kept c.in-Err.ensures.err)
@@ -68,9 +69,12 @@ returns-in-Err-clause-cause g c =
       rose = λ failed. absurd (end_apart c.in-Some.numbered.line c.in-Err.error (sym c.end_at.ensures ∙ failed));
     }
 
+pub returns-in-Err-clause-backups : goal.returns-in-Err-clause-backups
+returns-in-Err-clause-backups g c = c.run_within.ensures.backups ∙ c.commands.invariant.backups
+
 pub returns-in-Err-clause-counts : goal.returns-in-Err-clause-counts
 returns-in-Err-clause-counts g c =
-    counts_then g.R.Replica.faults 0 0 c.args.cluster.now c.commands.cluster c.run_within.new.cluster c.commands.invariant.counts c.run_within.ensures.counts
+    counts_then g.R.Replica.faults [] [] c.args.cluster.now c.commands.cluster c.run_within.new.cluster c.commands.invariant.counts c.run_within.ensures.counts
 
 pub returns-in-Err-clause-replica_cause : goal.returns-in-Err-clause-replica_cause
 returns-in-Err-clause-replica_cause g c =

@@ -1,4 +1,4 @@
-use Rattle.std.proofs.Common.{◌≡◌, ◌++◌, List, Option, None, Some, refl, sym, ap, subst, ◌∙◌}
+use Rattle.std.proofs.Common.{◌++◌, List, Option, sym, ap, subst, ◌∙◌}
 use Rattle.std.proofs.lemmas.Result.{err_from_is_err_and}
 use Rattle.rk_types.specs.declared.node.Said.{Said}
 use Rattle.rk_lines.specs.Lines.{said_lines}
@@ -17,37 +17,37 @@ use Rattle.rk_play.proofs.Shown.{came_refused}
 use Rattle.rk_play.proofs.Failing.{of_settling_replicas}
 use Rattle.rk_play.proofs.settling.advance_tablet.Goals as goal
 
-pub returns-in_err-said-clause-err : goal.returns-in_err-said-clause-err
-returns-in_err-said-clause-err g c =
+pub returns-in_err-advance-clause-err : goal.returns-in_err-advance-clause-err
+returns-in_err-advance-clause-err g c =
     let lost = err_from_is_err_and c.from_residual.result c.from_residual.ensures.1 in
     rw (lost.1, lost.2)
-    (subst (λ (reach : Reach). Stopped g.R.Replica.segments c.args.cluster.now c.advance.new.cluster
-    (λ cluster calls. settled cluster (advance_code cluster c.args.tablet reach) (moved_all (course_of cluster (advance cluster c.args.tablet reach)) calls))
-    (error_by_settling c.in_err-said.field-0.0))
+    (subst (λ (reach : Reach). Stopped g.R.Replica.segments g.R.Replica.faults c.args.cluster.now c.advance.new.cluster
+    (λ cluster fates. settled cluster (advance_code cluster c.args.tablet reach) (moved_all (course_of cluster (advance cluster c.args.tablet reach)) fates))
+    (error_by_settling c.in_err-advance.field-0.0))
     c.reach_of-reach.ensures
-    (settled_stopped g.R.Replica.segments c.args.cluster.now c.advance.new.cluster (λ cluster. advance_code cluster c.args.tablet c.reach_of-reach.result)
+    (settled_stopped g.R.Replica.segments g.R.Replica.faults c.args.cluster.now c.advance.new.cluster (λ cluster. advance_code cluster c.args.tablet c.reach_of-reach.result)
     (λ cluster. advance cluster c.args.tablet c.reach_of-reach.result) (λ cluster is. c.advance_code.ensures cluster is ∙ c.in_default.is)
-    c.in_err-said.field-0.0 c.in_err-said.ensures.err))
+    c.new-said.result.items c.advance.new.said.items c.in_err-advance.field-0.0 c.new-said.ensures.items c.in_err-advance.ensures.err))
 
-pub returns-in_err-said-clause-cause : goal.returns-in_err-said-clause-cause
-returns-in_err-said-clause-cause g c =
+pub returns-in_err-advance-clause-cause : goal.returns-in_err-advance-clause-cause
+returns-in_err-advance-clause-cause g c =
     let lost = err_from_is_err_and c.from_residual.result c.from_residual.ensures.1 in
-    rw (lost.1, lost.2) (λ is. c.in_err-said.ensures.cause (of_settling_replicas c.in_err-said.field-0.0 is))
+    rw (lost.1, lost.2) (λ is. c.in_err-advance.ensures.cause (of_settling_replicas c.in_err-advance.field-0.0 is))
 
 pub returns-clause-ok : goal.returns-clause-ok
 returns-clause-ok g c =
-    subst (λ (reach : Reach). Ran g.R.Replica.segments c.args.cluster.now c.advance.new.cluster
-    (λ cluster calls. settled cluster (advance_code cluster c.args.tablet reach) (moved_all (course_of cluster (advance cluster c.args.tablet reach)) calls))
+    subst (λ (reach : Reach). Ran g.R.Replica.segments g.R.Replica.faults c.args.cluster.now c.advance.new.cluster
+    (λ cluster fates. settled cluster (advance_code cluster c.args.tablet reach) (moved_all (course_of cluster (advance cluster c.args.tablet reach)) fates))
     c.args.text.now.items c.push_all_said.new.text.items)
     c.reach_of-reach.ensures
-    (settled_ran g.R.Replica.segments c.args.cluster.now c.advance.new.cluster (λ cluster. advance_code cluster c.args.tablet c.reach_of-reach.result)
+    (settled_ran g.R.Replica.segments g.R.Replica.faults c.args.cluster.now c.advance.new.cluster (λ cluster. advance_code cluster c.args.tablet c.reach_of-reach.result)
     (λ cluster. advance cluster c.args.tablet c.reach_of-reach.result) (λ cluster is. c.advance_code.ensures cluster is ∙ c.in_default.is)
-    c.in_ok-said.said.items c.args.text.now.items c.push_all_said.new.text.items
-    c.in_ok-said.ensures.ok (c.in_ok-push_all_said.ensures ∙ ap (λ (said : List Said). c.args.text.now.items ++ said_lines said) c.as_slice.ensures.value))
+    c.new-said.result.items c.advance.new.said.items c.args.text.now.items c.push_all_said.new.text.items
+    c.new-said.ensures.items c.in_ok-advance.ensures.ok (c.in_ok-push_all_said.ensures ∙ ap (λ (said : List Said). c.args.text.now.items ++ said_lines said) c.as_slice.ensures.value))
 
 pub returns-in-Some-clause-err : goal.returns-in-Some-clause-err
 returns-in-Some-clause-err g c =
-    came_refused g.R.Replica.segments c.args.cluster.now (λ cluster calls. effect cluster (Advance c.args.tablet c.args.wanted) calls) c.in-Some.code
+    came_refused g.R.Replica.segments g.R.Replica.faults c.args.cluster.now (λ cluster fates. effect cluster (Advance c.args.tablet c.args.wanted) fates) c.in-Some.code
     (λ cluster is.
     ap (λ (reach : Reach). settled cluster (advance_code cluster c.args.tablet reach) (course_of cluster (advance cluster c.args.tablet reach))) (sym c.reach_of-reach.ensures)
     ∙ ap (λ (code : Option Code). settled cluster code (course_of cluster (advance cluster c.args.tablet c.reach_of-reach.result))) (c.advance_code.ensures cluster is ∙ c.in-Some.is))

@@ -1,4 +1,4 @@
-use Rattle.std.proofs.Common.{◌≡◌, ◌++◌, List, Option, None, Some, refl, ap, ◌∙◌}
+use Rattle.std.proofs.Common.{◌++◌, List, Option, ap, ◌∙◌}
 use Rattle.std.proofs.lemmas.Result.{err_from_is_err_and}
 use Rattle.rk_types.specs.declared.node.Said.{Said}
 use Rattle.rk_lines.specs.Lines.{said_lines}
@@ -14,25 +14,25 @@ use Rattle.rk_play.proofs.Shown.{came_refused}
 use Rattle.rk_play.proofs.Failing.{of_settling_replicas}
 use Rattle.rk_play.proofs.settling.hasten.Goals as goal
 
-pub returns-in_err-said-clause-err : goal.returns-in_err-said-clause-err
-returns-in_err-said-clause-err g c =
+pub returns-in_err-priority-clause-err : goal.returns-in_err-priority-clause-err
+returns-in_err-priority-clause-err g c =
     let lost = err_from_is_err_and c.from_residual.result c.from_residual.ensures.1 in
     rw (lost.1, lost.2)
-    (settled_stopped g.R.Replica.segments c.args.cluster.now c.priority.new.cluster (λ cluster. priority_code cluster c.args.tablet) (λ cluster. priority cluster c.args.tablet) (λ cluster is. c.priority_code.ensures cluster is ∙ c.in_default.is) c.in_err-said.field-0.0 c.in_err-said.ensures.err)
+    (settled_stopped g.R.Replica.segments g.R.Replica.faults c.args.cluster.now c.priority.new.cluster (λ cluster. priority_code cluster c.args.tablet) (λ cluster. priority cluster c.args.tablet) (λ cluster is. c.priority_code.ensures cluster is ∙ c.in_default.is) c.new-said.result.items c.priority.new.said.items c.in_err-priority.field-0.0 c.new-said.ensures.items c.in_err-priority.ensures.err)
 
-pub returns-in_err-said-clause-cause : goal.returns-in_err-said-clause-cause
-returns-in_err-said-clause-cause g c =
+pub returns-in_err-priority-clause-cause : goal.returns-in_err-priority-clause-cause
+returns-in_err-priority-clause-cause g c =
     let lost = err_from_is_err_and c.from_residual.result c.from_residual.ensures.1 in
-    rw (lost.1, lost.2) (λ is. c.in_err-said.ensures.cause (of_settling_replicas c.in_err-said.field-0.0 is))
+    rw (lost.1, lost.2) (λ is. c.in_err-priority.ensures.cause (of_settling_replicas c.in_err-priority.field-0.0 is))
 
 pub returns-clause-ok : goal.returns-clause-ok
 returns-clause-ok g c =
-    settled_ran g.R.Replica.segments c.args.cluster.now c.priority.new.cluster (λ cluster. priority_code cluster c.args.tablet) (λ cluster. priority cluster c.args.tablet) (λ cluster is. c.priority_code.ensures cluster is ∙ c.in_default.is) c.in_ok-said.said.items c.args.text.now.items c.push_all_said.new.text.items
-    c.in_ok-said.ensures.ok (c.in_ok-push_all_said.ensures ∙ ap (λ (said : List Said). c.args.text.now.items ++ said_lines said) c.as_slice.ensures.value)
+    settled_ran g.R.Replica.segments g.R.Replica.faults c.args.cluster.now c.priority.new.cluster (λ cluster. priority_code cluster c.args.tablet) (λ cluster. priority cluster c.args.tablet) (λ cluster is. c.priority_code.ensures cluster is ∙ c.in_default.is) c.new-said.result.items c.priority.new.said.items c.args.text.now.items c.push_all_said.new.text.items
+    c.new-said.ensures.items c.in_ok-priority.ensures.ok (c.in_ok-push_all_said.ensures ∙ ap (λ (said : List Said). c.args.text.now.items ++ said_lines said) c.as_slice.ensures.value)
 
 pub returns-in-Some-clause-err : goal.returns-in-Some-clause-err
 returns-in-Some-clause-err g c =
-    came_refused g.R.Replica.segments c.args.cluster.now (λ cluster calls. effect cluster (Priority c.args.tablet) calls) c.in-Some.code
+    came_refused g.R.Replica.segments g.R.Replica.faults c.args.cluster.now (λ cluster fates. effect cluster (Priority c.args.tablet) fates) c.in-Some.code
     (λ cluster is. ap (λ (code : Option Code). settled cluster code (course_of cluster (priority cluster c.args.tablet))) (c.priority_code.ensures cluster is ∙ c.in-Some.is))
 
 pub returns-in-Some-clause-counts : goal.returns-in-Some-clause-counts

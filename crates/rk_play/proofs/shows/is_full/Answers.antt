@@ -1,5 +1,4 @@
 use Rattle.std.proofs.Common.{◌≡◌, ◌||◌, nat_le, true, false, Bool, List, rules, sym, ap, subst, ◌∙◌}
-use Rattle.rk_world.specs.Cluster.{Cluster}
 use Rattle.rk_lane.specs.LaneState.{LaneState}
 use Rattle.rk_cluster.specs.State.{IsOf}
 use Rattle.rk_cluster.specs.Steps.{state_of}

@@ -1,4 +1,4 @@
-use Rattle.std.proofs.Common.{◌≡◌, ◌∷◌, ◌++◌, [], Bor, ℕ, flat_map, map, List, Option, Some, sym, ap, ◌∙◌, append-nil, arith}
+use Rattle.std.proofs.Common.{◌++◌, Bor, ℕ, flat_map, map, List, Option, sym, ap, ◌∙◌, append-nil, arith}
 use Rattle.std.specs.Option.{option_copied}
 use Rattle.std.proofs.lemmas.List.{map_push}
 use Rattle.rk_tablet_map.specs.Rows.{row_of}

@@ -1,4 +1,4 @@
-use Rattle.std.proofs.Common.{◌≡◌, ◌++◌, ℕ, List, flat_map, arith, ◌∙◌}
+use Rattle.std.proofs.Common.{◌++◌, ℕ, List, flat_map, arith}
 use Rattle.rk_types.specs.declared.held.Held.{Held}
 use Rattle.rk_world.specs.World.{World}
 use Rattle.std.proofs.lemmas.Result.{err_from_is_err_and}

@@ -1,4 +1,4 @@
-use Rattle.std.proofs.Common.{◌≡◌, ◌++◌, Bor, None, List, refl, sym, ap, subst, ◌∙◌}
+use Rattle.std.proofs.Common.{◌++◌, Bor, None, List, refl, sym, ap, subst, ◌∙◌}
 use Rattle.rk_types.specs.declared.history.Placed.{Placed}
 use Rattle.rk_model.specs.Merged.{merged}
 use Rattle.rk_model.specs.declared.line.Line.{Line}
@@ -18,7 +18,7 @@ returns-clause-ok g c =
     let of = λ (cluster : Cluster) (is : IsOf g.R.Replica.segments c.args.cluster.now cluster).
     subst (λ (it : List (LaneState g.row.R.Denot)). IsOf g.R.Replica.segments (state_of it sessions) cluster) (sym c.lanes.ensures) is in
     let history = c.in_ok-history.history.items in
-    shown_written g.R.Replica.segments c.args.cluster.now (λ cluster. None) history_text (history_lines history) c.args.text.now.items c.push_history.new.text.items
+    shown_written g.R.Replica.segments g.R.Replica.faults c.args.cluster.now (λ cluster. None) history_text (history_lines history) c.args.text.now.items c.push_history.new.text.items
     (λ cluster is. refl)
     (λ cluster is.
     ap (λ (journals : List (List Placed)). history_lines (merged journals)) (c.in_ok-journals.ensures.journals sessions cluster (of cluster is))

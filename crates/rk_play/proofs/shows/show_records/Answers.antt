@@ -1,4 +1,4 @@
-use Rattle.std.proofs.Common.{◌≡◌, ◌++◌, List, Some, true, false, sym, ap, ◌∙◌}
+use Rattle.std.proofs.Common.{Some, true, false, sym, ap, ◌∙◌}
 use Rattle.std.proofs.lemmas.Result.{err_from_is_err_and}
 use Rattle.rk_lines.specs.Records.{record_lines}
 use Rattle.rk_play.specs.Shows.{dump_code, dump_text, is_held, items_in}
@@ -11,9 +11,9 @@ pub returns-in_err-items-clause-err : goal.returns-in_err-items-clause-err
 returns-in_err-items-clause-err g c =
     let lost = err_from_is_err_and c.from_residual.result c.from_residual.ensures.1 in
     rw (lost.1, lost.2)
-    (refused_stops g.R.Replica.segments c.args.cluster.now _ _ c.in_err-items.field-0.0
+    (refused_stops g.R.Replica.segments g.R.Replica.faults c.args.cluster.now _ _ c.in_err-items.field-0.0
     (λ code why.
-    shown_refused g.R.Replica.segments c.args.cluster.now (λ cluster. dump_code cluster c.args.tablet) (λ cluster. dump_text cluster c.args.tablet) code
+    shown_refused g.R.Replica.segments g.R.Replica.faults c.args.cluster.now (λ cluster. dump_code cluster c.args.tablet) (λ cluster. dump_text cluster c.args.tablet) code
     (λ cluster is.
     dump_held cluster c.args.tablet false (c.is_tablet.ensures cluster is ∙ c.if-not-is_tablet.false)
     (in_lanes g.R.Replica.segments c.args.cluster.now c.lanes.result.now (λ cluster. is_held cluster c.args.tablet) false c.lanes.ensures why.1 cluster is)
@@ -27,7 +27,7 @@ returns-in_err-items-clause-cause g c =
 
 pub returns-clause-ok : goal.returns-clause-ok
 returns-clause-ok g c =
-    shown_written g.R.Replica.segments c.args.cluster.now (λ cluster. dump_code cluster c.args.tablet) (λ cluster. dump_text cluster c.args.tablet)
+    shown_written g.R.Replica.segments g.R.Replica.faults c.args.cluster.now (λ cluster. dump_code cluster c.args.tablet) (λ cluster. dump_text cluster c.args.tablet)
     (record_lines c.in_ok-items.items.items) c.args.text.now.items c.push_records.new.text.items
     (λ cluster is. dump_held cluster c.args.tablet true (c.is_tablet.ensures cluster is ∙ c.if-not-is_tablet.false)
     (in_lanes g.R.Replica.segments c.args.cluster.now c.lanes.result.now (λ cluster. is_held cluster c.args.tablet) true c.lanes.ensures c.in_ok-items.ensures.owned cluster is))

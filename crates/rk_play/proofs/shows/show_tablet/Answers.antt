@@ -1,4 +1,4 @@
-use Rattle.std.proofs.Common.{◌≡◌, ◌++◌, Bool, Bor, List, not, map, ap, ◌∙◌}
+use Rattle.std.proofs.Common.{◌++◌, Bool, Bor, List, not, map, ap, ◌∙◌}
 use Rattle.rk_tablet_map.specs.declared.phase.Phase.{Phase}
 use Rattle.rk_cluster.specs.Codes.{code_where}
 use Rattle.rk_cluster.specs.declared.code.Code.TheVariants.{Unknown}
@@ -14,7 +14,7 @@ behind phases = map (λ (phase : Bor Phase). phase.now) phases
 pub returns-clause-ok : goal.returns-clause-ok
 returns-clause-ok g c =
     let phases : List (Bor Phase) = c.in_ok-phases.phases.items in
-    shown_written g.R.Replica.segments c.args.cluster.now (λ cluster. where_code cluster c.args.tablet) (λ cluster. where_text cluster c.args.tablet)
+    shown_written g.R.Replica.segments g.R.Replica.faults c.args.cluster.now (λ cluster. where_code cluster c.args.tablet) (λ cluster. where_text cluster c.args.tablet)
     (tablet_lines c.args.tablet (behind phases)) c.args.text.now.items c.push_tablet.new.text.items
     (λ cluster is. ap (λ (there : Bool). code_where (not there) Unknown) (c.is_tablet.ensures cluster is ∙ c.if-not-is_tablet.false))
     (λ cluster is. ap (tablet_lines c.args.tablet)

@@ -1,8 +1,10 @@
 use Rattle.std.proofs.Common.{List, [], ◌++◌, append-nil, ap, sym, ◌∙◌}
+use Rattle.std.proofs.lemmas.Result.{err_from_is_err_and}
 use Rattle.rk_settle.specs.Advance.{advance}
 use Rattle.rk_settle.specs.declared.task.Task.{Task}
 use Rattle.rk_settle.specs.declared.task.Task.TheVariants.{Advances}
-use Rattle.rk_settle.proofs.Ending.{each_tells}
+use Rattle.rk_settle.proofs.Ending.{each_tells, nothing_said}
+use Rattle.rk_settle.proofs.Keeping.{keeps_same}
 use Rattle.rk_cluster.proofs.Faults.{counts_same}
 use Rattle.rk_settle.proofs.commands.advance.Goals as goal
 
@@ -24,3 +26,11 @@ returns-clause-err g c =
 
 pub returns-in_err-push_all-clause-counts : goal.returns-in_err-push_all-clause-counts
 returns-in_err-push_all-clause-counts g c = counts_same g.R.Replica.faults c.args.cluster.now
+
+pub returns-in_err-push_all-clause-err : goal.returns-in_err-push_all-clause-err
+returns-in_err-push_all-clause-err g c =
+    let lost = err_from_is_err_and c.from_residual.result c.from_residual.ensures.1 in
+    rw (lost.1, lost.2) (nothing_said g.R.Replica.segments g.R.Replica.faults c.args.cluster.now (λ cluster. advance cluster c.args.tablet c.args.reach) c.args.said.now.items)
+
+pub returns-in_err-push_all-clause-kept : goal.returns-in_err-push_all-clause-kept
+returns-in_err-push_all-clause-kept g c = keeps_same c.args.said.now.items

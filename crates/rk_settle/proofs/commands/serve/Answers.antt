@@ -1,7 +1,9 @@
 use Rattle.std.proofs.Common.{List, ◌++◌, append-nil, ap, sym, ◌∙◌}
+use Rattle.std.proofs.lemmas.Result.{err_from_is_err_and}
 use Rattle.rk_settle.specs.Serve.{serve}
 use Rattle.rk_settle.specs.declared.task.Task.{Task}
-use Rattle.rk_settle.proofs.Ending.{tells_anyway}
+use Rattle.rk_settle.proofs.Ending.{nothing_said, tells_anyway}
+use Rattle.rk_settle.proofs.Keeping.{keeps_same}
 use Rattle.rk_cluster.proofs.Faults.{counts_same}
 use Rattle.rk_settle.proofs.commands.serve.Goals as goal
 
@@ -23,3 +25,11 @@ returns-clause-err g c =
 
 pub returns-in_err-push_serve-clause-counts : goal.returns-in_err-push_serve-clause-counts
 returns-in_err-push_serve-clause-counts g c = counts_same g.R.Replica.faults c.args.cluster.now
+
+pub returns-in_err-push_serve-clause-err : goal.returns-in_err-push_serve-clause-err
+returns-in_err-push_serve-clause-err g c =
+    let lost = err_from_is_err_and c.from_residual.result c.from_residual.ensures.1 in
+    rw (lost.1, lost.2) (nothing_said g.R.Replica.segments g.R.Replica.faults c.args.cluster.now (λ cluster. serve cluster c.args.client) c.args.said.now.items)
+
+pub returns-in_err-push_serve-clause-kept : goal.returns-in_err-push_serve-clause-kept
+returns-in_err-push_serve-clause-kept g c = keeps_same c.args.said.now.items

@@ -8,8 +8,8 @@ use Rattle.rk_settle.proofs.course.deliver.Goals as goal
 pub returns-clause-ok : goal.returns-clause-ok
 returns-clause-ok g c =
     let is : Progress = record c.args.progress.now { said = c.tell.new.into; failing = c.args.progress.now.failing || c.in_ok-said.field-0.failed } in
-    λ rest. delivers_moves g.R.Replica.segments c.args.cluster.now c.deliver_in.new.self c.args.lane c.args.number c.in_ok-said.field-0 c.args.progress.now is
-    c.in_ok-said.ensures.ok c.in_ok-tell.ensures refl refl rest
+    λ rest. delivers_moves g.R.Replica.segments g.R.Replica.faults c.args.cluster.now c.deliver_in.new.self c.args.lane c.args.number c.in_ok-said.field-0 c.args.progress.now is
+    c.in_ok-said.ensures.ok c.in_ok-tell.ensures.ok refl refl rest
 
 pub returns-clause-failed : goal.returns-clause-failed
 returns-clause-failed g c =

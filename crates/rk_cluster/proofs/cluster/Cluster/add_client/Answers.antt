@@ -6,7 +6,7 @@ use Rattle.rk_world.specs.Client.{new_session}
 use Rattle.rk_world.specs.Premises.{MayAct}
 use Rattle.rk_world.specs.declared.event.Event.TheVariants as events
 use Rattle.rk_cluster.specs.Codes.{client_code}
-use Rattle.rk_cluster.specs.Effects.{EndsIn, HasCode, IsCarriedOut}
+use Rattle.rk_cluster.specs.Effects.{CutShortBy, EndsIn, HasCode, IsCarriedOut}
 use Rattle.rk_cluster.specs.Inside.{cluster_of}
 use Rattle.rk_cluster.specs.Makes.{client_makes}
 use Rattle.rk_cluster.specs.State.{ClusterState}
@@ -14,7 +14,7 @@ use Rattle.rk_cluster.specs.Steps.{MayAllAct, StepsEndWorn, state_of}
 use Rattle.rk_cluster.specs.declared.code.Code.TheVariants.{Limit, Taken}
 use Rattle.rk_world.specs.Cluster.{Joins}
 use Rattle.std.proofs.Common.{[], ◌∷◌}
-use Rattle.rk_cluster.proofs.Joining.{absent_none, all_worn, client_acts, client_free, client_full, client_taken, deeds_fit, deeds_in, ends_in, few, many, new_acts}
+use Rattle.rk_cluster.proofs.Joining.{absent_none, all_short_before, all_worn, client_acts, client_free, client_full, client_taken, deeds_fit, deeds_in, ends_in, few, joins_short, many, new_acts}
 use Rattle.rk_cluster.proofs.Faults.{counts_same}
 use Rattle.rk_cluster.proofs.cluster.Cluster.add_client.Goals as goal
 
@@ -52,7 +52,19 @@ returns-in_err-act_all-clause-err g c =
     (client_free g.R.Replica.segments (cluster_of c.self.inside) c.args.client (sym c.has_session.ensures ∙ c.if-has_session.false)
     (few (length c.self.inside.sessions.entries) (omega (arith, c.count.ensures, c.if-count-ge-MOST_CLIENTS.false))))
     (λ number worn. all_worn g.R.Replica.segments old new now (events.AddClient c.args.client) (Joins c.args.client ∷ []) number c.self.invariant.count worn)
-    (rw c.in_all_lanes-deeds.ensures at c.in_err-act_all.ensures.err)))
+    (rw c.in_all_lanes-deeds.ensures at c.in_err-act_all.ensures.err)
+    (all_short_before g.R.Replica.segments old new now (events.AddClient c.args.client) (Joins c.args.client ∷ []) c.self.invariant.count
+    (rw c.in_all_lanes-deeds.ensures at c.in_err-act_all.ensures.short))))
+
+pub returns-in_err-put_session-clause-err : goal.returns-in_err-put_session-clause-err
+returns-in_err-put_session-clause-err g c =
+    let lost = err_from_is_err_and c.from_residual-in_err-put_session.result c.from_residual-in_err-put_session.ensures.1 in
+    let new = c.act_all.new.lanes.items in
+    let later = c.put_session.new.sessions.entries in
+    rw (lost.1, lost.2)
+    (subst (λ (state : ClusterState g.row.R.Denot). CutShortBy g.R.Replica.segments state (state_of new later) (λ cluster. client_makes cluster c.args.client)) c.self.view_is
+    (joins_short g.R.Replica.segments c.self.inside.lanes.items new c.self.inside.sessions.entries later c.args.client c.self.invariant.count c.in_err-put_session.ensures.err
+    (rw c.in_all_lanes-deeds.ensures at c.in_ok-act_all.ensures.ok)))
 
 pub invariant_of-self-in_err-put_session : goal.invariant_of-self-in_err-put_session
 invariant_of-self-in_err-put_session g c = record {

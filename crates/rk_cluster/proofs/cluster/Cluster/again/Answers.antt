@@ -10,9 +10,10 @@ use Rattle.rk_cluster.specs.State.{ClusterState}
 use Rattle.rk_cluster.specs.Steps.{state_of}
 use Rattle.rk_cluster.specs.declared.code.Code.TheVariants.{NothingSent, Unknown}
 use Rattle.rk_cluster.proofs.Joining.{ends_in}
-use Rattle.rk_cluster.proofs.Resending.{again_acts, again_code_by, again_unknown, few_sent, next_in}
+use Rattle.rk_cluster.proofs.Resending.{again_acts, again_code_by, again_short, again_unknown, few_sent, next_in}
 use Rattle.rk_cluster.proofs.Worlds.{there_read}
 use Rattle.rk_cluster.proofs.Faults.{counts_same}
+use Rattle.rk_cluster.proofs.Shortage.{nothing_done, same_short}
 use Rattle.rk_cluster.proofs.cluster.Cluster.again.Goals as goal
 
 pub returns-in_default-clause-err : goal.returns-in_default-clause-err
@@ -67,7 +68,13 @@ returns-in_err-again_in-clause-err g c =
     (again_code_by g.R.Replica.segments lanes now c.args.client c.in-Some.session.now (Some c.in-Some-last_request.request.now) found asked)
     (λ broken. again_acts g.R.Replica.segments lanes now c.args.client c.in-Some.session.now c.in-Some-last_request.request.now lane (c.sent-next.result + 1) its new (Some broken) found asked
     (sym c.request_lane-lane.ensures.lane) here next)
-    c.in_err-again_in.ensures.err))
+    c.in_err-again_in.ensures.err
+    (again_short g.R.Replica.segments lanes now c.args.client c.in-Some.session.now c.in-Some-last_request.request.now lane (c.sent-next.result + 1) its new found asked
+    (sym c.request_lane-lane.ensures.lane) here next c.in_err-again_in.ensures.short)))
+
+pub returns-then-spent-clause-err : goal.returns-then-spent-clause-err
+returns-then-spent-clause-err g c =
+    nothing_done g.R.Replica.segments c.args.self.now c.args.self.now (λ cluster. again_makes cluster c.args.client) (same_short c.args.self.now)
 
 pub returns-clause-ok : goal.returns-clause-ok
 returns-clause-ok g c =

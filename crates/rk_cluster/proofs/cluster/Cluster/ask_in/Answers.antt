@@ -1,7 +1,8 @@
-use Rattle.std.proofs.Common.{[], None, Some, IfErr, OnOk, ap, sym, subst, ◌∙◌}
+use Rattle.std.proofs.Common.{[], None, Some, IfErr, OnErr, OnOk, ap, sym, subst, ◌∙◌}
 use Rattle.rk_world.specs.Cluster.{Asks}
 use Rattle.rk_cluster.specs.Effects.{ActsOne}
 use Rattle.rk_cluster.specs.Masters.{masters_of}
+use Rattle.rk_cluster.specs.Spending.{IsShortOf}
 use Rattle.rk_cluster.specs.State.{ClusterState}
 use Rattle.rk_cluster.specs.Steps.{WhereWorn, state_of}
 use Rattle.rk_cluster.specs.Visits.{HasSession}
@@ -27,3 +28,8 @@ returns-clause-masters g c =
     masters_are masters c.ask_in.new.lanes.items c.ask_in.ensures.lanes (c.ask_in.ensures.count ∙ c.self.invariant.count)
     ∙ sym (masters_are masters c.self.inside.lanes.items c.self.invariant.lanes c.self.invariant.count)
     ∙ ap (λ (state : ClusterState g.row.R.Denot). masters_of state) c.self.view_is
+
+pub returns-clause-short : goal.returns-clause-short
+returns-clause-short g c =
+    subst (λ (state : ClusterState g.row.R.Denot). OnErr c.ask_in.result (IsShortOf state (state_of c.ask_in.new.lanes.items c.ask_in.new.sessions.entries)))
+    c.self.view_is c.ask_in.ensures.short

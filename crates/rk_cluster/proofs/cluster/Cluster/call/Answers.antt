@@ -1,4 +1,5 @@
-use Rattle.std.proofs.Common.{◌≡◌, ℕ, Bool, true, false, Bor, List, map, sum, nat_le, Option, None, Some, is_some, refl, sym, ap, subst, ◌∙◌, arith}
+use Rattle.std.proofs.Common.{[], ◌≡◌, ℕ, Bool, true, false, Bor, List, map, sum, nat_le, Option, None, Some, is_some, refl, sym, ap, subst, ◌∙◌, inl, arith}
+use Rattle.std.proofs.lemmas.Result.{err_from_is_err_and}
 use Rattle.std.specs.Option.{option_copied}
 use Rattle.rk_types.specs.NumberMap.{get}
 use Rattle.rk_types.proofs.Trees.{get_tree}
@@ -6,7 +7,7 @@ use Rattle.rk_types.specs.declared.call.Call.{Call}
 use Rattle.rk_tablet_map.specs.declared.row.Row.{Row}
 use Rattle.rk_world.specs.Client.{Session}
 use Rattle.rk_cluster.specs.Codes.{MOST_CALLS, call_code}
-use Rattle.rk_cluster.specs.Effects.{HasCode, IsCarriedOut}
+use Rattle.rk_cluster.specs.Effects.{CutShortBy, HasCode, IsCarriedOut}
 use Rattle.rk_cluster.specs.Looks.{calls_of, has_table}
 use Rattle.rk_cluster.specs.Makes.{call_makes}
 use Rattle.rk_cluster.specs.State.{ClusterState}
@@ -16,6 +17,7 @@ use Rattle.rk_cluster.proofs.Calling.{call_by, call_lawful, call_unknown, calls,
 use Rattle.rk_cluster.proofs.Worlds.{there_read}
 use Rattle.rk_cluster.specs.Inside.{cluster_of}
 use Rattle.rk_cluster.proofs.Faults.{counts_from, counts_same, lanes_same}
+use Rattle.rk_cluster.proofs.Shortage.{nothing_done, same_short}
 use Rattle.rk_cluster.proofs.cluster.Cluster.call.Goals as goal
 
 -- what was told of tables and calls
@@ -125,8 +127,22 @@ returns-then-calls_asked-ge-MOST_CALLS-clause-counts g c = counts_same g.R.Repli
 
 pub returns-in_err-ask_next-clause-counts : goal.returns-in_err-ask_next-clause-counts
 returns-in_err-ask_next-clause-counts g c =
-    counts_from g.R.Replica.faults 0 (cluster_of c.self.inside) c.args.self.now c.self.inside.lanes.items c.self.view_is (lanes_same g.R.Replica.faults c.self.inside.lanes.items)
+    counts_from g.R.Replica.faults [] (cluster_of c.self.inside) c.args.self.now c.self.inside.lanes.items c.self.view_is (lanes_same g.R.Replica.faults c.self.inside.lanes.items)
 
 pub returns-clause-counts : goal.returns-clause-counts
 returns-clause-counts g c =
-    counts_from g.R.Replica.faults 0 (cluster_of c.self.inside) c.args.self.now c.self.inside.lanes.items c.self.view_is (lanes_same g.R.Replica.faults c.self.inside.lanes.items)
+    counts_from g.R.Replica.faults [] (cluster_of c.self.inside) c.args.self.now c.self.inside.lanes.items c.self.view_is (lanes_same g.R.Replica.faults c.self.inside.lanes.items)
+
+pub returns-then-spent-clause-err : goal.returns-then-spent-clause-err
+returns-then-spent-clause-err g c =
+    nothing_done g.R.Replica.segments c.args.self.now c.args.self.now (λ cluster. call_makes c.args.client c.args.table c.args.key c.args.op) (same_short c.args.self.now)
+
+pub returns-in_err-ask_next-clause-err : goal.returns-in_err-ask_next-clause-err
+returns-in_err-ask_next-clause-err g c =
+    let lost = err_from_is_err_and c.from_residual.result c.from_residual.ensures.1 in
+    let lanes = c.self.inside.lanes.items in
+    let later = c.ask_next.new.sessions.entries in
+    rw (lost.1, lost.2)
+    (subst (λ (state : ClusterState g.row.R.Denot). CutShortBy g.R.Replica.segments state (state_of lanes later) (λ cluster. call_makes c.args.client c.args.table c.args.key c.args.op)) c.self.view_is
+    (nothing_done g.R.Replica.segments (state_of lanes c.self.inside.sessions.entries) (state_of lanes later) (λ cluster. call_makes c.args.client c.args.table c.args.key c.args.op)
+    (record { lanes = inl refl; sessions = inl c.in_err-ask_next.ensures.err })))

@@ -1,15 +1,12 @@
 use Rattle.std.proofs.Common.{◌≡◌, None, Some, refl, sym, subst, ◌∙◌, arith}
-use Rattle.std.proofs.lemmas.Result.{err_from_is_err_and}
 use Rattle.rk_message.specs.Wire.{number_at}
-use Rattle.rk_world.specs.declared.event.Event.TheVariants as events
 use Rattle.rk_cluster.specs.Codes.{place_code}
-use Rattle.rk_cluster.specs.Effects.{EndsIn, HasCode, IsCarriedOut}
+use Rattle.rk_cluster.specs.Effects.{HasCode, IsCarriedOut}
 use Rattle.rk_cluster.specs.Makes.{forget_makes}
 use Rattle.rk_cluster.specs.State.{ClusterState}
-use Rattle.rk_cluster.specs.Steps.{IsHappening, state_of}
+use Rattle.rk_cluster.specs.Steps.{state_of}
 use Rattle.rk_cluster.specs.declared.code.Code.TheVariants.{NoPlace}
-use Rattle.rk_cluster.proofs.Forgetting.{forgets, forgets_worn, place_by}
-use Rattle.rk_cluster.proofs.Joining.{ends_in}
+use Rattle.rk_cluster.proofs.Forgetting.{forgets, place_by}
 use Rattle.rk_cluster.proofs.Worlds.{there_read}
 use Rattle.rk_cluster.proofs.Faults.{counts_same}
 use Rattle.rk_cluster.proofs.cluster.Cluster.forget.Goals as goal
@@ -23,28 +20,11 @@ returns-in_default-clause-err g c =
       refl,
     )
 
-pub returns-in_err-act-clause-err : goal.returns-in_err-act-clause-err
-returns-in_err-act-clause-err g c =
-    let lost = err_from_is_err_and c.from_residual.result c.from_residual.ensures.1 in
-    let lanes = c.self.inside.lanes.items in
-    let now = c.self.inside.sessions.entries in
-    let new = c.act.new.lanes.items in
-    let there = there_read lanes c.args.lane c.index.result.now (omega (arith, c.requires, c.self.invariant.count)) c.index.ensures in
-    let found : number_at c.args.place c.wire.result.now ≡ Some c.in-Some.number = sym c.at.ensures ∙ c.in-Some.is in
-    rw (lost.1, lost.2)
-    (subst (λ (state : ClusterState g.row.R.Denot). EndsIn g.R.Replica.segments state (state_of new now) (λ cluster. place_code cluster c.args.lane c.args.place)
-    (λ cluster. forget_makes cluster c.args.lane c.args.place) c.in_err-act.field-0.0) c.self.view_is
-    (ends_in g.R.Replica.segments (λ number. IsHappening g.R.Replica.segments lanes new c.args.lane (events.Forget c.in-Some.number) (Some number)) (state_of lanes now) (state_of new now)
-    (λ cluster. place_code cluster c.args.lane c.args.place) (λ cluster. forget_makes cluster c.args.lane c.args.place) c.in_err-act.field-0.0
-    (place_by g.R.Replica.segments lanes now c.args.lane c.index.result.now c.wire.result.now there c.wire.ensures c.args.place (Some c.in-Some.number) found)
-    (forgets_worn g.R.Replica.segments lanes now c.args.lane c.index.result.now c.wire.result.now there c.wire.ensures c.args.place new c.in-Some.number found)
-    c.in_err-act.ensures.err))
-
 pub returns-clause-ok : goal.returns-clause-ok
 returns-clause-ok g c =
     let lanes = c.self.inside.lanes.items in
     let now = c.self.inside.sessions.entries in
-    let new = c.act.new.lanes.items in
+    let new = c.act_anyway.new.lanes.items in
     let there = there_read lanes c.args.lane c.index.result.now (omega (arith, c.requires, c.self.invariant.count)) c.index.ensures in
     let found : number_at c.args.place c.wire.result.now ≡ Some c.in-Some.number = sym c.at.ensures ∙ c.in-Some.is in
     subst (λ (state : ClusterState g.row.R.Denot). IsCarriedOut g.R.Replica.segments state (state_of new now) (λ cluster. place_code cluster c.args.lane c.args.place)
@@ -53,7 +33,7 @@ returns-clause-ok g c =
     (λ cluster. forget_makes cluster c.args.lane c.args.place)) (sym c.nothing_said.ensures)
     (record {
       code = place_by g.R.Replica.segments lanes now c.args.lane c.index.result.now c.wire.result.now there c.wire.ensures c.args.place (Some c.in-Some.number) found;
-      acts = forgets g.R.Replica.segments lanes now c.args.lane c.index.result.now c.wire.result.now there c.wire.ensures c.args.place new c.in-Some.number found c.in_ok-act.ensures.ok;
+      acts = forgets g.R.Replica.segments lanes now c.args.lane c.index.result.now c.wire.result.now there c.wire.ensures c.args.place new c.in-Some.number found c.act_anyway.ensures.happens;
     }))
 
 pub returns-in_default-clause-counts : goal.returns-in_default-clause-counts

@@ -8,12 +8,13 @@ use Rattle.rk_cluster.specs.Effects.{EndsIn, HasCode, IsCarriedOut}
 use Rattle.rk_cluster.specs.Looks.{lanes_without}
 use Rattle.rk_cluster.specs.Makes.{migrate_makes}
 use Rattle.rk_cluster.specs.State.{ClusterState}
-use Rattle.rk_cluster.specs.Steps.{CarriesSteps, IsDeed, StepsEndWorn, WhereWorn, state_of}
+use Rattle.rk_cluster.specs.Steps.{AreStepsCutShort, CarriesSteps, IsDeed, StepsEndWorn, WhereWorn, state_of}
 use Rattle.rk_cluster.specs.Told.{LanesTell}
 use Rattle.rk_cluster.specs.declared.code.Code.{Code}
 use Rattle.rk_cluster.specs.declared.steps.Deed.{Deed}
 use Rattle.rk_cluster.proofs.Making.{carried_out, deeds_may, deeds_of, found_made, refused, stopped, told_of}
 use Rattle.rk_cluster.proofs.Faults.{counts_same}
+use Rattle.rk_cluster.proofs.Shortage.{nothing_done, same_short}
 use Rattle.rk_cluster.proofs.cluster.Cluster.migrate.Goals as goal
 
 abbrev code_of : ℕ → ℕ → Cluster → Option Code
@@ -60,7 +61,13 @@ returns-in_err-act_all-clause-err g c =
     c.self.view_is
     (stopped g.R.Replica.segments lanes new now (code_of c.args.tablet c.args.to) (makes_of c.args.tablet c.args.to) (deeds_of event found) (code now)
     (found_made g.R.Replica.segments lanes now event (concerned_of c.args.tablet c.args.to) found told) c.in_err-act_all.field-0.0
-    (subst (λ (those : List Deed). WhereWorn (StepsEndWorn g.R.Replica.segments lanes new those) c.in_err-act_all.field-0.0) deeds c.in_err-act_all.ensures.err)))
+    (subst (λ (those : List Deed). WhereWorn (StepsEndWorn g.R.Replica.segments lanes new those) c.in_err-act_all.field-0.0) deeds c.in_err-act_all.ensures.err)
+    (subst (λ (those : List Deed). AreStepsCutShort g.R.Replica.segments lanes new those) deeds c.in_err-act_all.ensures.short)))
+
+pub returns-in_err-deeds-clause-err : goal.returns-in_err-deeds-clause-err
+returns-in_err-deeds-clause-err g c =
+    let lost = err_from_is_err_and c.from_residual-in_err-deeds.result c.from_residual-in_err-deeds.ensures.1 in
+    rw (lost.1, lost.2) (nothing_done g.R.Replica.segments c.args.self.now c.args.self.now (makes_of c.args.tablet c.args.to) (same_short c.args.self.now))
 
 pub returns-clause-ok : goal.returns-clause-ok
 returns-clause-ok g c =

@@ -6,7 +6,7 @@ use Rattle.rk_cluster.specs.Effects.{EndsIn, IsCarriedOut}
 use Rattle.rk_cluster.specs.Makes.{notice_makes}
 use Rattle.rk_cluster.specs.State.{ClusterState}
 use Rattle.rk_cluster.specs.Steps.{StepsEndWorn, state_of}
-use Rattle.rk_cluster.proofs.Joining.{deeds_fit, deeds_in, ends_in}
+use Rattle.rk_cluster.proofs.Joining.{all_short, deeds_fit, deeds_in, ends_in}
 use Rattle.rk_cluster.proofs.Noticing.{all_act, all_stop, is_within, notice_by}
 use Rattle.rk_cluster.proofs.Worlds.{masters_at, there_read}
 use Rattle.rk_cluster.proofs.Faults.{counts_same}
@@ -34,7 +34,8 @@ returns-in_err-act_all-clause-err g c =
     c.crashed.ensures
     (is_within c.args.master c.self.inside.masters (omega (arith, c.if-master-lt1.false)) (omega (arith, c.if-master-self.false))) c.if-not-crashed.false)
     (λ number worn. all_stop g.R.Replica.segments lanes now new (events.Notice c.args.master) number c.self.invariant.count worn)
-    (rw c.in_all_lanes-deeds.ensures at c.in_err-act_all.ensures.err)))
+    (rw c.in_all_lanes-deeds.ensures at c.in_err-act_all.ensures.err)
+    (all_short g.R.Replica.segments lanes new now (events.Notice c.args.master) c.self.invariant.count (rw c.in_all_lanes-deeds.ensures at c.in_err-act_all.ensures.short))))
 
 pub returns-clause-ok : goal.returns-clause-ok
 returns-clause-ok g c =

@@ -54,7 +54,7 @@ returns-in_err-act_all-clause-err g c =
     c.self.view_is
     (stopped g.R.Replica.segments lanes new now (code_of c.args.tablet c.args.at) (makes_of c.args.tablet c.args.at) (deeds_in (event_of c.args.tablet c.args.at c.in_ok-new.new)) (code now)
     (numbered_made g.R.Replica.segments lanes now (event_of c.args.tablet c.args.at) c.in_ok-new.new c.self.invariant.count told) c.in_err-act_all.field-0.0
-    (rw c.in_all_lanes-deeds.ensures at c.in_err-act_all.ensures.err)))
+    (rw c.in_all_lanes-deeds.ensures at c.in_err-act_all.ensures.err) (rw c.in_all_lanes-deeds.ensures at c.in_err-act_all.ensures.short)))
 
 pub returns-clause-ok : goal.returns-clause-ok
 returns-clause-ok g c =

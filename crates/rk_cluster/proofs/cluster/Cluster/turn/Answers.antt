@@ -1,15 +1,16 @@
-use Rattle.std.proofs.Common.{ℕ, List, All, length, None, refl, sym, ap, subst, ◌∙◌, arith}
+use Rattle.std.proofs.Common.{[], ℕ, List, All, length, None, refl, sym, ap, subst, ◌∙◌, arith}
 use Rattle.std.proofs.lemmas.Result.{err_from_is_err_and}
 use Rattle.rk_cluster.specs.Effects.{EndsIn, IsCarriedOut}
 use Rattle.rk_cluster.specs.Makes.{turn_makes}
 use Rattle.rk_cluster.specs.State.{ClusterState}
-use Rattle.rk_cluster.specs.Steps.{EndsWorn, IsDeed, StepsEndWorn, state_of}
+use Rattle.rk_cluster.specs.Steps.{EndsWorn, IsDeed, StepsEndWorn, occurrences, state_of}
 use Rattle.rk_cluster.specs.Turns.{turns_of}
 use Rattle.rk_cluster.specs.Visits.{HasSession, all_ask}
 use Rattle.rk_cluster.specs.declared.steps.Deed.{Deed}
 use Rattle.rk_cluster.proofs.Joining.{ends_in}
+use Rattle.rk_cluster.proofs.Shortage.{before_short, behind_short, nothing_done, same_short}
 use Rattle.rk_cluster.proofs.Takers.{clients_have, turns_fit}
-use Rattle.rk_cluster.proofs.Turned.{asking_stops, turn_done, turns_stop}
+use Rattle.rk_cluster.proofs.Turned.{asking_stops, turn_done, turn_short, turns_stop}
 use Rattle.rk_cluster.proofs.Worlds.{masters_at, there_read}
 use Rattle.rk_cluster.specs.Inside.{cluster_of}
 use Rattle.rk_cluster.proofs.Faults.{counts_from, counts_same, lanes_then}
@@ -44,7 +45,10 @@ returns-in_err-ask_all-clause-err g c =
     (λ cluster is. refl)
     (asking_stops g.R.Replica.segments lanes now c.args.lane c.index.result.now live there c.in_ok-live.ensures.live mid mid later clients (turns_of c.args.lane live)
     (c.deref-2.ensures.value ∙ c.in_ok-clients.ensures) refl)
-    c.in_err-ask_all.ensures.err))
+    c.in_err-ask_all.ensures.err
+    (turn_short g.R.Replica.segments lanes now c.args.lane c.index.result.now live there c.in_ok-live.ensures.live mid mid later clients (turns_of c.args.lane live)
+    (c.deref-2.ensures.value ∙ c.in_ok-clients.ensures) refl (state_of mid later)
+    (before_short g.R.Replica.segments (state_of lanes now) (state_of mid later) (all_ask c.args.lane clients) (occurrences (turns_of c.args.lane live)) c.in_err-ask_all.ensures.short))))
 
 pub act_all-requires-clause-may : goal.act_all-requires-clause-may
 act_all-requires-clause-may g c =
@@ -75,7 +79,11 @@ returns-in_err-act_all-clause-err g c =
     turns_stop g.R.Replica.segments lanes now c.args.lane c.index.result.now live there c.in_ok-live.ensures.live mid new later clients deeds
     (c.deref-2.ensures.value ∙ c.in_ok-clients.ensures) (c.deref-3.ensures.value ∙ c.in_ok-turns.ensures ∙ ap (turns_of c.args.lane) c.deref.ensures.value)
     number c.in_ok-ask_all.ensures.ok worn)
-    c.in_err-act_all.ensures.err))
+    c.in_err-act_all.ensures.err
+    (turn_short g.R.Replica.segments lanes now c.args.lane c.index.result.now live there c.in_ok-live.ensures.live mid new later clients deeds
+    (c.deref-2.ensures.value ∙ c.in_ok-clients.ensures) (c.deref-3.ensures.value ∙ c.in_ok-turns.ensures ∙ ap (turns_of c.args.lane) c.deref.ensures.value) (state_of new later)
+    (behind_short g.R.Replica.segments (state_of lanes now) (state_of mid later) (state_of new later) (all_ask c.args.lane clients) (occurrences deeds) c.in_ok-ask_all.ensures.ok
+    (c.in_err-act_all.ensures.short later)))))
 
 pub returns-clause-ok : goal.returns-clause-ok
 returns-clause-ok g c =
@@ -109,10 +117,25 @@ returns-in_err-turns-clause-counts g c = counts_same g.R.Replica.faults c.args.s
 
 pub returns-in_err-act_all-clause-counts : goal.returns-in_err-act_all-clause-counts
 returns-in_err-act_all-clause-counts g c =
-    counts_from g.R.Replica.faults 0 (cluster_of c.self.inside) c.args.self.now c.act_all.new.lanes.items c.self.view_is
+    counts_from g.R.Replica.faults [] (cluster_of c.self.inside) c.args.self.now c.act_all.new.lanes.items c.self.view_is
     (lanes_then g.R.Replica.faults c.self.inside.lanes.items c.ask_all.new.lanes.items c.act_all.new.lanes.items c.ask_all.ensures.counts c.act_all.ensures.counts)
 
 pub returns-clause-counts : goal.returns-clause-counts
 returns-clause-counts g c =
-    counts_from g.R.Replica.faults 0 (cluster_of c.self.inside) c.args.self.now c.act_all.new.lanes.items c.self.view_is
+    counts_from g.R.Replica.faults [] (cluster_of c.self.inside) c.args.self.now c.act_all.new.lanes.items c.self.view_is
     (lanes_then g.R.Replica.faults c.self.inside.lanes.items c.ask_all.new.lanes.items c.act_all.new.lanes.items c.ask_all.ensures.counts c.act_all.ensures.counts)
+
+pub returns-in_err-clients-clause-err : goal.returns-in_err-clients-clause-err
+returns-in_err-clients-clause-err g c =
+    let lost = err_from_is_err_and c.from_residual.result c.from_residual.ensures.1 in
+    rw (lost.1, lost.2) (nothing_done g.R.Replica.segments c.args.self.now c.args.self.now (λ cluster. turn_makes cluster c.args.lane) (same_short c.args.self.now))
+
+pub returns-in_err-live-clause-err : goal.returns-in_err-live-clause-err
+returns-in_err-live-clause-err g c =
+    let lost = err_from_is_err_and c.from_residual-in_err-live.result c.from_residual-in_err-live.ensures.1 in
+    rw (lost.1, lost.2) (nothing_done g.R.Replica.segments c.args.self.now c.args.self.now (λ cluster. turn_makes cluster c.args.lane) (same_short c.args.self.now))
+
+pub returns-in_err-turns-clause-err : goal.returns-in_err-turns-clause-err
+returns-in_err-turns-clause-err g c =
+    let lost = err_from_is_err_and c.from_residual-in_err-turns.result c.from_residual-in_err-turns.ensures.1 in
+    rw (lost.1, lost.2) (nothing_done g.R.Replica.segments c.args.self.now c.args.self.now (λ cluster. turn_makes cluster c.args.lane) (same_short c.args.self.now))

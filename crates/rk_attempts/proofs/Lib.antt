@@ -1,0 +1,5 @@
+pub mod Attempting
+pub mod Coming
+pub mod Examples
+pub mod Finding
+pub mod Works

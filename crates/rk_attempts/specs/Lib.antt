@@ -1,0 +1,9 @@
+pub mod Attempts
+pub mod Came
+pub mod Ends
+pub mod Progress
+pub mod Replays
+pub mod Selecting
+pub mod Shorts
+pub mod Turns
+pub mod Wires

@@ -1,0 +1,98 @@
+// Messages of a wire that work in a lane takes.
+ghost use Rattle.std.specs.Prelude.{◌≡◌, IfOk};
+ghost use Rattle.rk_types.specs.NumberMap.{get};
+ghost use Rattle.rk_world.specs.Refusals.{is_for};
+ghost use Rattle.rk_attempts.specs.Selecting.{is_selected as is_selected_lem};
+ghost use Rattle.rk_attempts.specs.Wires.{has_records as has_records_lem, is_for_node as is_for_node_lem, is_for_turn as is_for_turn_lem, is_there_with, is_to_client as is_to_client_lem, numbers_with as numbers_with_lem};
+
+use rk_message::{Body, Message, Wire};
+use rk_types::{NoMemory, Node};
+use std::alloc::Global;
+
+/// A kind of messages on a wire.
+#[derive(Clone, Copy, Debug, PartialEq, Eq)]
+pub enum Selection {
+    /// Those for a client.
+    ToClient(u32),
+    /// Those for a node, and not for a client.
+    ForNode,
+    /// Those that a turn delivers: for a node, and without pulled records.
+    ForTurn,
+    /// Those with pulled records.
+    WithRecords,
+}
+
+/// The numbers of the messages of a kind, oldest first. A step for each pair of messages that are there. A wire of 2^32 messages or more is
+/// answered as want of memory.
+pub fn numbers_with(alloc: Global, wire: &Wire, selection: Selection) -> Result<Vec<u64>, NoMemory>
+    ensures { IfOk result (λ found. found.items ≡ numbers_with_lem (is_selected_lem selection) wire.now.messages) }
+{
+    let mut found = Vec::new(alloc);
+    let count = wire.count();
+    if count > u32::MAX as u64 {
+        return Err(NoMemory);
+    }
+    for place in 0..count as u32 {
+        let Some(number) = wire.at(place + 1) else {
+            return Err(NoMemory);
+        };
+        if is_there(wire, selection, number) {
+            found.push(number)?;
+        }
+    }
+    Ok(found)
+}
+
+/// Whether the message of a number is there and of a kind. One search.
+pub fn is_there(wire: &Wire, selection: Selection, number: u64) -> bool
+    ensures { result ≡ is_there_with (is_selected_lem selection) (get wire.now.messages number) }
+{
+    match wire.message(number) {
+        Ok(message) => selection.has(message),
+        Err(_) => false,
+    }
+}
+
+impl Selection {
+    fn has(&self, message: &Message) -> bool
+        ensures { result ≡ is_selected_lem self.now message.now }
+    {
+        match self {
+            Selection::ToClient(client) => is_to_client(message, *client),
+            Selection::ForNode => is_for_node(message),
+            Selection::ForTurn => is_for_turn(message),
+            Selection::WithRecords => has_records(message),
+        }
+    }
+}
+
+// Whether a message is for a client.
+fn is_to_client(message: &Message, client: u32) -> bool
+    ensures { result ≡ is_to_client_lem client message.now }
+{
+    match message.to {
+        Node::Client(other) => other == client,
+        _ => false,
+    }
+}
+
+// Whether a turn delivers a message.
+fn is_for_turn(message: &Message) -> bool
+    ensures { result ≡ is_for_turn_lem message.now }
+{
+    is_for_node(message) && !has_records(message)
+}
+
+// Whether a message is for a node, and not for a client.
+fn is_for_node(message: &Message) -> bool
+    ensures { result ≡ is_for_node_lem message.now }
+{
+    !matches!(message.to, Node::Client(_))
+}
+
+// Whether a message has pulled records.
+fn has_records(message: &Message) -> bool
+    ensures { result ≡ has_records_lem message.now }
+{
+    matches!(message.body, Body::Pulled(_))
+}

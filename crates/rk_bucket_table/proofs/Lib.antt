@@ -1,0 +1,17 @@
+pub mod Segments
+pub mod Seeking
+pub mod Picking
+pub mod Numbers
+pub mod Tables
+pub mod Lookups
+pub mod Gets
+pub mod Changes
+pub mod Splices
+pub mod Batches
+pub mod Batching
+pub mod Puts
+pub mod Dropping
+pub mod Scanning
+pub mod Empty
+pub mod Answering
+pub mod Spreading

@@ -1,0 +1,11 @@
+use Rattle.std.proofs.Common.{length}
+use Rattle.rk_table.specs.Places.{comes_before}
+use Rattle.rk_bucket_table.specs.Cells.{chain, place_seen}
+use Rattle.rk_bucket_table.specs.Spots.{IsPassed}
+use Rattle.rk_bucket_table.proofs.seek.seek.Given as goal
+
+abbrev pub invariant-chain : goal.invariant-chain
+invariant-chain l = IsPassed l.cells.slots l.head (comes_before (place_seen l.place)) l.before l.at
+
+abbrev pub decreases-chain : goal.decreases-chain
+decreases-chain l = length (chain l.cells.slots l.at)

@@ -1,0 +1,5 @@
+pub mod Cells
+pub mod Spots
+pub mod Scanning
+pub mod Shown
+pub mod Tables

@@ -1,0 +1,10 @@
+pub mod Words
+pub mod views
+pub mod logs
+pub mod rows
+pub mod calls
+pub mod roles
+pub mod wire
+pub mod rebuilds
+pub mod pulls
+pub mod example

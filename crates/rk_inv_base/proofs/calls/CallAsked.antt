@@ -1,0 +1,252 @@
+-- A lane stays sound when a client asks a call, where its last one, if any, is older and accepted: nothing of the client is staged then.
+use Rattle.std.proofs.Common.{◌≡◌, ℕ, ◌<◌, true, List, [], ◌∷◌, ◌++◌, Option, Some, None, refl, sym, ap, ◌∙◌, subst, ⊎_elim, inr, arith}
+use Rattle.std.proofs.Common.{IfSome, slice_index_or, unwrap_or, All, eq-eqb}
+use Rattle.rk_inv_base.proofs.Words.{and_from, false≢true, All-contains, All-head, All-tail, All-weaker, list_any_at, get_other, get_same}
+use Rattle.rk_inv_base.proofs.Words.{Call, Placed, Node, Range, IsLegal, live_after, is_mutation, Entry, Row, Request, Body, base_map}
+use Rattle.rk_inv_base.proofs.Words.{item_end, items_of, refusal_end, has_record, is_of_mutation, Ledger, asked_by, with_asked, AgreeIn}
+use Rattle.rk_inv_base.proofs.Words.{call_of, World, LastCall, HasSeen, IsAccepted, IsLastCall, IsRequest, RequestFits, RequestSays}
+use Rattle.rk_inv_base.proofs.Words.{WasAsked, IsEntryOf, IsLast, IsLastAsked, IsRest, IsStaged, Waits, call_ends, record_of_last}
+use Rattle.rk_inv_base.proofs.Words.{records_of, put, IsAfterSeen, View, view, truths, rests, AskedOf, IsSound, RestOf, SoundView, TruthOf}
+use Rattle.rk_types.specs.declared.node.Node.TheVariants as nodes
+use Rattle.rk_entry.specs.declared.entry.Entry.TheVariants as entries
+use Rattle.rk_message.specs.declared.message.Body.TheVariants as bodies
+use Rattle.rk_overlay.specs.Live.{live as live_items}
+use Rattle.rk_sound.specs.Changes.{MayAsk}
+use Rattle.rk_sound.specs.Small.{call_asked, call_asked_in}
+use Rattle.rk_inv_base.proofs.logs.InRest.{of_waiting}
+use Rattle.rk_inv_base.proofs.views.Lists.{all_in}
+use Rattle.rk_inv_base.proofs.views.Put.{put_by, put_is, put_other}
+
+-- an accepted mutation has its record
+pub recorded_there : (journal : List Placed) (call : Call) (client seq : ℕ) → IsAccepted journal call → is_mutation call.op ≡ true → call.client ≡ client → call.seq ≡ seq → has_record journal client seq ≡ true
+recorded_there journal call client seq accepted mutation client_is seq_is =
+    let placed : Placed = accepted.placed in
+    let stands = accepted.stands in
+    let of_client = eq-eqb placed.call.client client (ap (λ (c : Call). c.client) accepted.call_is ∙ client_is) in
+    let of_seq = eq-eqb placed.call.seq seq (ap (λ (c : Call). c.seq) accepted.call_is ∙ seq_is) in
+    list_any_at (is_of_mutation client seq) journal stands.0 placed stands.1
+    (ap (is_of_mutation client seq) stands.2
+    ∙ and_from (is_mutation placed.call.op) _ (ap (λ (c : Call). is_mutation c.op) accepted.call_is ∙ mutation) (and_from _ _ of_client of_seq))
+
+module _ (v : View) (client : ℕ) (last : LastCall) (sound : SoundView v) (may : MayAsk v client last) where
+  abbrev now : View
+  now = call_asked v client last
+
+  -- what holds of the new call, and of what other clients asked, holds of what each client asked
+  of_client : (P : Option LastCall → Type 0) (c : ℕ) → (c ≡ client → P (Some last)) → ((c ≡ client → ⊥) → P (v.asked c)) → P (now.asked c)
+  of_client P c here apart = put_by v.asked client (λ _. Some last) P c here apart
+
+  -- a call is older than the new one, and accepted
+  abbrev IsOlder : Call → Type 0
+  IsOlder call = (call.seq < last.call.seq) × IsAccepted v.journal call
+
+  -- so is the last call that the client asked
+  before : (c : ℕ) → c ≡ client → IfSome (v.asked c) (λ old. IsOlder old.call)
+  before c is = subst (λ (n : ℕ). IfSome (v.asked n) (λ old. IsOlder old.call)) (sym is) may.accepted
+
+  -- and each that it asked
+  older_of : (old : Option LastCall) (call : Call) → IfSome old (λ o. IsOlder o.call) → WasAsked old v.journal call → IsOlder call
+  older_of None call before was = absurd was
+  older_of (Some old) call before was =
+      ⊎_elim (λ (is : old.call ≡ call). subst IsOlder is before)
+      (λ (earlier : (call.seq < old.call.seq) × IsAccepted v.journal call). (omega (arith, earlier.0, before.0), earlier.1)) was
+
+  older : (c : ℕ) (call : Call) → c ≡ client → WasAsked (v.asked c) v.journal call → IsOlder call
+  older c call is was = older_of (v.asked c) call (before c is) was
+
+  -- what was asked is not the new call
+  another : (c : ℕ) (call : Call) → c ≡ client → WasAsked (v.asked c) v.journal call → last.call ≡ call → ⊥
+  another c call is was same =
+      let less : call.seq < last.call.seq = (older c call is was).0 in
+      let seq : last.call.seq ≡ call.seq = ap (λ (k : Call). k.seq) same in absurd (omega (arith, less, seq))
+
+  -- and was asked still
+  still_asked : (c : ℕ) (call : Call) → WasAsked (v.asked c) v.journal call → WasAsked (now.asked c) v.journal call
+  still_asked c call was = of_client (λ old. WasAsked old v.journal call) c (λ is. inr (older c call is was)) (λ apart. was)
+
+  truth : TruthOf now (truths v)
+  truth = record {
+    legal = sound.truth.legal;
+    rising = sound.truth.rising;
+    seen =
+        all_in (λ placed. IsAfterSeen (v.asked placed.call.client) placed) (λ placed. IsAfterSeen (now.asked placed.call.client) placed)
+        v.journal
+        (λ placed stands old.
+        of_client (λ last. IsAfterSeen last placed) placed.call.client
+        (λ is same.
+        absurd (another placed.call.client placed.call is
+        (All-contains (λ (p : Placed). WasAsked (v.asked p.call.client) v.journal p.call) v.journal placed sound.asked.recorded stands)
+        same))
+        (λ apart. old))
+        sound.truth.seen;
+    true = sound.truth.true;
+  }
+
+  -- nothing of the client is staged, since its last call has its record
+  unstaged : (c seq table : ℕ) (key : List ℕ) → IsLastAsked v.asked v.journal c seq table key → c ≡ client → ⊥
+  unstaged c seq table key staged is =
+      let call : Call = staged.last.call in
+      let own : IsLastCall v.base v.lane c staged.last =
+      subst (λ (old : Option LastCall). IfSome old (IsLastCall v.base v.lane c)) staged.asked_is (sound.asked.last c) in
+      let old : IsOlder call =
+      subst (λ (old : Option LastCall). IfSome old (λ o. IsOlder o.call)) staged.asked_is (before c is) in
+      false≢true
+      (sym staged.unrecorded ∙ recorded_there v.journal call c seq old.1 staged.mutation own.own staged.seq_is)
+
+  -- so what is staged is of the last call of its client as before
+  same_asked : (c seq table : ℕ) (key : List ℕ) → IsLastAsked v.asked v.journal c seq table key → now.asked c ≡ v.asked c
+  same_asked c seq table key staged = put_other v.asked client (Some last) c (unstaged c seq table key staged)
+
+  still_last : (c seq table : ℕ) (key : List ℕ) → IsLastAsked v.asked v.journal c seq table key → IsLastAsked now.asked v.journal c seq table key
+  still_last c seq table key staged = record {
+    last = staged.last;
+    asked_is = same_asked c seq table key staged ∙ staged.asked_is;
+    seq_is = staged.seq_is;
+    table_is = staged.table_is;
+    key_is = staged.key_is;
+    mutation = staged.mutation;
+    unrecorded = staged.unrecorded;
+  }
+
+  still_staged : (entry : Entry) → IsStaged v.base v.asked v.journal entry → IsStaged v.base now.asked v.journal entry
+  unfolding still_last
+  still_staged (entries.Held held) = λ staged. record {
+    last = still_last held.client held.seq held.table held.key staged.last;
+    leaves = staged.leaves;
+  }
+  still_staged (entries.Refused refused) = still_last refused.client refused.seq refused.table refused.key
+  still_staged (entries.Carried carried) = λ staged. staged
+  still_staged (entries.Joined joined) = λ staged. staged
+
+  -- the records that staged calls will make
+  records_same : (list : List Entry) → All (IsStaged v.base v.asked v.journal) list → records_of now.asked (call_ends list) ≡ records_of v.asked (call_ends list)
+  records_same [] staged = refl
+  records_same (entries.Held held ∷ list) staged =
+      let first = All-head (IsStaged v.base v.asked v.journal) (entries.Held held) list staged in
+      let later = All-tail (IsStaged v.base v.asked v.journal) (entries.Held held) list staged in
+      λ i.
+      record_of_last (item_end held) (same_asked held.client held.seq held.table held.key first.last i) ++ records_same list later i
+  records_same (entries.Refused refused ∷ list) staged =
+      let first = All-head (IsStaged v.base v.asked v.journal) (entries.Refused refused) list staged in
+      let later = All-tail (IsStaged v.base v.asked v.journal) (entries.Refused refused) list staged in
+      λ i.
+      record_of_last (refusal_end refused) (same_asked refused.client refused.seq refused.table refused.key first i)
+      ++ records_same list later i
+  records_same (entries.Carried carried ∷ list) staged =
+      records_same list (All-tail (IsStaged v.base v.asked v.journal) (entries.Carried carried) list staged)
+  records_same (entries.Joined joined ∷ list) staged =
+      records_same list (All-tail (IsStaged v.base v.asked v.journal) (entries.Joined joined) list staged)
+
+  goes_on : (range : Range) (sure left : List Entry) → IsRest v.base range sure left v.journal v.asked → IsRest v.base range sure left v.journal now.asked
+  goes_on range sure left old =
+      let same = sym (records_same left old.staged) in
+      record {
+        legal = subst (λ (more : List Placed). IsLegal (base_map v.base) (v.journal ++ more)) same old.legal;
+        live =
+            subst
+            (λ (more : List Placed).
+            AgreeIn range (live_items (items_of (sure ++ left))) (live_after (base_map v.base) (v.journal ++ more))) same old.live;
+        staged = All-weaker (IsStaged v.base v.asked v.journal) (IsStaged v.base now.asked v.journal) still_staged left old.staged;
+        one = old.one;
+      }
+
+  -- no call of the client waits
+  entry_apart : (call : Call) (entry : Entry) → IsEntryOf call entry → IsStaged v.base v.asked v.journal entry → call.client ≡ client → ⊥
+  entry_apart call (entries.Held held) own staged is =
+      unstaged held.client held.seq held.table held.key staged.last (sym own.client_is ∙ is)
+  entry_apart call (entries.Refused refused) own staged is =
+      unstaged refused.client refused.seq refused.table refused.key staged (sym own.client_is ∙ is)
+  entry_apart call (entries.Carried carried) own staged is = own
+  entry_apart call (entries.Joined joined) own staged is = own
+
+  none_waits : (q place : ℕ) (call : Call) → Waits v.rows (v.handovers q) (v.written q) q place call → call.client ≡ client → ⊥
+  none_waits q place call waits is =
+      let of_row =
+      All-contains (λ (r : Row). IsRest v.base r.range (truths v r) (rests v r) v.journal v.asked) v.rows waits.row sound.rest.goes_on
+      waits.has_row in
+      entry_apart call waits.entry waits.own
+      (of_waiting (IsStaged v.base v.asked v.journal) v.rows (v.handovers q) v.written q place call waits of_row.staged) is
+
+  rest : RestOf now (truths v) (rests v)
+  rest = record {
+    goes_on = λ k d within.
+        let row : Row = slice_index_or v.rows k d in
+        goes_on row.range (truths v row) (rests v row) (sound.rest.goes_on k d within);
+    done = sound.rest.done;
+    unnamed = sound.rest.unnamed;
+    idle = sound.rest.idle;
+    waiting = sound.rest.waiting;
+    are_last = λ q lives place call found.
+        of_client (λ old. IsLast old call) call.client
+        (λ is. absurd (none_waits q place call (sound.rest.waiting q lives place call found) is))
+        (λ apart. sound.rest.are_last q lives place call found);
+    found = sound.rest.found;
+  }
+
+  -- requests are of calls that were asked
+  request_fits : (c : ℕ) (request : Request) → RequestFits v.asked v.journal c request → RequestFits now.asked v.journal c request
+  request_fits c request fits = record {
+    was_asked = still_asked c (call_of c request) fits.was_asked;
+    seen =
+        of_client (λ old. HasSeen old (call_of c request) request.seen) c
+        (λ is same. absurd (another c (call_of c request) is fits.was_asked same)) (λ apart. fits.seen);
+  }
+
+  request_says : (from : Node) (body : Body) → RequestSays v.asked v.journal from body → RequestSays now.asked v.journal from body
+  request_says (nodes.Client c) (bodies.Request request) says = request_fits c request says
+  request_says (nodes.Client c) body says = says
+  request_says from body says = says
+
+  is_request : (c : ℕ) (from : Node) (body : Body) → IsRequest v.asked v.journal c from body → IsRequest now.asked v.journal c from body
+  is_request c (nodes.Client sender) (bodies.Request request) says = (says.0, request_fits c request says.1)
+  is_request c (nodes.Client sender) body says = says
+  is_request c from body says = says
+
+  asked : AskedOf now
+  asked = record {
+    last = λ c.
+        of_client (λ old. IfSome old (IsLastCall v.base v.lane c)) c
+        (λ is. record { own = may.own ∙ sym is; here = may.here; after = may.after }) (λ apart. sound.asked.last c);
+    own_keys = sound.asked.own_keys;
+    recorded =
+        All-weaker (λ placed. WasAsked (v.asked placed.call.client) v.journal placed.call)
+        (λ placed. WasAsked (now.asked placed.call.client) v.journal placed.call)
+        (λ placed. still_asked placed.call.client placed.call) v.journal sound.asked.recorded;
+    after_start = sound.asked.after_start;
+    once = sound.asked.once;
+    sent = λ n m found. request_says m.from m.body (sound.asked.sent n m found);
+    again = λ c m found. is_request c m.from m.body (sound.asked.again c m found);
+  }
+
+  pub view_asked : SoundView now
+  view_asked = record {
+    nodes = sound.nodes;
+    rows = sound.rows;
+    terms = sound.terms;
+    cover = sound.cover;
+    roles = sound.roles;
+    logs = sound.logs;
+    truth = truth;
+    order = sound.order;
+    calls = sound.calls;
+    counters = sound.counters;
+    rest = rest;
+    records = sound.records;
+    receives = sound.receives;
+    rebuilds = sound.rebuilds;
+    messages = sound.messages;
+    asked = asked;
+  }
+
+-- a ledger where a client asked a call has it, and what other clients asked
+pub asked_put : (ledger : Ledger) (client : ℕ) (last : LastCall) (q : ℕ) → asked_by (with_asked ledger client last) q ≡ put (asked_by ledger) client (Some last) q
+asked_put ledger client last q =
+    put_is (asked_by ledger) client (Some last) q (asked_by (with_asked ledger client last) q)
+    (λ is. ap (λ (kept : Option (Option LastCall)). unwrap_or kept None) (get_same ledger.clients client (Some last) q is))
+    (λ apart. ap (λ (kept : Option (Option LastCall)). unwrap_or kept None) (get_other ledger.clients client (Some last) q apart))
+
+pub view_is : (w : World) (client : ℕ) (last : LastCall) → view (call_asked_in w client last) ≡ call_asked (view w) client last
+view_is w client last i = record (view w) { asked = λ q. asked_put w.ledger client last q i }
+
+pub sound_asked : (w : World) (client : ℕ) (last : LastCall) → IsSound w → MayAsk (view w) client last → IsSound (call_asked_in w client last)
+sound_asked w client last sound may = subst SoundView (sym (view_is w client last)) (view_asked (view w) client last sound may)

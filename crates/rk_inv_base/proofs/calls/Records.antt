@@ -1,0 +1,192 @@
+-- Records once one more item was put, which stays where nothing newer of its key is there; and what stands in a scan of entries.
+use Rattle.std.proofs.Common.{◌≡◌, ℕ, ltb, Bool, true, false, cond, List, [], ◌∷◌, Some, refl, sym, ap, ◌∙◌, subst, ◌⊎◌, inl, inr, ⊎_elim}
+use Rattle.std.proofs.Common.{arith, filter, fold, is_some, All, Contains, flat_map, is_lt, ltb-true}
+use Rattle.std.specs.List.Sorted.{IsStrictlySortedBy}
+use Rattle.std.specs.Ordering.{ordering_reverse}
+use Rattle.rk_inv_base.proofs.Words.{cases_Bool, cond-true, cond-false, false≢true, flat_map-append, All-append, All-contains}
+use Rattle.rk_inv_base.proofs.Words.{All-contains_itself, All-cons, All-filter, All-from_recursion, All-nil, Contains-append_cases}
+use Rattle.rk_inv_base.proofs.Words.{Contains-append_left, Contains-append_right, Ordering, Less, Equal, Greater, hash_of, has, Held, Range}
+use Rattle.rk_inv_base.proofs.Words.{Entry, same_older, filter_kept, filter_left_out, found, is_in, is_newer, with_item, with_newer}
+use Rattle.rk_inv_base.proofs.Words.{is_before, IsInScanOrder, newest_is, none_stands, first_stands, behind_stands, stands_cases}
+use Rattle.rk_inv_base.proofs.Words.{is_of_parts, is_of_from, newest_items_are, newest_items, items_in, items_of, counts, counting}
+use Rattle.rk_inv_base.proofs.Words.{material_of, named, IsFound, scan_items}
+use Rattle.rk_entry.specs.declared.entry.Entry.TheVariants as entries
+use Rattle.rk_table.specs.Items.{is_at}
+use Rattle.rk_table.specs.Order.{item_cmp, item_place}
+use Rattle.rk_table.proofs.Found.{at_from_tie, not_at_before}
+use Rattle.rk_table.proofs.InOrder.{place_total}
+
+-- ---- lists
+
+-- what passes a test stands in what is kept by it, and nothing else does
+pub filter_stands : {X : Type 0} (p : X → Bool) (xs : List X) (x : X) → Contains xs x → p x ≡ true → Contains (filter p xs) x
+filter_stands p [] x stands passes = absurd (none_stands x stands)
+filter_stands p (y ∷ xs) x stands passes =
+    ⊎_elim
+    (λ (is : y ≡ x).
+    subst (λ list. Contains list x) (sym (filter_kept p y xs (ap p is ∙ passes)))
+    (subst (Contains (y ∷ filter p xs)) is (first_stands y (filter p xs))))
+    (λ (behind : Contains xs x).
+    ⊎_elim
+    (λ (kept : p y ≡ true).
+    subst (λ list. Contains list x) (sym (filter_kept p y xs kept))
+    (behind_stands y (filter p xs) x (filter_stands p xs x behind passes)))
+    (λ (out : p y ≡ false).
+    subst (λ list. Contains list x) (sym (filter_left_out p y xs out)) (filter_stands p xs x behind passes))
+    (cases_Bool (p y)))
+    (stands_cases y xs x stands)
+
+pub filter_from : {X : Type 0} (p : X → Bool) (xs : List X) (x : X) → Contains (filter p xs) x → Contains xs x
+filter_from p xs x stands = All-contains (Contains xs) (filter p xs) x (All-filter p (Contains xs) xs (All-contains_itself xs)) stands
+
+-- ---- records with one more item
+
+-- each is the item, or stood there
+pub put_cases : (item : Held) (items : List Held) (x : Held) → Contains (with_item item items) x → (item ≡ x) ⊎ Contains items x
+put_cases item items x stands =
+    let front : List Held = filter (λ other. is_before other item) items in
+    let back : List Held = filter (λ other. is_before item other) items in
+    ⊎_elim
+    (λ (before : Contains front x). inr (filter_from (λ other. is_before other item) items x before))
+    (λ (from : Contains (item ∷ back) x).
+    ⊎_elim (λ (is : item ≡ x). inl is)
+    (λ (behind : Contains back x). inr (filter_from (λ other. is_before item other) items x behind))
+    (stands_cases item back x from))
+    (Contains-append_cases front (item ∷ back) x stands)
+
+pub newer_cases : (item : Held) (items : List Held) (x : Held) → Contains (with_newer item items) x → (item ≡ x) ⊎ Contains items x
+newer_cases item items x = go (is_newer item (found item.table item.key items))
+  where
+    go : (newer : Bool) → Contains (cond newer (with_item item items) items) x → (item ≡ x) ⊎ Contains items x
+    go true stands = put_cases item items x stands
+    go false stands = inr stands
+
+-- an item of another key stands where the item was put
+pub other_put : (item : Held) (items : List Held) (x : Held) → Contains items x → is_at item.table item.key x ≡ false → Contains (with_item item items) x
+other_put item items x stands other = go (item_cmp x item) refl
+  where
+    go : (r : Ordering) → item_cmp x item ≡ r → Contains (with_item item items) x
+    go Less is =
+        Contains-append_left (filter (λ y. is_before y item) items) (item ∷ filter (λ y. is_before item y) items) x
+        (filter_stands (λ y. is_before y item) items x stands (ap is_lt is))
+    go Equal is = absurd (false≢true (sym other ∙ at_from_tie item.table item.key x is))
+    go Greater is =
+        Contains-append_right (filter (λ y. is_before y item) items) (item ∷ filter (λ y. is_before item y) items) x
+        (behind_stands item (filter (λ y. is_before item y) items) x
+        (filter_stands (λ y. is_before item y) items x stands
+        (ap is_lt (place_total.antisymm (item_place item) (item_place x) ∙ ap ordering_reverse is))))
+
+pub other_stays : (item : Held) (items : List Held) (x : Held) → Contains items x → is_at item.table item.key x ≡ false → Contains (with_newer item items) x
+other_stays item items x stands other = go (is_newer item (found item.table item.key items))
+  where
+    go : (newer : Bool) → Contains (cond newer (with_item item items) items) x
+    go true = other_put item items x stands other
+    go false = stands
+
+-- the item that stands of a key is found
+pub stands_is_found : (items : List Held) (table : ℕ) (key : List ℕ) (x : Held) → IsInScanOrder items → Contains items x → is_at table key x ≡ true → found table key items ≡ Some x
+unfolding IsStrictlySortedBy
+stands_is_found [] table key x order stands here = absurd (none_stands x stands)
+stands_is_found (y ∷ items) table key x order stands here =
+    ⊎_elim
+    (λ (is : y ≡ x). cond-true (is_at table key y) (Some y) (found table key items) (ap (is_at table key) is ∙ here) ∙ ap Some is)
+    (λ (behind : Contains items x).
+    let less : item_cmp y x ≡ Less =
+    All-contains (λ z. item_cmp y z ≡ Less) items x (All-from_recursion (λ z. item_cmp y z ≡ Less) items order.0) behind in
+    let before : is_before y x ≡ true = ap is_lt less in
+    let its = is_of_parts table key x here in
+    let apart : is_at table key y ≡ false =
+    subst (λ (k : List ℕ). is_at table k y ≡ false) its.1
+    (subst (λ (t : ℕ). is_at t x.key y ≡ false) its.0 (not_at_before x.table x.key y before)) in
+    cond-false (is_at table key y) (Some y) (found table key items) apart ∙ stands_is_found items table key x order.1 behind here)
+    (stands_cases y items x stands)
+
+-- the item stands once it was put
+pub put_stands : (item : Held) (items : List Held) → Contains (with_item item items) item
+put_stands item items =
+    Contains-append_right (filter (λ y. is_before y item) items) (item ∷ filter (λ y. is_before item y) items) item
+    (first_stands item (filter (λ y. is_before item y) items))
+
+pub newer_stands : (item : Held) (items : List Held) → is_newer item (found item.table item.key items) ≡ true → Contains (with_newer item items) item
+newer_stands item items newer =
+    subst (λ (list : List Held). Contains list item)
+    (sym (cond-true (is_newer item (found item.table item.key items)) (with_item item items) items newer)) (put_stands item items)
+
+-- what was found is found still
+pub found_still : (item : Held) (items : List Held) (x : Held) → IsInScanOrder items → IsFound items x → IsFound (with_newer item items) x
+found_still item items x order is =
+    ⊎_elim
+    (λ (same : is_at item.table item.key is.there ≡ true).
+    ⊎_elim
+    (λ (newer : is_newer item (found item.table item.key items) ≡ true).
+    let above : ltb is.there.version item.version ≡ true =
+    ap (is_newer item) (sym (stands_is_found items item.table item.key is.there order is.stands same)) ∙ newer in
+    let mine = is_of_parts item.table item.key is.there same in
+    let its = is_of_parts x.table x.key is.there is.same_key in
+    record {
+      there = item;
+      stands = newer_stands item items newer;
+      same_key = is_of_from x.table x.key item (sym mine.0 ∙ its.0) (sym mine.1 ∙ its.1);
+      as_new = omega (arith, is.as_new, ltb-true is.there.version item.version above);
+    })
+    (λ (older : is_newer item (found item.table item.key items) ≡ false).
+    subst (λ (list : List Held). IsFound list x) (sym (same_older item items older)) is)
+    (cases_Bool (is_newer item (found item.table item.key items))))
+    (λ (other : is_at item.table item.key is.there ≡ false).
+    record { there = is.there; stands = other_stays item items is.there is.stands other; same_key = is.same_key; as_new = is.as_new })
+    (cases_Bool (is_at item.table item.key is.there))
+
+-- a range has an item where it has another one of its key
+pub in_by_key : (range : Range) (item x : Held) → is_at item.table item.key x ≡ true → is_in range x ≡ is_in range item
+in_by_key range item x here =
+    let its = is_of_parts item.table item.key x here in
+    λ i. has range (its.0 i) (hash_of (its.1 i))
+
+-- ---- scans
+
+-- an item of what counts for a range is in the range
+pub counting_in : (range : Range) (list : List Entry) → All (λ x. is_in range x ≡ true) (items_of (counting range list))
+counting_in range [] = All-nil (λ x. is_in range x ≡ true)
+counting_in range (entry ∷ list) =
+    ⊎_elim
+    (λ (inside : counts range entry ≡ true).
+    subst (λ (kept : List Entry). All (λ x. is_in range x ≡ true) (items_of kept)) (sym (filter_kept (counts range) entry list inside))
+    (All-append (λ x. is_in range x ≡ true) (items_in entry) (items_of (counting range list)) (at entry inside) (counting_in range list)))
+    (λ (outside : counts range entry ≡ false).
+    subst (λ (kept : List Entry). All (λ x. is_in range x ≡ true) (items_of kept)) (sym (filter_left_out (counts range) entry list outside))
+    (counting_in range list))
+    (cases_Bool (counts range entry))
+  where
+    at : (entry : Entry) → counts range entry ≡ true → All (λ x. is_in range x ≡ true) (items_in entry)
+    at (entries.Held held) inside = All-cons (λ x. is_in range x ≡ true) held [] inside (All-nil (λ x. is_in range x ≡ true))
+    at (entries.Refused refused) inside = All-nil (λ x. is_in range x ≡ true)
+    at (entries.Carried carried) inside = All-nil (λ x. is_in range x ≡ true)
+    at (entries.Joined joined) inside = All-nil (λ x. is_in range x ≡ true)
+
+pub material_in : (range : Range) (side : ℕ → List Entry) (list : List Entry) → All (λ x. is_in range x ≡ true) (items_of (material_of range side list))
+material_in range side list =
+    subst (λ (items : List Held). All (λ x. is_in range x ≡ true) items)
+    (sym (flat_map-append items_in (counting range list) (counting range (flat_map side (named range list)))))
+    (All-append (λ x. is_in range x ≡ true) (items_of (counting range list)) (items_of (counting range (flat_map side (named range list))))
+    (counting_in range list) (counting_in range (flat_map side (named range list))))
+
+pub put_all_from : (items more : List Held) (x : Held) → Contains (fold (λ list item. with_item item list) items more) x → Contains items x ⊎ Contains more x
+put_all_from items [] x stands = inl stands
+put_all_from items (y ∷ more) x stands =
+    ⊎_elim
+    (λ (put : Contains (with_item y items) x).
+    ⊎_elim (λ (is : y ≡ x). inr (subst (Contains (y ∷ more)) is (first_stands y more))) (λ (old : Contains items x). inl old)
+    (put_cases y items x put))
+    (λ (behind : Contains more x). inr (behind_stands y more x behind))
+    (put_all_from (with_item y items) more x stands)
+
+-- a scan has items of its entries alone
+pub scanned_from : (material : List Entry) (x : Held) → Contains (scan_items material) x → Contains (items_of material) x
+scanned_from material x stands =
+    let newest : List Held = newest_items (items_of material) in
+    ⊎_elim
+    (λ (none : Contains [] x). absurd (none_stands x none))
+    (λ (kept : Contains (filter (λ item. is_some item.value) newest) x).
+    (newest_is (items_of material) x.table x.key x
+    (((newest_items_are (items_of material)).newest x).0 (filter_from (λ item. is_some item.value) newest x kept))).stands)
+    (put_all_from [] (filter (λ item. is_some item.value) newest) x stands)

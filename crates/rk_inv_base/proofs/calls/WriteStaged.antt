@@ -1,0 +1,79 @@
+-- A view stays sound when a write is staged that its master may serve and that goes on lawfully.
+use Rattle.std.proofs.Common.{◌≡◌, ℕ, ◌+◌, List, [], Option, refl, sym, subst, ◌∙◌, ◌++◌}
+use Rattle.rk_inv_base.proofs.Words.{All-cons, All-contains, All-nil, Call, Held, Row, counted_up, item_of, with_staged, World, master_at}
+use Rattle.rk_inv_base.proofs.Words.{tablet_in, MayAppend, IsNext, IsRest, View, view, truths, rests, IsSound, SoundView}
+use Rattle.rk_entry.specs.declared.entry.Entry.TheVariants as entries
+use Rattle.rk_world.specs.Requests.{write_staged}
+use Rattle.rk_sound.specs.Changes.{MayStage}
+use Rattle.rk_sound.specs.Small.{staged, write_staged_in}
+use Rattle.rk_inv_base.proofs.views.Put.{put_same, put2_same}
+use Rattle.rk_inv_base.proofs.views.Masters.{tablet_here, tablet_apart}
+use Rattle.rk_inv_base.proofs.views.Views.{view_master}
+use Rattle.rk_inv_base.proofs.logs.Floors.{next_push}
+use Rattle.rk_inv_base.proofs.calls.Histories.{last_asked, write_goes_on}
+use Rattle.rk_inv_base.proofs.calls.Counters.{counter_low}
+use Rattle.rk_inv_base.proofs.calls.CallAppended.{view_appended}
+
+module _ (v : View) (master : ℕ) (call : Call) (value : Option (List ℕ)) (sound : SoundView v) (may : MayStage v master call value) where
+  abbrev row : Row
+  row = may.served.row
+
+  -- the version that the item gets
+  abbrev version : ℕ
+  version = (v.handovers master may.served.row.tablet).counter
+
+  -- the item that the call leaves
+  abbrev item : Held
+  item = item_of call (v.handovers master may.served.row.tablet).counter value
+
+  -- its master speaks for the row, so the version is above all that counts for it
+  low : IsNext (truths v row ++ rests v row) version
+  low = counter_low v master call.table call.key sound.counters may.served
+
+  -- so the item may be appended, and the counter rises above its version
+  may_append : MayAppend v master call (entries.Held item) (version + 1)
+  may_append = record {
+    served = may.served;
+    room = may.room;
+    own = record { client_is = refl; seq_is = refl; table_is = refl; key_is = refl };
+    above =
+        All-cons (λ (held : Held). IsNext (truths v row ++ rests v row) held.version) item [] low
+        (All-nil (λ (held : Held). IsNext (truths v row ++ rests v row) held.version));
+    next = next_push (truths v row) (rests v row) version item refl low;
+    last = last_asked v.asked v.journal call may.ends.last may.ends.same_call;
+    goes_on =
+        write_goes_on v.base row.range (truths v row) (rests v row) v.journal v.asked call version value
+        (All-contains (λ r. IsRest v.base r.range (truths v r) (rests v r) v.journal v.asked) v.rows row sound.rest.goes_on may.served.has_row)
+        may.ends may.leaves low;
+  }
+
+  pub view_staged : SoundView (staged v master may.served.row.tablet call value)
+  unfolding may_append
+  view_staged = view_appended v (record {
+    master = master;
+    call = call;
+    entry = entries.Held item;
+    counter = version + 1;
+    sound = sound;
+    may = may_append;
+  })
+
+-- what a staged write makes of a view
+pub staged_is : (w : World) (master number : ℕ) (call : Call) (value : Option (List ℕ)) → view (write_staged_in w master number call value) ≡ staged (view w) master number call value
+staged_is w master number call value =
+    let old = master_at w master in
+    let tablet = tablet_in w master number in
+    let more = with_staged old call (entries.Held (item_of call tablet.handover.counter value)) in
+    view_master w master (write_staged old number call value) number (counted_up tablet) refl
+    (tablet_here more number (counted_up tablet)) (tablet_apart more number (counted_up tablet))
+    ∙ (λ i. record (staged (view w) master number call value) {
+      records = put_same (view w).records master i;
+      completions = put2_same (view w).completions master number i;
+      pullings = put2_same (view w).pullings master number i;
+      gathers = put2_same (view w).gathers master number i;
+      merged = put2_same (view w).merged master number i;
+    })
+
+pub sound_staged : (w : World) (master : ℕ) (call : Call) (value : Option (List ℕ)) → IsSound w → (may : MayStage (view w) master call value) → IsSound (write_staged_in w master may.served.row.tablet call value)
+sound_staged w master call value sound may =
+    subst SoundView (sym (staged_is w master may.served.row.tablet call value)) (view_staged (view w) master call value sound may)

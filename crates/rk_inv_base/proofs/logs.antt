@@ -1,0 +1,15 @@
+pub mod Shares
+pub mod Applied
+pub mod Segments
+pub mod Logs
+pub mod Floors
+pub mod Grows
+pub mod BytesStored
+pub mod LengthTold
+pub mod InRest
+pub mod ClosingTarget
+pub mod ClosingAppended
+pub mod InRange
+pub mod MarkedApart
+pub mod Holding
+pub mod Missed

@@ -1,0 +1,64 @@
+-- The number from which the next version is taken is above each version, and does not fall with more entries.
+use Rattle.std.proofs.Common.{◌≡◌, ℕ, ◌≤◌, ◌<◌, ◌+◌, List, [], ◌∷◌, ◌++◌, sym, ap, subst, ◌∙◌, ⊎_elim, arith, append_assoc, fold, max}
+use Rattle.std.proofs.Common.{Contains}
+use Rattle.rk_inv_base.proofs.Words.{fold-append, Held, Entry, none_stands, stands_cases, items_of, floor_by, floor_of, IsNext}
+use Rattle.rk_entry.specs.declared.entry.Entry.TheVariants as entries
+use Rattle.rk_entry.specs.declared.entry.Refused.{Refused}
+
+-- a floor does not fall with an entry
+pub floor_step : (floor : ℕ) (entry : Entry) → floor ≤ floor_by floor entry
+floor_step floor (entries.Held held) = omega arith
+floor_step floor (entries.Refused refused) = omega arith
+floor_step floor (entries.Carried carried) = omega arith
+floor_step floor (entries.Joined joined) = omega arith
+
+-- nor with several
+pub floor_rises : (floor : ℕ) (list : List Entry) → floor ≤ fold floor_by floor list
+floor_rises floor [] = omega arith
+floor_rises floor (entry ∷ list) =
+    let step = floor_step floor entry in
+    let rest = floor_rises (floor_by floor entry) list in
+    omega (arith, step, rest)
+
+-- from a floor on, it is above each version
+pub above_from : (floor : ℕ) (list : List Entry) (item : Held) → Contains (items_of list) item → item.version < fold floor_by floor list
+above_from floor [] item at = absurd (none_stands item at)
+above_from floor (entries.Held held ∷ list) item at =
+    ⊎_elim
+    (λ (same : held ≡ item).
+    subst (λ (x : Held). x.version < fold floor_by (max floor (held.version + 1)) list) same
+    (omega (arith, floor_rises (max floor (held.version + 1)) list)))
+    (λ (behind : Contains (items_of list) item). above_from (max floor (held.version + 1)) list item behind)
+    (stands_cases held (items_of list) item at)
+above_from floor (entries.Refused refused ∷ list) item at = above_from floor list item at
+above_from floor (entries.Carried carried ∷ list) item at = above_from (max floor carried.floor) list item at
+above_from floor (entries.Joined joined ∷ list) item at = above_from floor list item at
+
+-- it is above each version
+pub floor_above : (list : List Entry) (item : Held) → Contains (items_of list) item → item.version < floor_of list
+floor_above list item at = above_from 1 list item at
+
+-- it is as great with more entries behind
+pub floor_append : (floor : ℕ) (list more : List Entry) → fold floor_by floor list ≤ fold floor_by floor (list ++ more)
+floor_append floor [] more = floor_rises floor more
+floor_append floor (entry ∷ list) more = floor_append (floor_by floor entry) list more
+
+-- one more item at the end raises it above the item's version
+pub floor_push : (list : List Entry) (item : Held) → floor_of (list ++ entries.Held item ∷ []) ≡ max (floor_of list) (item.version + 1)
+floor_push list item = fold-append floor_by 1 list (entries.Held item ∷ [])
+
+-- so one more item that took the next number as its version has the one after it behind it
+pub next_push : (truth rest : List Entry) (number : ℕ) (item : Held) → item.version ≡ number → IsNext (truth ++ rest) number → IsNext (truth ++ (rest ++ entries.Held item ∷ [])) (number + 1)
+next_push truth rest number item version next =
+    let same : floor_of (truth ++ (rest ++ entries.Held item ∷ [])) ≡ max (floor_of (truth ++ rest)) (item.version + 1) =
+    ap floor_of (sym (append_assoc truth rest (entries.Held item ∷ []))) ∙ floor_push (truth ++ rest) item in
+    omega (arith, same, version, next)
+
+-- an entry that bears neither a version nor a floor leaves the next number what it is
+pub next_stays : (truth rest : List Entry) (number : ℕ) (refused : Refused) → IsNext (truth ++ rest) number → IsNext (truth ++ (rest ++ entries.Refused refused ∷ [])) number
+next_stays truth rest number refused next =
+    subst (λ (floor : ℕ). floor ≤ number)
+    (sym
+    (ap floor_of (sym (append_assoc truth rest (entries.Refused refused ∷ [])))
+    ∙ fold-append floor_by 1 (truth ++ rest) (entries.Refused refused ∷ [])))
+    next

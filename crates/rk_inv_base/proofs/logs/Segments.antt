@@ -1,0 +1,200 @@
+-- The bytes of a log's segments, and how they grow by one more entry.
+use Rattle.std.proofs.Common.{◌≡◌, ℕ, zero, suc, ◌+◌, ◌-◌, ◌<◌, ◌≤◌, ◌^◌, eqb, List, [], ◌∷◌, ◌++◌, length, get_or, Option, Some, None}
+use Rattle.std.proofs.Common.{refl, sym, ap, subst, ◌∙◌, ⊎_elim, arith, length-set, length-append, get_or-set_same, get_or-set_other, ◌≢◌}
+use Rattle.std.proofs.Common.{eq-eqb, ne_eqb, lt-ltb, ltb-true, append-nil}
+use Rattle.rk_inv_base.proofs.Words.{cases_eq, cases_lt, cond-true, cond-false, cond_both, get_or_append_left, get_or_past, find-append}
+use Rattle.rk_inv_base.proofs.Words.{option_map_or, option_or, NumberedBytes, spelled, Entry, FIRST_SIDE_SEGMENT, cut_push, cut_filled}
+use Rattle.rk_inv_base.proofs.Words.{room_some, has_room, in_last, with_bytes, cut, Log, bytes_of, numbered, segment_of, side_segments}
+use Rattle.rk_inv_base.proofs.Words.{with_entry, IsFirstPart, is_main}
+use Rattle.rk_log.proofs.Cuts.{length-le-bytes}
+use Rattle.rk_log.specs.Cut.{last_of}
+use Rattle.rk_log.specs.Log.{segment_bytes}
+
+-- ---- segments by their numbers
+
+pub numbered_before : (number first : ℕ) (segments : List (List ℕ)) → number < first → segment_of number (numbered first segments) ≡ None
+numbered_before number first [] less = refl
+numbered_before number first (bytes ∷ more) less =
+    cond-false (eqb first number) (Some (record { number = first; bytes = bytes })) (segment_of number (numbered (suc first) more)) (ne_eqb first number (λ e. omega arith))
+    ∙ numbered_before number (suc first) more (omega arith)
+
+pub numbered_past : (number first : ℕ) (segments : List (List ℕ)) → first + length segments ≤ number → segment_of number (numbered first segments) ≡ None
+numbered_past number first [] past = refl
+numbered_past number first (bytes ∷ more) past =
+    cond-false (eqb first number) (Some (record { number = first; bytes = bytes })) (segment_of number (numbered (suc first) more)) (ne_eqb first number (λ e. omega arith))
+    ∙ numbered_past number (suc first) more (omega arith)
+
+pub numbered_at : (number first k : ℕ) (segments : List (List ℕ)) → first + k ≡ number → k < length segments → segment_of number (numbered first segments) ≡ Some (record { number = number; bytes = get_or segments k [] })
+numbered_at number first k [] is within = absurd (omega arith)
+numbered_at number first zero (bytes ∷ more) is within =
+    let same : first ≡ number = omega arith in
+    cond-true (eqb first number) (Some (record { number = first; bytes = bytes })) (segment_of number (numbered (suc first) more)) (eq-eqb first number same)
+    ∙ ap (λ (n : ℕ). Some (record { number = n; bytes = bytes })) same
+numbered_at number first (suc k) (bytes ∷ more) is within =
+    cond-false (eqb first number) (Some (record { number = first; bytes = bytes })) (segment_of number (numbered (suc first) more)) (ne_eqb first number (λ e. omega arith))
+    ∙ numbered_at number (suc first) k more (omega arith) (omega arith)
+
+-- the bytes of a segment that may be there
+abbrev pub bytes_in : Option NumberedBytes → List ℕ
+bytes_in found = option_map_or (λ segment. segment.bytes) found []
+
+pub found_in : (log : Log) (number : ℕ) → bytes_of log number ≡ bytes_in (option_or (segment_of number (numbered 1 (cut log.entries))) (segment_of number (side_segments log)))
+found_in log number = ap bytes_in (find-append (λ (segment : NumberedBytes). eqb segment.number number) (numbered 1 (cut log.entries)) (side_segments log))
+
+-- of a main segment, by its place
+pub bytes_main : (log : Log) (number : ℕ) → 1 ≤ number → number < FIRST_SIDE_SEGMENT → bytes_of log number ≡ get_or (cut log.entries) (number - 1) []
+bytes_main log number some less =
+    found_in log number
+    ∙ ⊎_elim
+    (λ (within : number - 1 < length (cut log.entries)).
+    ap (λ (o : Option NumberedBytes). bytes_in (option_or o (segment_of number (side_segments log)))) (numbered_at number 1 (number - 1) (cut log.entries) (omega arith) within))
+    (λ (past : length (cut log.entries) ≤ number - 1).
+    (λ i. bytes_in (option_or (numbered_past number 1 (cut log.entries) (omega arith) i) (numbered_before number FIRST_SIDE_SEGMENT log.sides less i)))
+    ∙ sym (get_or_past (cut log.entries) (number - 1) [] past))
+    (cases_lt (number - 1) (length (cut log.entries)))
+
+-- a main segment has bytes where a later one has some
+pub bytes_before : (log : Log) (earlier later : ℕ) → 1 ≤ earlier → earlier < later → later < FIRST_SIDE_SEGMENT → 0 < length (bytes_of log later) → 0 < length (bytes_of log earlier)
+bytes_before log earlier later some before less filled =
+    ⊎_elim
+    (λ (within : later - 1 < length (cut log.entries)).
+    subst (λ (bytes : List ℕ). 0 < length bytes) (sym (bytes_main log earlier some (omega arith)))
+    (cut_filled [] log.entries (λ k h. absurd (omega arith)) (earlier - 1) (omega arith)))
+    (λ (past : length (cut log.entries) ≤ later - 1).
+    let none : bytes_of log later ≡ [] =
+    bytes_main log later (omega arith) less ∙ get_or_past (cut log.entries) (later - 1) [] past in
+    absurd (omega (arith, filled, ap length none)))
+    (cases_lt (later - 1) (length (cut log.entries)))
+
+-- no segment has the number 0
+pub bytes_zero : (log : Log) (number : ℕ) → number < 1 → bytes_of log number ≡ []
+bytes_zero log number less =
+    found_in log number
+    ∙ (λ i. bytes_in (option_or (numbered_before number 1 (cut log.entries) less i) (numbered_before number FIRST_SIDE_SEGMENT log.sides (omega arith) i)))
+
+-- of a side segment, which the main ones do not hide
+pub bytes_side : (log : Log) (number : ℕ) → length (cut log.entries) < FIRST_SIDE_SEGMENT → FIRST_SIDE_SEGMENT ≤ number → bytes_of log number ≡ bytes_in (segment_of number (side_segments log))
+bytes_side log number few side =
+    found_in log number
+    ∙ ap (λ (o : Option NumberedBytes). bytes_in (option_or o (segment_of number (side_segments log)))) (numbered_past number 1 (cut log.entries) (omega arith))
+
+-- ---- bytes behind segments
+
+pub first_part_itself : (bytes : List ℕ) → IsFirstPart bytes bytes
+first_part_itself bytes = record { more = []; parts = sym (append-nil bytes) }
+
+pub first_part_same : (a b : List ℕ) → b ≡ a → IsFirstPart a b
+first_part_same a b same = subst (IsFirstPart a) (sym same) (first_part_itself a)
+
+-- each segment is a first part of what it then is
+pub with_bytes_front : (segments : List (List ℕ)) (bytes : List ℕ) (k : ℕ) → IsFirstPart (get_or segments k []) (get_or (with_bytes segments bytes) k [])
+with_bytes_front segments bytes k =
+    cond_both (has_room segments bytes) (in_last segments bytes) (segments ++ bytes ∷ []) (λ s. IsFirstPart (get_or segments k []) (get_or s k []))
+    (λ e.
+    let some : 0 < length segments = room_some segments bytes e in
+    ⊎_elim
+    (λ (last : k ≡ length segments - 1).
+    record {
+      more = bytes;
+      parts =
+          ap (λ (n : ℕ). get_or (in_last segments bytes) n []) last
+          ∙ get_or-set_same segments (length segments - 1) (last_of segments ++ bytes) [] (omega arith)
+          ∙ ap (λ (n : ℕ). get_or segments n [] ++ bytes) (sym last);
+    })
+    (λ (other : k ≡ length segments - 1 → ⊥).
+    first_part_same (get_or segments k []) (get_or (in_last segments bytes) k []) (get_or-set_other segments (length segments - 1) k (last_of segments ++ bytes) [] other))
+    (cases_eq k (length segments - 1)))
+    (λ e.
+    ⊎_elim
+    (λ (before : k < length segments).
+    first_part_same (get_or segments k []) (get_or (segments ++ bytes ∷ []) k []) (get_or_append_left segments (bytes ∷ []) [] k before))
+    (λ (past : length segments ≤ k).
+    record {
+      more = get_or (segments ++ bytes ∷ []) k [];
+      parts = ap (λ (l : List ℕ). l ++ get_or (segments ++ bytes ∷ []) k []) (sym (get_or_past segments k [] past));
+    })
+    (cases_lt k (length segments)))
+
+-- one with another behind it stays as it is
+pub with_bytes_full : (segments : List (List ℕ)) (bytes : List ℕ) (k : ℕ) → k + 1 < length segments → get_or (with_bytes segments bytes) k [] ≡ get_or segments k []
+with_bytes_full segments bytes k before =
+    cond_both (has_room segments bytes) (in_last segments bytes) (segments ++ bytes ∷ []) (λ s. get_or s k [] ≡ get_or segments k [])
+    (λ e. get_or-set_other segments (length segments - 1) k (last_of segments ++ bytes) [] (λ same. omega arith))
+    (λ e. get_or_append_left segments (bytes ∷ []) [] k (omega arith))
+
+-- they are one more at most
+pub with_bytes_few : (segments : List (List ℕ)) (bytes : List ℕ) → length (with_bytes segments bytes) ≤ length segments + 1
+with_bytes_few segments bytes =
+    cond_both (has_room segments bytes) (in_last segments bytes) (segments ++ bytes ∷ []) (λ s. length s ≤ length segments + 1)
+    (λ e. omega (arith, length-set segments (length segments - 1) (last_of segments ++ bytes)))
+    (λ e. omega (arith, length-append segments (bytes ∷ [])))
+
+-- ---- logs that grow
+
+-- a log with more at its end: each segment is a first part of what it then is, and one with another behind it that has bytes
+-- stays as it is
+pub record Grows (old new : Log) : Type 0 where
+  pub front : (segment : ℕ) → IsFirstPart (bytes_of old segment) (bytes_of new segment)
+  pub full :
+      (earlier later : ℕ) → earlier < later → is_main earlier ≡ is_main later → bytes_of old later ≢ []
+      → bytes_of new earlier ≡ bytes_of old earlier
+
+-- a log with few bytes has numbers left for its main segments
+pub segments_few : (log : Log) → segment_bytes log < 2 ^ 31 → length (cut log.entries) + 1 < FIRST_SIDE_SEGMENT
+segments_few log room = omega (arith, room, length-le-bytes (cut log.entries) (cut_filled [] log.entries (λ k h. absurd (omega arith))))
+
+module _ (log : Log) (entry : Entry) (few : length (cut log.entries) + 1 < FIRST_SIDE_SEGMENT) where
+  grown_few : length (cut (with_entry log entry).entries) < FIRST_SIDE_SEGMENT
+  grown_few = omega (arith, few, ap length (cut_push [] log.entries entry), with_bytes_few (cut log.entries) (spelled entry))
+
+  -- a side segment stays as it is
+  grown_side : (number : ℕ) → FIRST_SIDE_SEGMENT ≤ number → bytes_of (with_entry log entry) number ≡ bytes_of log number
+  grown_side number side = bytes_side (with_entry log entry) number grown_few side ∙ sym (bytes_side log number (omega (arith, few)) side)
+
+  grown_main : (number : ℕ) → 1 ≤ number → number < FIRST_SIDE_SEGMENT → bytes_of (with_entry log entry) number ≡ get_or (with_bytes (cut log.entries) (spelled entry)) (number - 1) []
+  grown_main number some less =
+      bytes_main (with_entry log entry) number some less ∙ ap (λ (s : List (List ℕ)). get_or s (number - 1) []) (cut_push [] log.entries entry)
+
+  grown_zero : (number : ℕ) → number < 1 → bytes_of (with_entry log entry) number ≡ bytes_of log number
+  grown_zero number less = bytes_zero (with_entry log entry) number less ∙ sym (bytes_zero log number less)
+
+  grown_front : (number : ℕ) → IsFirstPart (bytes_of log number) (bytes_of (with_entry log entry) number)
+  grown_front number =
+      ⊎_elim
+      (λ (less : number < FIRST_SIDE_SEGMENT).
+      ⊎_elim
+      (λ (none : number < 1). first_part_same (bytes_of log number) (bytes_of (with_entry log entry) number) (grown_zero number none))
+      (λ (some : 1 ≤ number).
+      subst (λ (b : List ℕ). IsFirstPart b (bytes_of (with_entry log entry) number)) (sym (bytes_main log number some less))
+      (subst (IsFirstPart (get_or (cut log.entries) (number - 1) [])) (sym (grown_main number some less)) (with_bytes_front (cut log.entries) (spelled entry) (number - 1))))
+      (cases_lt number 1))
+      (λ (side : FIRST_SIDE_SEGMENT ≤ number). first_part_same (bytes_of log number) (bytes_of (with_entry log entry) number) (grown_side number side))
+      (cases_lt number FIRST_SIDE_SEGMENT)
+
+  -- a main segment that has bytes is one of those that were cut
+  within_cut : (later : ℕ) → 1 ≤ later → later < FIRST_SIDE_SEGMENT → bytes_of log later ≢ [] → later - 1 < length (cut log.entries)
+  within_cut later some less filled =
+      ⊎_elim
+      (λ (within : later - 1 < length (cut log.entries)). within)
+      (λ (past : length (cut log.entries) ≤ later - 1). absurd (filled (bytes_main log later some less ∙ get_or_past (cut log.entries) (later - 1) [] past)))
+      (cases_lt (later - 1) (length (cut log.entries)))
+
+  grown_full : (earlier later : ℕ) → earlier < later → is_main earlier ≡ is_main later → bytes_of log later ≢ [] → bytes_of (with_entry log entry) earlier ≡ bytes_of log earlier
+  grown_full earlier later before sort filled =
+      ⊎_elim
+      (λ (less : earlier < FIRST_SIDE_SEGMENT).
+      ⊎_elim
+      (λ (none : earlier < 1). grown_zero earlier none)
+      (λ (some : 1 ≤ earlier).
+      let later_less : later < FIRST_SIDE_SEGMENT = ltb-true later FIRST_SIDE_SEGMENT (sym sort ∙ lt-ltb earlier FIRST_SIDE_SEGMENT less) in
+      let within : later - 1 < length (cut log.entries) = within_cut later (omega arith) later_less filled in
+      grown_main earlier some less
+      ∙ with_bytes_full (cut log.entries) (spelled entry) (earlier - 1) (omega arith)
+      ∙ sym (bytes_main log earlier some less))
+      (cases_lt earlier 1))
+      (λ (side : FIRST_SIDE_SEGMENT ≤ earlier). grown_side earlier side)
+      (cases_lt earlier FIRST_SIDE_SEGMENT)
+
+  -- one more entry
+  pub grows_entry : Grows log (with_entry log entry)
+  grows_entry = record { front = grown_front; full = grown_full }

@@ -1,0 +1,170 @@
+-- What counts for a range of a log that grew by one entry at its end.
+use Rattle.std.proofs.Common.{◌≡◌, ℕ, zero, suc, ◌+◌, ◌≤◌, ◌<◌, Bool, true, false, ◌&&◌, ◌||◌, cond, leb, ltb, List, [], ◌∷◌, ◌++◌, length}
+use Rattle.std.proofs.Common.{drop, fold, refl, sym, ap, ◌∙◌, ⊎_elim, arith, All, filter, flat_map, le-ltb, length-drop}
+use Rattle.rk_inv_base.proofs.Words.{cases_lt, cond-true, cond-false, drop-append-le, flat_map-append, filter-append, All-head, All-tail}
+use Rattle.rk_inv_base.proofs.Words.{Call, Held, Range, Entry, is_marked, unmarked, unmarked_from, touches, counts, counting, with_number}
+use Rattle.rk_inv_base.proofs.Words.{named, named_by, material_of, side_entries, log_material, joined_from, is_joined_in, has_key, Mark}
+use Rattle.rk_inv_base.proofs.Words.{segments_in, IsEntryOf}
+use Rattle.rk_entry.specs.declared.entry.Entry.TheVariants as entries
+
+pub append_nil : {X : Type 0} (xs : List X) → xs ++ [] ≡ xs
+append_nil {X} [] = refl
+append_nil {X} (x ∷ xs) = ap (λ (ys : List X). x ∷ ys) (append_nil xs)
+
+pub drop_all : {X : Type 0} (count : ℕ) (xs : List X) → length xs ≤ count → drop count xs ≡ []
+drop_all zero [] few = refl
+drop_all zero (x ∷ xs) few = absurd (omega (arith, few))
+drop_all (suc count) [] few = refl
+drop_all (suc count) (x ∷ xs) few = drop_all count xs (omega (arith, few))
+
+-- one entry, or none where it bears a mark
+abbrev pub unless_marked : Bool → Entry → List Entry
+unless_marked marked entry = cond marked [] (entry ∷ [])
+
+pub none_of : (a b c : Bool) → b ≡ false → c ≡ false → ((a && b) || c) ≡ false
+none_of a b c e f = ap (λ (x : Bool). (a && x) || c) e ∙ ap (λ (y : Bool). (a && false) || y) f ∙ none a
+  where
+    none : (a : Bool) → ((a && false) || false) ≡ false
+    none true = refl
+    none false = refl
+
+-- no mark reaches a place behind all of them
+pub marked_none : (marks : List Mark) (place : ℕ) → All (λ mark. mark.past ≤ place) marks → is_marked marks place ≡ false
+marked_none [] place within = refl
+marked_none (mark ∷ marks) place within =
+    none_of (leb mark.first place) (ltb place mark.past) (is_marked marks place)
+    (le-ltb place mark.past (All-head (λ m. m.past ≤ place) mark marks within))
+    (marked_none marks place (All-tail (λ m. m.past ≤ place) mark marks within))
+
+-- the entries that bear no mark, with one more behind them
+pub unmarked_last : (marks : List Mark) (place : ℕ) (list : List Entry) (entry : Entry) → unmarked marks place (list ++ entry ∷ []) ≡ unmarked marks place list ++ unless_marked (is_marked marks (place + length list)) entry
+unmarked_last marks place [] entry =
+    let e : place ≡ place + 0 = omega arith in ap (λ (n : ℕ). unless_marked (is_marked marks n) entry) e
+unmarked_last marks place (first ∷ list) entry =
+    let e : suc place + length list ≡ place + suc (length list) = omega arith in
+    let more = unmarked_last marks (suc place) list entry ∙ ap (λ (n : ℕ). unmarked marks (suc place) list ++ unless_marked (is_marked marks n) entry) e in
+    ap (λ (later : List Entry). cond (is_marked marks place) later (first ∷ later)) more
+    ∙ kept (is_marked marks place) (unmarked marks (suc place) list) (unless_marked (is_marked marks (place + suc (length list))) entry)
+  where
+    kept : (b : Bool) (xs ys : List Entry) → cond b (xs ++ ys) (first ∷ (xs ++ ys)) ≡ cond b xs (first ∷ xs) ++ ys
+    kept true xs ys = refl
+    kept false xs ys = refl
+
+-- the same from a place on, which is one of the list or its end
+pub unmarked_from_last : (marks : List Mark) (place : ℕ) (list : List Entry) (entry : Entry) → place ≤ length list → unmarked_from marks place (list ++ entry ∷ []) ≡ unmarked_from marks place list ++ unless_marked (is_marked marks (length list)) entry
+unmarked_from_last marks place list entry within =
+    let e : place + length (drop place list) ≡ length list = omega (arith, length-drop place list) in
+    ap (unmarked marks place) (drop-append-le place list (entry ∷ []) within)
+    ∙ unmarked_last marks place (drop place list) entry
+    ∙ ap (λ (n : ℕ). unmarked_from marks place list ++ unless_marked (is_marked marks n) entry) e
+
+-- and from a place behind the end nothing is there
+pub longer : (xs : List Entry) (x : Entry) (n : ℕ) → length xs < n → length (xs ++ x ∷ []) ≤ n
+longer [] x n l = omega (arith, l)
+longer (y ∷ xs) x zero l = absurd (omega (arith, l))
+longer (y ∷ xs) x (suc n) l = let r = longer xs x n (omega (arith, l)) in omega (arith, r)
+
+pub drop_none : (place : ℕ) (list : List Entry) (entry : Entry) → length list < place → drop place (list ++ entry ∷ []) ≡ drop place list
+drop_none place list entry beyond =
+    drop_all place (list ++ entry ∷ []) (longer list entry place beyond) ∙ sym (drop_all place list (omega (arith, beyond)))
+
+pub unmarked_from_none : (marks : List Mark) (place : ℕ) (list : List Entry) (entry : Entry) → length list < place → unmarked_from marks place (list ++ entry ∷ []) ≡ unmarked_from marks place list
+unmarked_from_none marks place list entry beyond = ap (unmarked marks place) (drop_none place list entry beyond)
+
+-- an entry that names no side segment lets the named ones be
+pub named_same : (range : Range) (entry : Entry) (list : List Entry) (marked : Bool) → named_by range entry ≡ [] → named range (list ++ unless_marked marked entry) ≡ named range list
+named_same range entry list true none = ap (named range) (append_nil list)
+named_same range entry list false none =
+    ap (λ (segments : List ℕ). fold with_number [] segments)
+    (flat_map-append (named_by range) list (entry ∷ [])
+    ∙ ap (λ (more : List ℕ). flat_map (named_by range) list ++ (more ++ [])) none
+    ∙ append_nil (flat_map (named_by range) list))
+
+-- an entry of another range does not count
+module _ (range : Range) (entry : Entry) (outside : counts range entry ≡ false) where
+  counting_same : (list : List Entry) (marked : Bool) → counting range (list ++ unless_marked marked entry) ≡ counting range list
+  counting_same list true = ap (counting range) (append_nil list)
+  counting_same list false =
+      filter-append (counts range) list (entry ∷ [])
+      ∙ ap (λ (more : List Entry). counting range list ++ more) (cond-false (counts range entry) (entry ∷ []) [] outside)
+      ∙ append_nil (counting range list)
+
+  pub material_outside : (marks : List Mark) (sides : List (List Held)) (place : ℕ) (list : List Entry) → named_by range entry ≡ [] → log_material range marks sides place (list ++ entry ∷ []) ≡ log_material range marks sides place list
+  material_outside marks sides place list none =
+      ⊎_elim
+      (λ (beyond : length list < place).
+      ap (material_of range (side_entries sides)) (unmarked_from_none marks place list entry beyond))
+      (λ (within : place ≤ length list).
+      ap (material_of range (side_entries sides)) (unmarked_from_last marks place list entry within)
+      ∙ (λ i.
+      counting_same (unmarked_from marks place list) (is_marked marks (length list)) i
+      ++ counting range (flat_map (side_entries sides) (named_same range entry (unmarked_from marks place list) (is_marked marks (length list)) none i))))
+      (cases_lt (length list) place)
+
+  pub rest_outside : (marks : List Mark) (place : ℕ) (list : List Entry) → counting range (unmarked_from marks place (list ++ entry ∷ [])) ≡ counting range (unmarked_from marks place list)
+  rest_outside marks place list =
+      ⊎_elim
+      (λ (beyond : length list < place). ap (counting range) (unmarked_from_none marks place list entry beyond))
+      (λ (within : place ≤ length list).
+      ap (counting range) (unmarked_from_last marks place list entry within)
+      ∙ counting_same (unmarked_from marks place list) (is_marked marks (length list)))
+      (cases_lt (length list) place)
+
+-- an entry of the range, behind all marks, comes last
+module _ (range : Range) (entry : Entry) (inside : counts range entry ≡ true) where
+  pub rest_inside : (marks : List Mark) (place : ℕ) (list : List Entry) → All (λ mark. mark.past ≤ length list) marks → place ≤ length list → counting range (unmarked_from marks place (list ++ entry ∷ [])) ≡ counting range (unmarked_from marks place list) ++ entry ∷ []
+  rest_inside marks place list free within =
+      ap (counting range)
+      (unmarked_from_last marks place list entry within
+      ∙ ap (λ (b : Bool). unmarked_from marks place list ++ unless_marked b entry) (marked_none marks (length list) free))
+      ∙ filter-append (counts range) (unmarked_from marks place list) (entry ∷ [])
+      ∙ ap (λ (more : List Entry). counting range (unmarked_from marks place list) ++ more)
+      (cond-true (counts range entry) (entry ∷ []) [] inside)
+
+-- one more entry that is no Joined of a range lets those of the range be
+pub joined_same : (range : Range) (place : ℕ) (list : List Entry) (entry : Entry) → is_joined_in range entry ≡ false → joined_from range place (list ++ entry ∷ []) ≡ joined_from range place list
+joined_same range place list entry other =
+    ⊎_elim
+    (λ (beyond : length list < place). ap (filter (is_joined_in range)) (drop_none place list entry beyond))
+    (λ (within : place ≤ length list).
+    ap (filter (is_joined_in range)) (drop-append-le place list (entry ∷ []) within)
+    ∙ filter-append (is_joined_in range) (drop place list) (entry ∷ [])
+    ∙ ap (λ (more : List Entry). joined_from range place list ++ more) (cond-false (is_joined_in range entry) (entry ∷ []) [] other)
+    ∙ append_nil (joined_from range place list))
+    (cases_lt (length list) place)
+
+-- ---- the entry of a call
+
+-- it counts for the ranges that have the call's key, and touches these alone
+pub counts_call : (range : Range) (call : Call) (entry : Entry) → IsEntryOf call entry → counts range entry ≡ has_key range call.table call.key
+counts_call range call (entries.Held held) own =
+    sym (ap (λ (table : ℕ). has_key range table call.key) own.table_is ∙ ap (has_key range held.table) own.key_is)
+counts_call range call (entries.Refused refused) own =
+    sym (ap (λ (table : ℕ). has_key range table call.key) own.table_is ∙ ap (has_key range refused.table) own.key_is)
+counts_call range call (entries.Carried carried) own = absurd own
+counts_call range call (entries.Joined joined) own = absurd own
+
+pub touches_call : (range : Range) (call : Call) (entry : Entry) → IsEntryOf call entry → touches range entry ≡ counts range entry
+touches_call range call (entries.Held held) own = refl
+touches_call range call (entries.Refused refused) own = refl
+touches_call range call (entries.Carried carried) own = absurd own
+touches_call range call (entries.Joined joined) own = absurd own
+
+-- it names no side segment, and is no Joined
+pub names_call : (range : Range) (call : Call) (entry : Entry) → IsEntryOf call entry → named_by range entry ≡ []
+names_call range call (entries.Held held) own = refl
+names_call range call (entries.Refused refused) own = refl
+names_call range call (entries.Carried carried) own = absurd own
+names_call range call (entries.Joined joined) own = absurd own
+
+pub segments_call : (call : Call) (entry : Entry) → IsEntryOf call entry → segments_in entry ≡ []
+segments_call call (entries.Held held) own = refl
+segments_call call (entries.Refused refused) own = refl
+segments_call call (entries.Carried carried) own = absurd own
+segments_call call (entries.Joined joined) own = absurd own
+
+pub joins_call : (range : Range) (call : Call) (entry : Entry) → IsEntryOf call entry → is_joined_in range entry ≡ false
+joins_call range call (entries.Held held) own = refl
+joins_call range call (entries.Refused refused) own = refl
+joins_call range call (entries.Carried carried) own = absurd own
+joins_call range call (entries.Joined joined) own = absurd own

@@ -1,0 +1,166 @@
+-- What a target has that pulls, once one more item was replayed; and what another master has of a row that the item is not of.
+use Rattle.std.proofs.Common.{◌≡◌, ℕ, zero, suc, ◌<◌, false, List, [], ◌∷◌, ◌++◌, length, Option, sym, ap, ◌∙◌, subst, ◌⊎◌, inl, inr}
+use Rattle.std.proofs.Common.{⊎_elim, arith, slice_index_or, slice_set, Contains, flat_map, length-set}
+use Rattle.rk_inv_base.proofs.Words.{false≢true, false_from_ne_true, Contains-append_cases, Contains-append_left, Contains-append_right}
+use Rattle.rk_inv_base.proofs.Words.{Contains-push, Contains-push_cases, list_any_at, list_any_none, Held, Range, Entry, is_in, with_newer}
+use Rattle.rk_inv_base.proofs.Words.{IsInScanOrder, Handover, Role, none_stands, Handed, with_pulled, Pulling, Written, IsBare, IsTarget}
+use Rattle.rk_inv_base.proofs.Words.{copied_items, is_joining, scan_items, IsTableOf}
+use Rattle.rk_transfer.specs.declared.role.Role.TheVariants as roles
+use Rattle.rk_inv_base.proofs.views.Lists.{all_by}
+use Rattle.rk_inv_base.proofs.calls.Records.{found_still, in_by_key, newer_cases, other_stays}
+
+-- ---- lists of items, where one of them has one more
+
+module _ (item : Held) where
+  -- the lists, with the item at the end of one
+  abbrev with_one : List (List Held) → ℕ → List (List Held)
+  with_one lists place = slice_set lists place (slice_index_or lists place [] ++ item ∷ [])
+
+  abbrev all_of : List (List Held) → List Held
+  all_of lists = flat_map (λ items. items) lists
+
+  one_cases : (lists : List (List Held)) (place : ℕ) (x : Held) → Contains (all_of (with_one lists place)) x → (item ≡ x) ⊎ Contains (all_of lists) x
+  one_cases [] place x stands = absurd (none_stands x stands)
+  one_cases (items ∷ lists) zero x stands =
+      ⊎_elim
+      (λ (here : Contains (items ++ item ∷ []) x).
+      ⊎_elim (λ (old : Contains items x). inr (Contains-append_left items (all_of lists) x old)) (λ (is : item ≡ x). inl is)
+      (Contains-push_cases items item x here))
+      (λ (there : Contains (all_of lists) x). inr (Contains-append_right items (all_of lists) x there))
+      (Contains-append_cases (items ++ item ∷ []) (all_of lists) x stands)
+  one_cases (items ∷ lists) (suc place) x stands =
+      ⊎_elim
+      (λ (here : Contains items x). inr (Contains-append_left items (all_of lists) x here))
+      (λ (there : Contains (all_of (with_one lists place)) x).
+      ⊎_elim (λ (is : item ≡ x). inl is) (λ (old : Contains (all_of lists) x). inr (Contains-append_right items (all_of lists) x old))
+      (one_cases lists place x there))
+      (Contains-append_cases items (all_of (with_one lists place)) x stands)
+
+  one_keeps : (lists : List (List Held)) (place : ℕ) (x : Held) → Contains (all_of lists) x → Contains (all_of (with_one lists place)) x
+  one_keeps [] place x stands = stands
+  one_keeps (items ∷ lists) zero x stands =
+      ⊎_elim
+      (λ (here : Contains items x).
+      Contains-append_left (items ++ item ∷ []) (all_of lists) x (Contains-append_left items (item ∷ []) x here))
+      (λ (there : Contains (all_of lists) x). Contains-append_right (items ++ item ∷ []) (all_of lists) x there)
+      (Contains-append_cases items (all_of lists) x stands)
+  one_keeps (items ∷ lists) (suc place) x stands =
+      ⊎_elim
+      (λ (here : Contains items x). Contains-append_left items (all_of (with_one lists place)) x here)
+      (λ (there : Contains (all_of lists) x). Contains-append_right items (all_of (with_one lists place)) x (one_keeps lists place x there))
+      (Contains-append_cases items (all_of lists) x stands)
+
+  one_stands : (lists : List (List Held)) (place : ℕ) → place < length lists → Contains (all_of (with_one lists place)) item
+  one_stands [] place within = absurd (omega (arith, within))
+  one_stands (items ∷ lists) zero within = Contains-append_left (items ++ item ∷ []) (all_of lists) item (Contains-push items item)
+  one_stands (items ∷ lists) (suc place) within =
+      Contains-append_right items (all_of (with_one lists place)) item (one_stands lists place (omega (arith, within)))
+
+-- what a target copied that pulls
+pub copied_are : (role : Role) (pulling : Pulling) (sides : List (List Held)) → role ≡ roles.Receiving → copied_items role pulling sides ≡ flat_map (λ items. items) pulling.sides
+copied_are role pulling sides is = ap (λ (r : Role). copied_items r pulling sides) is
+
+-- ---- targets
+
+module _ (range : Range) (source : ℕ) (truth material : List Entry) (from : ℕ) (written : Written) (handover : Handover) (handed : Option Handed) (records : List Held) (pulling : Pulling) (item : Held) (order : IsInScanOrder records) where
+  -- a target that pulls so, with these records
+  abbrev Targets : Pulling → List Held → Type 0
+  Targets p table = IsTarget range source truth material from written handover p handed table
+
+  -- a target goes on that replays an item of its source
+  pub target_replays : (worker : ℕ) → worker < 4 → handover.role ≡ roles.Receiving → Contains (scan_items truth) item → Targets pulling records → Targets (with_pulled pulling worker item) (with_newer item records)
+  target_replays worker few role_is of_source old =
+      let now : Pulling = with_pulled pulling worker item in
+      let was : copied_items handover.role pulling written.sides ≡ flat_map (λ items. items) pulling.sides =
+      copied_are handover.role pulling written.sides role_is in
+      let is : copied_items handover.role now written.sides ≡ flat_map (λ items. items) now.sides =
+      copied_are handover.role now written.sides role_is in
+      let keeps : (x : Held) → Contains (copied_items handover.role pulling written.sides) x
+      → Contains (copied_items handover.role now written.sides) x = λ x stands.
+      subst (λ (list : List Held). Contains list x) (sym is)
+      (one_keeps item pulling.sides worker x (subst (λ (list : List Held). Contains list x) was stands)) in
+      record {
+        from_source = old.from_source;
+        workers = length-set pulling.sides worker (slice_index_or pulling.sides worker [] ++ item ∷ []) ∙ old.workers;
+        pulled = λ joins. absurd (false≢true (sym (ap is_joining role_is) ∙ joins));
+        received = record {
+          within = λ x stands.
+              ⊎_elim (λ (same : item ≡ x). subst (Contains (scan_items truth)) same of_source)
+              (λ (before : Contains (flat_map (λ items. items) pulling.sides) x).
+              old.received.within x (subst (λ (list : List Held). Contains list x) (sym was) before))
+              (one_cases item pulling.sides worker x (subst (λ (list : List Held). Contains list x) is stands));
+          copied = λ x stands arrived.
+              ⊎_elim (λ copied. inl (keeps x copied)) (λ outdone. inr outdone) (old.received.copied x stands arrived);
+          come = λ x stands inside.
+              ⊎_elim
+              (λ (same : item ≡ x).
+              inr (subst (Contains (copied_items handover.role now written.sides)) same
+              (subst (λ (list : List Held). Contains list item) (sym is)
+              (one_stands item pulling.sides worker (omega (arith, few, old.workers))))))
+              (λ (before : Contains records x).
+              ⊎_elim (λ own. inl own) (λ copied. inr (keeps x copied)) (old.received.come x before inside))
+              (newer_cases item records x stands);
+          found = λ x come. found_still item records x order (old.received.found x come);
+        };
+        above = old.above;
+        told = old.told;
+        early = old.early;
+        closing = old.closing;
+      }
+
+  -- a target goes on where an item comes into its records that is not of its range
+  pub target_beside : is_in range item ≡ false → Targets pulling records → Targets pulling (with_newer item records)
+  target_beside outside old = record {
+    from_source = old.from_source;
+    workers = old.workers;
+    pulled = old.pulled;
+    received = record {
+      within = old.received.within;
+      copied = old.received.copied;
+      come = λ x stands inside.
+          ⊎_elim
+          (λ (same : item ≡ x). absurd (false≢true (sym outside ∙ ap (is_in range) same ∙ inside)))
+          (λ (before : Contains records x). old.received.come x before inside)
+          (newer_cases item records x stands);
+      found = λ x come. found_still item records x order (old.received.found x come);
+    };
+    above = old.above;
+    told = old.told;
+    early = old.early;
+    closing = old.closing;
+  }
+
+-- ---- what an item that is not of a range leaves of it
+
+module _ (range : Range) (item : Held) (records : List Held) (outside : is_in range item ≡ false) where
+  -- a master that made ready has still nothing of it
+  pub bare_beside : (from : ℕ) (written : Written) → IsBare range from written records → IsBare range from written (with_newer item records)
+  bare_beside from written bare = record {
+    placed = bare.placed;
+    nothing = bare.nothing;
+    empty =
+        list_any_none (is_in range) (with_newer item records)
+        (all_by (λ x. is_in range x ≡ false) (with_newer item records)
+        (λ x stands.
+        ⊎_elim
+        (λ (same : item ≡ x). ap (is_in range) (sym same) ∙ outside)
+        (λ (before : Contains records x).
+        false_from_ne_true (is_in range x)
+        (λ yes.
+        false≢true
+        (sym bare.empty ∙ list_any_at (is_in range) records before.0 x before.1 (ap (is_in range) before.2 ∙ yes))))
+        (newer_cases item records x stands)));
+  }
+
+  -- and a table has all of it still
+  pub table_beside : (material : List Entry) → IsTableOf range material records → IsTableOf range material (with_newer item records)
+  table_beside material old x inside = (
+    λ stands.
+        ⊎_elim
+        (λ (same : item ≡ x). absurd (false≢true (sym outside ∙ ap (is_in range) same ∙ inside)))
+        (λ (before : Contains records x). (old x inside).0 before)
+        (newer_cases item records x stands),
+    λ newest.
+        other_stays item records x ((old x inside).1 newest)
+        (false_from_ne_true _ (λ same. false≢true (sym outside ∙ sym (in_by_key range item x same) ∙ inside))),
+  )

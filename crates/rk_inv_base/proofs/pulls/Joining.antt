@@ -1,0 +1,174 @@
+-- What a target that joins is to its row, and how what it copied tells what its source has.
+use Rattle.std.proofs.Common.{◌≡◌, ℕ, ◌<◌, ◌⊎◌, Bool, true, false, cond, List, [], ◌∷◌, ◌++◌, filter, fold, Option, Some, None, refl, sym}
+use Rattle.std.proofs.Common.{ap, ◌∙◌, subst, ⊎_elim, inl, inr, arith, ◌==◌, is_some, Contains, flat_map, eq-eqb, eqb-true}
+use Rattle.rk_inv_base.proofs.Words.{cond_both, false≢true, flat_map-append, Contains-append_cases, Contains-append_left}
+use Rattle.rk_inv_base.proofs.Words.{Contains-append_right, Held, Member, is_among, Entry, with_item, is_before, lineage_of, Phase, Owned}
+use Rattle.rk_inv_base.proofs.Words.{Opening, Moving, Rebuilding, newest_is, newest_items_are, newest_items, items_in, items_of, is_member}
+use Rattle.rk_inv_base.proofs.Words.{with_number, Post, Owner, OpeningSource, MovingSource, MovingTarget, OnlyRebuilder, FirstRebuilder}
+use Rattle.rk_inv_base.proofs.Words.{LastRebuilder, OutsideRebuilder, FormerMember, Bystander, bond_of, post_of, rebuilder_post}
+use Rattle.rk_inv_base.proofs.Words.{target_post, Holds, scan_items, IsFormed}
+use Rattle.rk_transfer.specs.declared.role.Role.TheVariants as roles
+use Rattle.rk_tablet_map.specs.Phase.{member as member_at}
+use Rattle.rk_inv_base.proofs.rows.Apart.{contains_cases}
+
+-- a master is the second of two members of a lineage; where it is to rebuild the row, it keeps a smaller term
+pub record IsSecond (phase : Phase) (master term own : ℕ) : Type 0 where
+  pub source : Member
+  pub target : Member
+  pub lineage_is : lineage_of phase ≡ source ∷ target ∷ []
+  pub here : target.master ≡ master
+  pub apart : source.master ≡ master → ⊥
+  pub behind : (lineage : List Member) → phase ≡ Rebuilding lineage master → own < term
+
+-- two numbers differ where a test says so
+pub differ : (a b : ℕ) → (a == b) ≡ false → a ≡ b → ⊥
+differ a b other same = false≢true (sym other ∙ eq-eqb a b same)
+
+module _ (master term own applied : ℕ) where
+  -- a master with this post joins a tablet
+  abbrev Joins : Phase → Post → Type 0
+  Joins phase post = Holds (bond_of post (roles.Joining None)) term own applied → IsSecond phase master term own
+
+  of_target : (source sfrom target : ℕ) (dfrom : Option ℕ) → Joins (Opening source sfrom target dfrom) (target_post dfrom)
+  of_target source sfrom target None holds = absurd holds
+  of_target source sfrom target (Some place) holds = absurd holds
+
+  of_rebuilder : (lineage : List Member) (to : ℕ) → IsFormed (Rebuilding lineage to) → Joins (Rebuilding lineage to) (rebuilder_post lineage master)
+  of_rebuilder [] to formed = λ holds. absurd holds
+  of_rebuilder (only ∷ []) to formed =
+      cond_both (only.master == master) (OnlyRebuilder only.from) OutsideRebuilder (Joins (Rebuilding (only ∷ []) to))
+      (λ e holds. absurd holds) (λ e holds. absurd holds)
+  of_rebuilder (first ∷ last ∷ []) to formed =
+      cond_both (first.master == master) (FirstRebuilder first.from)
+      (cond (last.master == master) (LastRebuilder last.from) OutsideRebuilder) (Joins (Rebuilding (first ∷ last ∷ []) to))
+      (λ e holds. absurd holds)
+      (λ other.
+      cond_both (last.master == master) (LastRebuilder last.from) OutsideRebuilder (Joins (Rebuilding (first ∷ last ∷ []) to))
+      (λ e holds. record {
+        source = first;
+        target = last;
+        lineage_is = refl;
+        here = eqb-true last.master master e;
+        apart = differ first.master master other;
+        behind = λ lineage is. holds;
+      })
+      (λ e holds. absurd holds))
+  of_rebuilder (first ∷ second ∷ third ∷ more) to formed = absurd formed
+
+  -- it is the second of its row's two members
+  pub joining_second : (phase : Phase) → IsFormed phase → Joins phase (post_of phase master)
+  joining_second (Owned owner from) formed =
+      cond_both (owner == master) (Owner from) Bystander (Joins (Owned owner from)) (λ e holds. absurd holds) (λ e holds. absurd holds)
+  joining_second (Opening source sfrom target dfrom) formed =
+      cond_both (source == master) OpeningSource (cond (target == master) (target_post dfrom) Bystander)
+      (Joins (Opening source sfrom target dfrom)) (λ e holds. absurd holds)
+      (λ other.
+      cond_both (target == master) (target_post dfrom) Bystander (Joins (Opening source sfrom target dfrom))
+      (λ e. of_target source sfrom target dfrom) (λ e holds. absurd holds))
+  joining_second (Moving source sfrom target dfrom) formed =
+      cond_both (source == master) MovingSource (cond (target == master) (MovingTarget dfrom) Bystander)
+      (Joins (Moving source sfrom target dfrom)) (λ e holds. absurd holds)
+      (λ other.
+      cond_both (target == master) (MovingTarget dfrom) Bystander (Joins (Moving source sfrom target dfrom))
+      (λ e holds. record {
+        source = member_at source sfrom;
+        target = member_at target dfrom;
+        lineage_is = refl;
+        here = eqb-true target master e;
+        apart = differ source master other;
+        behind = λ lineage is. absurd (cc is);
+      })
+      (λ e holds. absurd holds))
+  joining_second (Rebuilding lineage to) formed =
+      cond_both (to == master) (rebuilder_post lineage master) (cond (is_member lineage master) FormerMember Bystander)
+      (Joins (Rebuilding lineage to)) (λ e. of_rebuilder lineage to formed)
+      (λ e.
+      cond_both (is_member lineage master) FormerMember Bystander (Joins (Rebuilding lineage to)) (λ f holds. absurd holds)
+      (λ f holds. absurd holds))
+
+-- ---- what is among some
+
+-- what is kept of a list stands there, and passes the test
+pub kept_stands : {X : Type 0} (p : X → Bool) (xs : List X) (x : X) → Contains (filter p xs) x → Contains xs x × (p x ≡ true)
+kept_stands p [] x = λ at. absurd (omega (arith, at.1))
+kept_stands {X} p (y ∷ xs) x =
+    cond_both (p y) (y ∷ filter p xs) (filter p xs) (λ kept. Contains kept x → Contains (y ∷ xs) x × (p x ≡ true))
+    (λ passes at.
+    ⊎_elim (λ (same : y ≡ x). ((0, omega arith, same), ap p (sym same) ∙ passes))
+    (λ (later : Contains (filter p xs) x). behind (kept_stands p xs x later))
+    (contains_cases y (filter p xs) x at))
+    (λ fails at. behind (kept_stands p xs x at))
+  where
+    behind : Contains xs x × (p x ≡ true) → Contains (y ∷ xs) x × (p x ≡ true)
+    behind there = (Contains-append_right (y ∷ []) xs x there.0, there.1)
+
+-- and what stands there and passes is kept
+pub stands_kept : {X : Type 0} (p : X → Bool) (xs : List X) (x : X) → Contains xs x → p x ≡ true → Contains (filter p xs) x
+stands_kept p [] x at passes = absurd (omega (arith, at.1))
+stands_kept {X} p (y ∷ xs) x at passes =
+    cond_both (p y) (y ∷ filter p xs) (filter p xs) (λ kept. Contains kept x)
+    (λ e.
+    ⊎_elim (λ (same : y ≡ x). (0, omega arith, same))
+    (λ (later : Contains xs x). Contains-append_right (y ∷ []) (filter p xs) x (stands_kept p xs x later passes))
+    (contains_cases y xs x at))
+    (λ e.
+    ⊎_elim (λ (same : y ≡ x). absurd (false≢true (sym e ∙ ap p same ∙ passes)))
+    (λ (later : Contains xs x). stands_kept p xs x later passes)
+    (contains_cases y xs x at))
+
+-- an item among some to which others were put is one of either
+pub put_cases : (some others : List Held) (item : Held) → Contains (fold (λ items new. with_item new items) some others) item → Contains some item ⊎ Contains others item
+put_cases some [] item at = inl at
+put_cases some (new ∷ others) item at =
+    ⊎_elim
+    (λ (one : Contains (with_item new some) item).
+    ⊎_elim (λ (before : Contains (filter (λ other. is_before other new) some) item). inl (kept_stands (λ other. is_before other new) some item before).0)
+    (λ (rest : Contains (new ∷ filter (λ other. is_before new other) some) item).
+    ⊎_elim (λ (same : new ≡ item). inr (0, omega arith, same))
+    (λ (behind : Contains (filter (λ other. is_before new other) some) item). inl (kept_stands (λ other. is_before new other) some item behind).0)
+    (contains_cases new (filter (λ other. is_before new other) some) item rest))
+    (Contains-append_cases (filter (λ other. is_before other new) some) (new ∷ filter (λ other. is_before new other) some) item one))
+    (λ (later : Contains others item). inr (Contains-append_right (new ∷ []) others item later))
+    (put_cases (with_item new some) others item at)
+
+-- the items that entries leave are items of them
+pub scanned : (list : List Entry) (item : Held) → Contains (scan_items list) item → Contains (items_of list) item
+scanned list item at =
+    let newest : List Held = newest_items (items_of list) in
+    let kept : Contains newest item =
+    ⊎_elim (λ (none : Contains [] item). absurd (omega (arith, none.1)))
+    (λ (there : Contains (filter (λ item. is_some item.value) newest) item). (kept_stands (λ item. is_some item.value) newest item there).0)
+    (put_cases [] (filter (λ item. is_some item.value) newest) item at) in
+    (newest_is (items_of list) item.table item.key item (((newest_items_are (items_of list)).newest item).0 kept)).stands
+
+-- ---- side segments
+
+module _ (sides : ℕ → List Entry) where
+  -- the items of side segments
+  abbrev pub items_at : List ℕ → List Held
+  items_at numbers = items_of (flat_map sides numbers)
+
+  parts : (a b : List ℕ) → items_at (a ++ b) ≡ items_at a ++ items_at b
+  parts a b = ap items_of (flat_map-append sides a b) ∙ flat_map-append items_in (flat_map sides a) (flat_map sides b)
+
+  -- an item of numbers to which others were added is one of either
+  pub numbered : (some others : List ℕ) (item : Held) → Contains (items_at (fold with_number some others)) item → Contains (items_at some) item ⊎ Contains (items_at others) item
+  numbered some [] item at = inl at
+  numbered some (number ∷ others) item at =
+      ⊎_elim
+      (λ (one : Contains (items_at (with_number some number)) item).
+      cond_both (is_among number some) some (some ++ number ∷ [])
+      (λ next. Contains (items_at next) item → Contains (items_at some) item ⊎ Contains (items_at (number ∷ others)) item)
+      (λ e there. inl there)
+      (λ e there.
+      ⊎_elim (λ (before : Contains (items_at some) item). inl before)
+      (λ (new : Contains (items_at (number ∷ [])) item).
+      inr (subst (λ (all : List Held). Contains all item) (sym (parts (number ∷ []) others))
+      (Contains-append_left (items_at (number ∷ [])) (items_at others) item new)))
+      (Contains-append_cases (items_at some) (items_at (number ∷ [])) item
+      (subst (λ (all : List Held). Contains all item) (parts some (number ∷ [])) there)))
+      one)
+      (λ (later : Contains (items_at others) item).
+      inr (subst (λ (all : List Held). Contains all item) (sym (parts (number ∷ []) others))
+      (Contains-append_right (items_at (number ∷ [])) (items_at others) item later)))
+      (numbered (with_number some number) others item at)

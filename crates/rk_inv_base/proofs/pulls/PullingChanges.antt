@@ -1,0 +1,119 @@
+-- A view stays sound when what is pulled of a tablet goes on: no more of the source's items count as arrived than have arrived. The
+-- token, the count of batches and the hashes may change; the items that were pulled stay.
+use Rattle.std.proofs.Common.{◌≡◌, ℕ, true, List, [], ◌∷◌, sym, ap, ◌∙◌, subst, refl, ⊎_elim, ◌⊎◌, inl, inr, slice_index_or, Contains}
+use Rattle.rk_inv_base.proofs.Words.{Contains-get_or, get, Token, Member, passed, lineage_of, Row, Hashes, contains, Pulling, GoesOn}
+use Rattle.rk_inv_base.proofs.Words.{IsPulling, source_items, MembersFit, View, ReceivesOf, SoundView}
+use Rattle.rk_table.specs.Order.{item_hash}
+use Rattle.rk_sound.specs.Moves.{MayGoOn}
+use Rattle.rk_sound.specs.Small.{gone_on, pulled}
+use Rattle.rk_inv_base.proofs.rows.Apart.{same_number}
+use Rattle.rk_inv_base.proofs.views.Put.{put2_by}
+use Rattle.rk_inv_base.proofs.calls.Receives.{IsTargetIn}
+
+module _ (v : View) (token : Pulling → Token) (batches : Pulling → ℕ) (hashes : Pulling → Hashes) (row : Row) (source target : Member) where
+  -- what was pulled, and what is pulled now
+  abbrev old : Pulling
+  old = v.pullings target.master row.tablet
+
+  abbrev new : Pulling
+  new = gone_on token batches hashes old
+
+  abbrev IsTargetWith : Pulling → Type 0
+  IsTargetWith pulling =
+      IsTargetIn v.written row source target (v.handovers target.master row.tablet) pulling (get v.handed row.tablet)
+      (v.records target.master)
+
+  -- a target goes on
+  target_goes_on : GoesOn v row source target new → IsTargetWith old → IsTargetWith new
+  target_goes_on goes was = record {
+    from_source = was.from_source;
+    workers = was.workers;
+    pulled = λ joins. let had = was.pulled joins in record { at_end = goes.at_end joins had; sealed = had.sealed };
+    received = record {
+      within = was.received.within;
+      copied = λ item stands arrived.
+          ⊎_elim (λ before. was.received.copied item stands before) (λ there. there.copied) (goes.arrived item stands arrived);
+      come = was.received.come;
+      found = λ item come.
+          ⊎_elim (λ own. was.received.found item (inl own))
+          (λ of_source.
+          ⊎_elim (λ before. was.received.found item (inr (of_source.0, before))) (λ there. there.found)
+          (goes.arrived item of_source.0 of_source.1))
+          come;
+    };
+    above = was.above;
+    told = was.told;
+    early = was.early;
+    closing = was.closing;
+  }
+
+module _ (v : View) (master number : ℕ) (token : Pulling → Token) (batches : Pulling → ℕ) (hashes : Pulling → Hashes) (sound : SoundView v) (may : MayGoOn v master number (gone_on token batches hashes)) where
+  abbrev change : Pulling → Pulling
+  change = gone_on token batches hashes
+
+  abbrev now : View
+  now = pulled v master number change
+
+  members : (row : Row) → Contains v.rows row → (lineage : List Member) → lineage_of row.phase ≡ lineage → MembersFit row v.written v.handovers v.pullings v.records v.handed lineage → MembersFit row v.written v.handovers now.pullings v.records v.handed lineage
+  members row has [] is fit = tt
+  members row has (only ∷ []) is fit = tt
+  members row has (source ∷ target ∷ []) is fit = λ granted.
+      put2_by v.pullings master number change (IsTargetWith v token batches hashes row source target) target.master row.tablet
+      (λ at its.
+      target_goes_on v token batches hashes row source target (may row source target has at its is) (fit granted))
+      (λ apart. fit granted)
+  members row has (source ∷ target ∷ third ∷ more) is fit = tt
+
+  receives : ReceivesOf now
+  receives = record {
+    targets = λ k d within.
+        let row : Row = slice_index_or v.rows k d in
+        members row (Contains-get_or v.rows k d within) (lineage_of row.phase) refl (sound.receives.targets k d within);
+    handed_on = sound.receives.handed_on;
+    bare = sound.receives.bare;
+    named = sound.receives.named;
+  }
+
+  pub view_goes_on : SoundView now
+  view_goes_on = record {
+    nodes = sound.nodes;
+    rows = sound.rows;
+    terms = sound.terms;
+    cover = sound.cover;
+    roles = sound.roles;
+    logs = sound.logs;
+    truth = sound.truth;
+    order = sound.order;
+    calls = sound.calls;
+    counters = sound.counters;
+    rest = sound.rest;
+    records = sound.records;
+    receives = receives;
+    rebuilds = sound.rebuilds;
+    messages = sound.messages;
+    asked = sound.asked;
+  }
+
+-- where neither the token changes nor what was resolved, no more counts as arrived
+pub none_arrives : (v : View) (master number : ℕ) (batches : Pulling → ℕ) (hashes : Pulling → Hashes) → ((p : Pulling) → (hashes p).resolved ≡ p.hashes.resolved) → MayGoOn v master number (gone_on (λ p. p.token) batches hashes)
+none_arrives v master number batches hashes same row source target has at its is =
+    let old = v.pullings target.master row.tablet in
+    record {
+      at_end = λ joins had. had.at_end;
+      arrived = λ item stands arrives.
+          inl (λ receives.
+          subst
+          (λ (resolved : List ℕ). Contains (passed old.token (source_items v row source)) item ⊎ (contains resolved (item_hash item) ≡ true))
+          (same old) (arrives receives));
+    }
+
+-- a change that goes on for one row goes on for each, since no other row has the number
+pub of_one_row : (v : View) (row : Row) (source target : Member) (change : Pulling → Pulling) → SoundView v → IsPulling v row source target → GoesOn v row source target (change (v.pullings target.master row.tablet)) → MayGoOn v target.master row.tablet change
+of_one_row v row source target change sound pulls goes other first last has at its is =
+    let same : other ≡ row = same_number v.rows other row sound.rows.apart has pulls.has_row its in
+    let members : source ∷ target ∷ [] ≡ first ∷ last ∷ [] = sym pulls.lineage_is ∙ ap (λ (r : Row). lineage_of r.phase) (sym same) ∙ is in
+    let source_is : source ≡ first = cc in
+    let target_is : target ≡ last = cc in
+    subst (λ (r : Row). GoesOn v r first last (change (v.pullings last.master r.tablet))) (sym same)
+    (subst (λ (m : Member). GoesOn v row m last (change (v.pullings last.master row.tablet))) source_is
+    (subst (λ (m : Member). GoesOn v row source m (change (v.pullings m.master row.tablet))) target_is goes))

@@ -1,0 +1,22 @@
+-- A view stays sound when a target passes on to a token, where all items that the token has passed have arrived.
+use Rattle.std.proofs.Common.{ap, sym, subst, ◌∙◌, ⊎_elim, inl, inr, ◌+◌}
+use Rattle.rk_inv_base.proofs.Words.{false≢true, Token, Member, Row, is_receiving, World, GoesOn, is_joining, View, view, IsSound}
+use Rattle.rk_inv_base.proofs.Words.{SoundView}
+use Rattle.rk_sound.specs.Moves.{MayPass}
+use Rattle.rk_sound.specs.Small.{passing, token_passed_in}
+use Rattle.rk_inv_base.proofs.views.Views.{view_pulled}
+use Rattle.rk_inv_base.proofs.pulls.PullingChanges.{of_one_row, view_goes_on}
+
+pub goes_on : (v : View) (row : Row) (source target : Member) (next : Token) → MayPass v row source target next → GoesOn v row source target (passing next (v.pullings target.master row.tablet))
+goes_on v row source target next may = record {
+  at_end = λ joins had. absurd (false≢true (sym (ap is_joining may.pulling.receiving) ∙ joins));
+  arrived = λ item stands arrives.
+      ⊎_elim (λ passed. inr (may.arrived item passed)) (λ resolved. inl (λ receives. inr resolved))
+      (arrives (ap is_receiving may.pulling.receiving));
+}
+
+pub sound_passed : (w : World) (row : Row) (source target : Member) (next : Token) → IsSound w → MayPass (view w) row source target next → IsSound (token_passed_in w target.master row.tablet next)
+sound_passed w row source target next sound may =
+    subst SoundView (sym (view_pulled w target.master row.tablet (passing next ((view w).pullings target.master row.tablet))))
+    (view_goes_on (view w) target.master row.tablet (λ p. next) (λ p. p.batches + 1) (λ p. p.hashes) sound
+    (of_one_row (view w) row source target (passing next) sound may.pulling (goes_on (view w) row source target next may)))

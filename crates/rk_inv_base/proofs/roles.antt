@@ -1,0 +1,9 @@
+pub mod Roles
+pub mod Freezing
+pub mod Steady
+pub mod RoleTaken
+pub mod Closed
+pub mod Frozen
+pub mod ItemsDropped
+pub mod Released
+pub mod Owned

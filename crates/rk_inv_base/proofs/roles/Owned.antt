@@ -1,0 +1,171 @@
+-- A lane stays sound when the owner of a row, or one that owned it at the term that it keeps, serves once its closing entry is applied.
+use Rattle.std.proofs.Common.{◌≡◌, ℕ, true, false, List, [], ◌∷◌, Some, refl, sym, ap, ◌∙◌, subst, inl, arith, slice_index_or, lt-ltb}
+use Rattle.rk_inv_base.proofs.Words.{false≢true, All-contains, get, Member, Handover, Role, lineage_of, Row, no_gather, is_absent, Pulling}
+use Rattle.rk_inv_base.proofs.Words.{pulling_from, without_merged, World, tablet_in, is_wanting, IsOwner, MayTakeRole, Post, Owner}
+use Rattle.rk_inv_base.proofs.Words.{OpeningSource, OnlyRebuilder, post_of, bond_of, Holds, speaks, StillCounts, MembersFit, is_granted}
+use Rattle.rk_inv_base.proofs.Words.{RoleFits, put2, role_taken, HandoverFits, View, view, IsSound, ReceivesOf, SoundView}
+use Rattle.rk_transfer.specs.declared.role.Role.TheVariants as roles
+use Rattle.rk_sound.specs.Moves.{IsClosed, MayOwn}
+use Rattle.rk_sound.specs.Small.{as_serving, pulled, tablet_owned_in}
+use Rattle.rk_inv_base.proofs.views.Put.{put2_by, put2_here, put2_same}
+use Rattle.rk_inv_base.proofs.calls.Receives.{IsTargetIn}
+use Rattle.rk_inv_base.proofs.roles.RoleTaken.{view_role_taken}
+use Rattle.rk_inv_base.proofs.views.Views.{view_kept}
+
+-- ---- roles whose closing entry is applied
+
+pub closed_present : (role : Role) (applied : ℕ) → IsClosed role applied → is_absent role ≡ false
+closed_present (roles.Joining (Some entry)) applied closed = refl
+closed_present (roles.Rebuilding from (Some entry)) applied closed = refl
+closed_present _ applied closed = absurd closed
+
+pub closed_wants : (role : Role) (applied : ℕ) → IsClosed role applied → is_wanting role ≡ false
+closed_wants (roles.Joining (Some entry)) applied closed = refl
+closed_wants (roles.Rebuilding from (Some entry)) applied closed = refl
+closed_wants _ applied closed = absurd closed
+
+-- ---- posts of those who own a tablet, or owned it
+
+-- such a post takes a role that serves at the terms at which it takes a closed one
+pub fits_serving : (post : Post) (role : Role) (term own applied : ℕ) → IsOwner post own term → IsClosed role applied → Holds (bond_of post role) term own applied → Holds (bond_of post roles.Serving) term own applied
+fits_serving (Owner place) (roles.Joining (Some entry)) term own applied owner closed holds = holds.0
+fits_serving (Owner place) (roles.Rebuilding from (Some entry)) term own applied owner closed holds = holds.0
+fits_serving (Owner place) _ term own applied owner closed holds = absurd closed
+fits_serving OpeningSource (roles.Joining (Some entry)) term own applied owner closed holds = holds.0
+fits_serving OpeningSource (roles.Rebuilding from (Some entry)) term own applied owner closed holds = holds.0
+fits_serving OpeningSource _ term own applied owner closed holds = absurd closed
+fits_serving (OnlyRebuilder place) role term own applied owner closed holds = owner
+fits_serving _ role term own applied owner closed holds = absurd owner
+
+-- what has a closed role speaks for such a post already
+pub speaks_closed : (post : Post) (role : Role) (old : Handover) (term applied : ℕ) → old.role ≡ role → IsOwner post old.term term → IsClosed role applied → speaks post old term ≡ true
+speaks_closed (Owner place) role old term applied is owner closed = refl
+speaks_closed OpeningSource role old term applied is owner closed = refl
+speaks_closed (OnlyRebuilder place) (roles.Joining (Some entry)) old term applied is owner closed =
+    ap (λ (role : Role). speaks (OnlyRebuilder place) (record old { role = role }) term) is
+speaks_closed (OnlyRebuilder place) (roles.Rebuilding from (Some entry)) old term applied is owner closed =
+    ap (λ (role : Role). speaks (OnlyRebuilder place) (record old { role = role }) term) is ∙ lt-ltb old.term term owner
+speaks_closed (OnlyRebuilder place) _ old term applied is owner closed = absurd closed
+speaks_closed _ role old term applied is owner closed = absurd owner
+
+-- ---- the role
+
+module _ (v : View) (row : Row) (master : ℕ) (sound : SoundView v) (may : MayOwn v row master) where
+  abbrev old : Handover
+  old = v.handovers master row.tablet
+
+  abbrev applied : ℕ
+  applied = (v.written master).applied
+
+  fitted : RoleFits row master old applied
+  fitted =
+      All-contains
+      (λ (r : Row). StillCounts (v.live master) (v.handovers master r.tablet).term r.term
+      → RoleFits r master (v.handovers master r.tablet) applied) v.rows row (sound.roles.fitting master) may.has_row (inl may.lives)
+
+  within : HandoverFits row row.tablet old
+  within = All-contains (λ (r : Row). HandoverFits r row.tablet old) v.rows row (sound.terms.kept master row.tablet) may.has_row
+
+  pub serves : MayTakeRole v row master (as_serving old)
+  serves = record {
+    lives = may.lives;
+    has_row = may.has_row;
+    range_is = refl;
+    counter_is = refl;
+    grows = omega arith;
+    within = within.within refl;
+    term_is = inl refl;
+    steady = refl;
+    present = λ there. closed_present old.role applied may.closed;
+    waited = closed_wants old.role applied may.closed;
+    given_up = λ frozen. absurd (subst (λ (role : Role). IsClosed role applied) frozen may.closed);
+    fits = fits_serving (post_of row.phase master) old.role row.term old.term applied may.owner may.closed fitted;
+    speaks = λ says. speaks_closed (post_of row.phase master) old.role old row.term applied refl may.owner may.closed;
+    settled = λ idles. absurd (cc idles);
+  }
+
+-- ---- what was pulled
+
+-- a view stays sound when what is pulled of a tablet changes at a master that was not granted it
+module _ (v : View) (master number : ℕ) (pulling : Pulling) (sound : SoundView v) (ungranted : is_granted (v.handovers master number).role ≡ false) where
+  abbrev now : View
+  now = pulled v master number (λ old. pulling)
+
+  members : (row : Row) (lineage : List Member) → MembersFit row v.written v.handovers v.pullings v.records v.handed lineage → MembersFit row v.written v.handovers now.pullings v.records v.handed lineage
+  members row [] fit = tt
+  members row (only ∷ []) fit = tt
+  members row (source ∷ target ∷ []) fit = λ granted.
+      put2_by v.pullings master number (λ old. pulling)
+      (λ p.
+      IsTargetIn v.written row source target (v.handovers target.master row.tablet) p (get v.handed row.tablet)
+      (v.records target.master))
+      target.master row.tablet
+      (λ at its.
+      let not_here : is_granted (v.handovers target.master row.tablet).role ≡ false =
+      (λ i. is_granted (v.handovers (at i) (its i)).role) ∙ ungranted in
+      absurd (false≢true (sym not_here ∙ granted)))
+      (λ apart. fit granted)
+  members row (source ∷ target ∷ third ∷ more) fit = tt
+
+  receives : ReceivesOf now
+  receives = record {
+    targets = λ k d inside.
+        let row : Row = slice_index_or v.rows k d in
+        members row (lineage_of row.phase) (sound.receives.targets k d inside);
+    handed_on = sound.receives.handed_on;
+    bare = sound.receives.bare;
+    named = sound.receives.named;
+  }
+
+  pub view_forgets_pulled : SoundView now
+  view_forgets_pulled = record {
+    nodes = sound.nodes;
+    rows = sound.rows;
+    terms = sound.terms;
+    cover = sound.cover;
+    roles = sound.roles;
+    logs = sound.logs;
+    truth = sound.truth;
+    order = sound.order;
+    calls = sound.calls;
+    counters = sound.counters;
+    rest = sound.rest;
+    records = sound.records;
+    receives = receives;
+    rebuilds = sound.rebuilds;
+    messages = sound.messages;
+    asked = sound.asked;
+  }
+
+-- ---- the world
+
+-- a view where a tablet serves, and nothing of it is pulled, gathered or merged
+abbrev pub owned_view : View → ℕ → ℕ → View
+owned_view v master number =
+    pulled (role_taken v master number (as_serving (v.handovers master number)) no_gather []) master number (λ old. pulling_from 0)
+
+pub view_owned : (w : World) (master number : ℕ) → view (tablet_owned_in w master number) ≡ owned_view (view w) master number
+view_owned w master number =
+    view_kept w master number
+    (record (without_merged (tablet_in w master number)) {
+      handover = as_serving (tablet_in w master number).handover;
+      pulling = pulling_from 0;
+    })
+    ∙ (λ i. record (view w) {
+      handovers = put2 (view w).handovers master number (as_serving ((view w).handovers master number));
+      completions = put2_same (view w).completions master number i;
+      pullings = put2 (view w).pullings master number (pulling_from 0);
+      gathers = put2 (view w).gathers master number no_gather;
+      merged = put2 (view w).merged master number [];
+    })
+
+pub view_serves : (v : View) (row : Row) (master : ℕ) → SoundView v → MayOwn v row master → SoundView (owned_view v master row.tablet)
+view_serves v row master sound may =
+    let new : Handover = as_serving (v.handovers master row.tablet) in
+    view_forgets_pulled (role_taken v master row.tablet new no_gather []) master row.tablet (pulling_from 0)
+    (view_role_taken v row master new no_gather [] sound (serves v row master sound may))
+    (ap (λ (h : Handover). is_granted h.role) (put2_here v.handovers master row.tablet new master row.tablet refl refl))
+
+pub sound_owned : (w : World) (row : Row) (master : ℕ) → IsSound w → MayOwn (view w) row master → IsSound (tablet_owned_in w master row.tablet)
+sound_owned w row master sound may =
+    subst SoundView (sym (view_owned w master row.tablet)) (view_serves (view w) row master sound may)

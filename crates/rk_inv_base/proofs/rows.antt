@@ -1,0 +1,17 @@
+pub mod Apart
+pub mod Speakers
+pub mod Rows
+pub mod Serving
+pub mod TurnedRows
+pub mod OpensOn
+pub mod BeforeTurn
+pub mod RowSays
+pub mod RowTurned
+pub mod PlaceNoted
+pub mod MigrationBegun
+pub mod LeftMasters
+pub mod NoticedPosts
+pub mod CrashNoticed
+pub mod AddedRows
+pub mod AddedSays
+pub mod RowAdded

@@ -1,0 +1,95 @@
+-- A view stays sound when the place of a target is noted, where that waits at it at the row's term.
+use Rattle.std.proofs.Common.{◌≡◌, ℕ, Bool, true, false, cond, eqb, List, Some, None, refl, sym, ap, subst, ◌∙◌, inr, All, eqb-true}
+use Rattle.rk_inv_base.proofs.Words.{All-contains, Handover, Role, lineage_of, Phase, Opening, Row, names, IsMaster, World, MayTakePost}
+use Rattle.rk_inv_base.proofs.Words.{MayTurn, Post, InvitedTarget, ReadyTarget, OpeningSource, Bystander, post_of, bond_of, Holds}
+use Rattle.rk_inv_base.proofs.Words.{StillCounts, RoleFits, IsFormed, View, view, IsSound, SoundView}
+use Rattle.rk_transfer.specs.declared.role.Role.TheVariants as roles
+use Rattle.rk_sound.specs.Moves.{MayNote}
+use Rattle.rk_sound.specs.Small.{place_noted_in}
+use Rattle.rk_inv_base.proofs.rows.BeforeTurn.{IsEarly, none_closes, none_marked, none_rebuilds}
+use Rattle.rk_inv_base.proofs.rows.RowTurned.{rows_turned, view_turned}
+
+-- what a master has fits its post as before, where that is the same
+pub same_post : (post : Post) (term : ℕ) (handover : Handover) (applied : ℕ) → Holds (bond_of post handover.role) term handover.term applied → MayTakePost post post term term handover applied
+same_post post term handover applied fits = record { fits = fits; speaks = λ says. says; full = λ full. full; owns = λ owns. owns }
+
+-- a target that waits at its place, at the row's term, is ready
+pub ready_post : (place term : ℕ) (handover : Handover) (applied : ℕ) → handover.role ≡ roles.Wanting place → handover.term ≡ term → MayTakePost InvitedTarget (ReadyTarget place) term term handover applied
+ready_post place term handover applied waits at = record {
+  fits = subst (λ (role : Role). Holds (bond_of (ReadyTarget place) role) term handover.term applied) (sym waits) (at, refl);
+  speaks = λ says. says;
+  full = λ full. full;
+  owns = λ owns. owns;
+}
+
+module _ (v : View) (row : Row) (source sfrom target place : ℕ) (sound : SoundView v) (may : MayNote v row source sfrom target place) where
+  abbrev opened : Phase
+  opened = Opening source sfrom target None
+
+  abbrev noted : Phase
+  noted = Opening source sfrom target (Some place)
+
+  abbrev TakesPost : ℕ → Post → Post → Type 0
+  TakesPost q was is = MayTakePost was is row.term row.term (v.handovers q row.tablet) (v.written q).applied
+
+  -- what a master has fits a post of the row, as it is
+  abbrev FitsPost : ℕ → Post → Type 0
+  FitsPost q post = Holds (bond_of post (v.handovers q row.tablet).role) row.term (v.handovers q row.tablet).term (v.written q).applied
+
+  -- what is known of the row
+  in_row : (P : Row → Type 0) → All P v.rows → P row
+  in_row P all = All-contains P v.rows row all may.has_row
+
+  named : (q : ℕ) → names noted q ≡ true → IsMaster v.masters q
+  named q there =
+      in_row (λ r. names r.phase q ≡ true → IsMaster v.masters q) (sound.nodes.named q)
+      (ap (λ (phase : Phase). names phase q) may.phase_is ∙ there)
+
+  -- only the post of the target is another one
+  posts_by : (q : ℕ) (a b : Bool) → eqb target q ≡ b
+      → FitsPost q (cond a OpeningSource (cond b InvitedTarget Bystander))
+      → TakesPost q (cond a OpeningSource (cond b InvitedTarget Bystander)) (cond a OpeningSource (cond b (ReadyTarget place) Bystander))
+  posts_by q true b is fits = same_post OpeningSource row.term (v.handovers q row.tablet) (v.written q).applied fits
+  posts_by q false true is fits =
+      let its = sym (eqb-true target q is) in
+      ready_post place row.term (v.handovers q row.tablet) (v.written q).applied
+      (ap (λ (n : ℕ). (v.handovers n row.tablet).role) its ∙ may.waiting.role_is)
+      (ap (λ (n : ℕ). (v.handovers n row.tablet).term) its ∙ may.waiting.term_is)
+  posts_by q false false is fits = same_post Bystander row.term (v.handovers q row.tablet) (v.written q).applied fits
+
+  posts : (q : ℕ) → StillCounts (v.live q) (v.handovers q row.tablet).term row.term → TakesPost q (post_of row.phase q) (post_of noted q)
+  posts q counting =
+      let fits : FitsPost q (post_of row.phase q) =
+      in_row (λ r. StillCounts (v.live q) (v.handovers q r.tablet).term r.term → RoleFits r q (v.handovers q r.tablet) (v.written q).applied)
+      (sound.roles.fitting q) counting in
+      subst (λ (phase : Phase). TakesPost q (post_of phase q) (post_of noted q)) (sym may.phase_is)
+      (posts_by q (eqb source q) (eqb target q) refl (subst (λ (phase : Phase). FitsPost q (post_of phase q)) may.phase_is fits))
+
+  early : IsEarly row.phase
+  early = subst IsEarly (sym may.phase_is) tt
+
+  pub may_be_noted : MayTurn v row row.term noted
+  may_be_noted = record {
+    has_row = may.has_row;
+    lineage_is = sym (ap lineage_of may.phase_is);
+    term_is = inr (
+      refl,
+      record { source = source; from = sfrom; target = target; noted = None; place = place; was = may.phase_is; is = refl },
+    );
+    formed = subst IsFormed may.phase_is (in_row (λ r. IsFormed r.phase) sound.rows.formed);
+    named = named;
+    at_term = may.waiting.term_is;
+    posts = posts;
+    closes = none_closes v row row.term noted sound may.has_row early;
+    unmoved = refl;
+    given_up = none_rebuilds v row row.term noted sound may.has_row early;
+    rebuilt = tt;
+    marks = none_marked v row row.term noted sound may.has_row early;
+  }
+
+pub sound_noted : (w : World) (row : Row) (source sfrom target place : ℕ) → IsSound w → MayNote (view w) row source sfrom target place → IsSound (place_noted_in w row source sfrom target place)
+sound_noted w row source sfrom target place sound may =
+    let turns = may_be_noted (view w) row source sfrom target place sound may in
+    subst (λ (rows : List Row). SoundView (record (view w) { rows = rows }))
+    (sym (rows_turned (view w) row row.term (Opening source sfrom target (Some place)) sound turns))
+    (view_turned (view w) row row.term (Opening source sfrom target (Some place)) sound turns)

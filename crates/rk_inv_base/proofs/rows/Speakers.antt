@@ -1,0 +1,160 @@
+-- Who answers calls of a row: one living master at most, and while it does, no grant is awaited and no Transfer counts.
+use Rattle.std.proofs.Common.{◌≡◌, ℕ, Bool, true, false, ◌&&◌, ltb, eqb, List, [], ◌∷◌, Option, Some, None, refl, sym, ap, subst, ◌∙◌}
+use Rattle.std.proofs.Common.{⊎_elim, cond, ne_eqb, eqb-true}
+use Rattle.rk_inv_base.proofs.Words.{cases_eq, cond-false, cond_both, or_left, and_left, and_right, ⊤, NumberMap, Ended, Member, Node}
+use Rattle.rk_inv_base.proofs.Words.{Segments, Completions, is_serving, Handover, Role, lineage_of, Phase, Owned, Opening, Moving}
+use Rattle.rk_inv_base.proofs.Words.{Rebuilding, Row, Log, Transfer, Body, Handed, is_member, second_of, last_of, is_rebuilding, Written}
+use Rattle.rk_inv_base.proofs.Words.{is_wanting, is_opening, second_has, is_waiting, is_waiting_at, handed_by, SaysOf, TransferIn, Post}
+use Rattle.rk_inv_base.proofs.Words.{Owner, OpeningSource, InvitedTarget, ReadyTarget, MovingSource, MovingTarget, OnlyRebuilder}
+use Rattle.rk_inv_base.proofs.Words.{FirstRebuilder, LastRebuilder, OutsideRebuilder, FormerMember, Bystander, target_post, rebuilder_post}
+use Rattle.rk_inv_base.proofs.Words.{post_of, bond_of, Holds, speaks, RoleFits, AreApart, IsFormed}
+use Rattle.rk_types.specs.declared.node.Node.TheVariants as nodes
+use Rattle.rk_transfer.specs.declared.role.Role.TheVariants as roles
+use Rattle.rk_message.specs.declared.message.Body.TheVariants as bodies
+
+-- a master that serves speaks, whatever its post
+pub speaks_serving : (post : Post) (handover : Handover) (term : ℕ) → is_serving handover.role ≡ true → speaks post handover term ≡ true
+speaks_serving (Owner place) handover term serves = refl
+speaks_serving OpeningSource handover term serves = refl
+speaks_serving (OnlyRebuilder place) handover term serves = or_left (is_serving handover.role) (is_rebuilding handover.role && ltb handover.term term) serves
+speaks_serving InvitedTarget handover term serves = serves
+speaks_serving (ReadyTarget place) handover term serves = serves
+speaks_serving MovingSource handover term serves = serves
+speaks_serving (MovingTarget place) handover term serves = serves
+speaks_serving (FirstRebuilder place) handover term serves = serves
+speaks_serving (LastRebuilder place) handover term serves = serves
+speaks_serving OutsideRebuilder handover term serves = serves
+speaks_serving FormerMember handover term serves = serves
+speaks_serving Bystander handover term serves = serves
+
+-- posts in which no master serves
+abbrev pub IsQuiet : Post → Type 0
+IsQuiet InvitedTarget = ⊤
+IsQuiet (ReadyTarget place) = ⊤
+IsQuiet MovingSource = ⊤
+IsQuiet FormerMember = ⊤
+IsQuiet Bystander = ⊤
+IsQuiet _ = ⊥
+
+pub quiet_role : (post : Post) (role : Role) (term own applied : ℕ) → IsQuiet post → Holds (bond_of post role) term own applied → is_serving role ≡ true → ⊥
+quiet_role duty roles.Absent term own applied quiet fits serves = absurd (cc)
+quiet_role duty roles.Closing term own applied quiet fits serves = absurd (cc)
+quiet_role duty roles.Frozen term own applied quiet fits serves = absurd (cc)
+quiet_role duty (roles.Wanting from) term own applied quiet fits serves = absurd (cc)
+quiet_role duty (roles.Rebuilding from entry) term own applied quiet fits serves = absurd (cc)
+quiet_role InvitedTarget _ term own applied quiet fits serves = fits
+quiet_role (ReadyTarget place) _ term own applied quiet fits serves = fits
+quiet_role MovingSource _ term own applied quiet fits serves = fits
+quiet_role FormerMember _ term own applied quiet fits serves = fits
+quiet_role Bystander _ term own applied quiet fits serves = fits
+quiet_role _ _ term own applied quiet fits serves = quiet
+
+-- a master in such a post does not speak
+pub quiet_says : (post : Post) (handover : Handover) (term applied : ℕ) → IsQuiet post → Holds (bond_of post handover.role) term handover.term applied → speaks post handover term ≡ true → ⊥
+quiet_says InvitedTarget handover term applied quiet fits says = quiet_role InvitedTarget handover.role term handover.term applied quiet fits says
+quiet_says (ReadyTarget place) handover term applied quiet fits says = quiet_role (ReadyTarget place) handover.role term handover.term applied quiet fits says
+quiet_says MovingSource handover term applied quiet fits says = quiet_role MovingSource handover.role term handover.term applied quiet fits says
+quiet_says FormerMember handover term applied quiet fits says = quiet_role FormerMember handover.role term handover.term applied quiet fits says
+quiet_says Bystander handover term applied quiet fits says = quiet_role Bystander handover.role term handover.term applied quiet fits says
+quiet_says _ handover term applied quiet fits says = quiet
+
+-- the only master that may speak for a row in this phase
+abbrev pub speaker_of : Phase → ℕ
+speaker_of (Owned owner from) = owner
+speaker_of (Opening source sfrom target dfrom) = source
+speaker_of (Moving source sfrom target dfrom) = target
+speaker_of (Rebuilding lineage to) = to
+
+pub quiet_asked : (place : Option ℕ) → IsQuiet (target_post place)
+quiet_asked None = tt
+quiet_asked (Some place) = tt
+
+-- each other one is in a post in which none serves
+pub quiet_others : (phase : Phase) (q : ℕ) → (q ≡ speaker_of phase → ⊥) → IsQuiet (post_of phase q)
+quiet_others (Owned owner from) q apart =
+    subst IsQuiet (sym (cond-false (eqb owner q) (Owner from) Bystander (ne_eqb owner q (λ e. apart (sym e))))) tt
+quiet_others (Opening source sfrom target dfrom) q apart =
+    subst IsQuiet
+    (sym (cond-false (eqb source q) OpeningSource (cond (eqb target q) (target_post dfrom) Bystander) (ne_eqb source q (λ e. apart (sym e)))))
+    (cond_both (eqb target q) (target_post dfrom) Bystander IsQuiet (λ e. quiet_asked dfrom) (λ e. tt))
+quiet_others (Moving source sfrom target dfrom) q apart =
+    cond_both (eqb source q) MovingSource (cond (eqb target q) (MovingTarget dfrom) Bystander) IsQuiet (λ e. tt)
+    (λ e. subst IsQuiet (sym (cond-false (eqb target q) (MovingTarget dfrom) Bystander (ne_eqb target q (λ e. apart (sym e))))) tt)
+quiet_others (Rebuilding lineage to) q apart =
+    subst IsQuiet
+    (sym (cond-false (eqb to q) (rebuilder_post lineage q) (cond (is_member lineage q) FormerMember Bystander) (ne_eqb to q (λ e. apart (sym e)))))
+    (cond_both (is_member lineage q) FormerMember Bystander IsQuiet (λ e. tt) (λ e. tt))
+
+-- so a master whose role fits its post and that speaks is that one
+pub speaker_is : (row : Row) (q : ℕ) (handover : Handover) (applied : ℕ) → RoleFits row q handover applied → speaks (post_of row.phase q) handover row.term ≡ true → q ≡ speaker_of row.phase
+speaker_is row q handover applied fits says =
+    ⊎_elim
+    (λ (same : q ≡ speaker_of row.phase). same)
+    (λ (apart : q ≡ speaker_of row.phase → ⊥). absurd (quiet_says (post_of row.phase q) handover row.term applied (quiet_others row.phase q apart) fits says))
+    (cases_eq q (speaker_of row.phase))
+
+-- a role that serves waits for no grant
+pub serving_wants : (role : Role) → is_serving role ≡ true → is_wanting role ≡ false
+serving_wants (roles.Wanting from) serves = absurd (cc)
+serving_wants _ serves = refl
+
+-- no second member waits while the last member of the lineage serves
+pub second_serves : (row : Row) (handovers : ℕ → ℕ → Handover) (last member : Member) → is_serving (handovers last.master row.tablet).role ≡ true → Some member ≡ Some last → is_wanting (handovers member.master row.tablet).role ≡ false
+second_serves row handovers last member serves is =
+    let same : member ≡ last = cc in
+    serving_wants (handovers member.master row.tablet).role (ap (λ (m : Member). is_serving (handovers m.master row.tablet).role) same ∙ serves)
+
+pub lineage_waits : (row : Row) (handovers : ℕ → ℕ → Handover) (lineage : List Member) (last : Member) → AreApart lineage → last_of lineage ≡ Some last → is_serving (handovers last.master row.tablet).role ≡ true → is_waiting (second_has handovers row (second_of lineage)) ≡ false
+lineage_waits row handovers [] last formed is serves = refl
+lineage_waits row handovers (only ∷ []) last formed is serves = refl
+lineage_waits row handovers (first ∷ second ∷ []) last formed is serves = second_serves row handovers last second serves is
+lineage_waits row handovers (first ∷ second ∷ third ∷ more) last formed is serves = absurd formed
+
+pub none_waits : (row : Row) (handovers : ℕ → ℕ → Handover) (phase : Phase) (last : Member) → IsFormed phase → last_of (lineage_of phase) ≡ Some last → is_serving (handovers last.master row.tablet).role ≡ true → is_waiting (second_has handovers row (second_of (lineage_of phase))) ≡ false
+none_waits row handovers (Owned owner from) last formed is serves = refl
+none_waits row handovers (Opening source sfrom target dfrom) last formed is serves = refl
+none_waits row handovers (Moving source sfrom target dfrom) last formed is serves = second_serves row handovers last (record { master = target; from = dfrom }) serves is
+none_waits row handovers (Rebuilding lineage to) last formed is serves = lineage_waits row handovers lineage last formed is serves
+
+-- what waits at no term waits at none
+pub waiting_at : (other : Option Handover) (term : ℕ) → is_waiting other ≡ false → is_waiting_at other term ≡ false
+waiting_at None term none = refl
+waiting_at (Some handover) term none = and_left (is_wanting handover.role) (eqb handover.term term) none
+
+-- no Transfer counts for a row whose source serves
+pub opening_hands : (phase : Phase) (tablet : ℕ) (handovers : ℕ → ℕ → Handover) (completions : Completions) (term sender : ℕ) (transfer : Transfer) (of_tablet of_term : Bool) (given : Handed)
+    → (of_tablet ≡ true → of_term ≡ true → TransferIn phase (handovers sender tablet) completions term sender transfer) → is_serving (handovers (speaker_of phase) tablet).role ≡ true
+    → cond (is_opening phase && of_tablet && of_term) (Some given) None ≡ None
+opening_hands (Opening source sfrom target dfrom) tablet handovers completions term sender transfer true true given says serves =
+    let said = says refl refl in
+    let frozen : is_serving (handovers source tablet).role ≡ false = ap (λ (m : ℕ). is_serving (handovers m tablet).role) said.0 ∙ ap is_serving said.1.role_is in
+    absurd (cc)
+opening_hands (Opening source sfrom target dfrom) tablet handovers completions term sender transfer true false given says serves = refl
+opening_hands (Opening source sfrom target dfrom) tablet handovers completions term sender transfer false of_term given says serves = refl
+opening_hands (Owned owner from) tablet handovers completions term sender transfer of_tablet of_term given says serves = refl
+opening_hands (Moving source sfrom target dfrom) tablet handovers completions term sender transfer of_tablet of_term given says serves = refl
+opening_hands (Rebuilding lineage to) tablet handovers completions term sender transfer of_tablet of_term given says serves = refl
+
+pub transfer_hands : (row : Row) (logs : ℕ → Log) (written : ℕ → Written) (stored : ℕ → Segments) (handovers : ℕ → ℕ → Handover) (completions : ℕ → ℕ → Completions) (merged : ℕ → ℕ → List Ended) (live : ℕ → Bool) (handed : NumberMap Handed) (from to : Node) (transfer : Transfer)
+    → SaysOf row logs written stored handovers completions merged live handed from to (bodies.Transfer transfer) → is_serving (handovers (speaker_of row.phase) row.tablet).role ≡ true
+    → handed_by row handovers (bodies.Transfer transfer) ≡ None
+transfer_hands row logs written stored handovers completions merged live handed (nodes.Master sender) to transfer says serves =
+    opening_hands row.phase row.tablet handovers (completions sender row.tablet) row.term sender transfer (eqb transfer.tenure.tablet row.tablet) (eqb transfer.tenure.term row.term)
+    (record { floor = transfer.floor; ends = transfer.ends })
+    (λ a b. says (record { tablet = eqb-true transfer.tenure.tablet row.tablet a; term = eqb-true transfer.tenure.term row.term b }))
+    serves
+transfer_hands row logs written stored handovers completions merged live handed (nodes.Client client) to transfer says serves = absurd says
+transfer_hands row logs written stored handovers completions merged live handed nodes.Coordinator to transfer says serves = absurd says
+transfer_hands row logs written stored handovers completions merged live handed (nodes.Backup backup) to transfer says serves = absurd says
+
+-- of a row no message hands anything over while the last member of its lineage, its speaker, serves
+pub none_hands : (row : Row) (logs : ℕ → Log) (written : ℕ → Written) (stored : ℕ → Segments) (handovers : ℕ → ℕ → Handover) (completions : ℕ → ℕ → Completions) (merged : ℕ → ℕ → List Ended) (live : ℕ → Bool) (handed : NumberMap Handed) (from to : Node) (body : Body) (last : Member)
+    → SaysOf row logs written stored handovers completions merged live handed from to body → IsFormed row.phase → last_of (lineage_of row.phase) ≡ Some last → last.master ≡ speaker_of row.phase
+    → is_serving (handovers last.master row.tablet).role ≡ true → handed_by row handovers body ≡ None
+none_hands row logs written stored handovers completions merged live handed from to (bodies.Transfer transfer) last says formed is speaker serves =
+    transfer_hands row logs written stored handovers completions merged live handed from to transfer says (subst (λ (m : ℕ). is_serving (handovers m row.tablet).role ≡ true) speaker serves)
+none_hands row logs written stored handovers completions merged live handed from to (bodies.Grant grant) last says formed is speaker serves =
+    cond-false _ (Some (record { floor = grant.floor; ends = grant.ends })) None
+    (and_right (eqb grant.tenure.tablet row.tablet) (is_waiting_at (second_has handovers row (second_of (lineage_of row.phase))) grant.tenure.term)
+    (waiting_at (second_has handovers row (second_of (lineage_of row.phase))) grant.tenure.term (none_waits row handovers row.phase last formed is serves)))
+none_hands row logs written stored handovers completions merged live handed from to _ last says formed is speaker serves = refl

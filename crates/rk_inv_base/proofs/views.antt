@@ -1,0 +1,14 @@
+pub mod Put
+pub mod Masters
+pub mod Lists
+pub mod Fresh
+pub mod Empty
+pub mod Views
+pub mod Alike
+pub mod Seen
+pub mod Terms
+pub mod Cover
+pub mod Above
+pub mod Places
+pub mod Needed
+pub mod Tables

@@ -1,0 +1,89 @@
+-- Handovers that answer alike where the parts ask who answers calls, and who waits for a grant.
+use Rattle.std.proofs.Common.{◌≡◌, ℕ, Bool, true, cond, ltb, ◌||◌, ◌&&◌, eqb, List, ◌∷◌, Option, Some, None, refl, sym, ap, ◌∙◌, ⊎_elim}
+use Rattle.std.proofs.Common.{inl, inr, option_map}
+use Rattle.rk_inv_base.proofs.Words.{NumberMap, get, Member, Range, Entry, is_serving, Handover, lineage_of, Phase, Owned, Opening, Moving}
+use Rattle.rk_inv_base.proofs.Words.{Rebuilding, Row, Body, Handed, second_of, is_rebuilding, Written, member_truth, is_wanting, second_has}
+use Rattle.rk_inv_base.proofs.Words.{is_waiting, is_waiting_at, handed_for_grant, handed_by, beginning_in, target_truth, Post, Owner}
+use Rattle.rk_inv_base.proofs.Words.{OpeningSource, InvitedTarget, ReadyTarget, MovingSource, MovingTarget, OnlyRebuilder, FirstRebuilder}
+use Rattle.rk_inv_base.proofs.Words.{LastRebuilder, OutsideRebuilder, FormerMember, Bystander, StillCounts, speaks, as_frozen, with_counter}
+use Rattle.rk_transfer.specs.declared.role.Role.TheVariants as roles
+use Rattle.rk_message.specs.declared.message.Body.TheVariants as bodies
+
+-- two handovers, or one before and after, that answer alike
+pub record IsAlike (old new : Handover) : Type 0 where
+  pub same_serving : is_serving new.role ≡ is_serving old.role
+  pub same_rebuilding : is_rebuilding new.role ≡ is_rebuilding old.role
+  pub same_wanting : is_wanting new.role ≡ is_wanting old.role
+  pub same_term : new.term ≡ old.term
+
+-- all tablets of all masters
+abbrev pub AreAlike : (ℕ → ℕ → Handover) → (ℕ → ℕ → Handover) → Type 0
+AreAlike handovers now = (master number : ℕ) → IsAlike (handovers master number) (now master number)
+
+pub alike_itself : (handover : Handover) → IsAlike handover handover
+alike_itself handover = record { same_serving = refl; same_rebuilding = refl; same_wanting = refl; same_term = refl }
+
+-- a tablet with another counter answers as before
+pub alike_counted : (counter : ℕ) (handover : Handover) → IsAlike handover (with_counter counter handover)
+alike_counted counter handover = record { same_serving = refl; same_rebuilding = refl; same_wanting = refl; same_term = refl }
+
+-- one that closes and freezes does so too
+pub alike_frozen : (handover : Handover) → handover.role ≡ roles.Closing → IsAlike handover (as_frozen handover)
+alike_frozen handover closing = record {
+  same_serving = ap is_serving (sym closing);
+  same_rebuilding = ap is_rebuilding (sym closing);
+  same_wanting = ap is_wanting (sym closing);
+  same_term = refl;
+}
+
+-- what a master has still counts as before, where it keeps the same term
+pub still_counts : (live : Bool) (old new term : ℕ) → new ≡ old → StillCounts live new term → StillCounts live old term
+still_counts live old new term same counts =
+    ⊎_elim (λ (lives : live ≡ true). inl lives) (λ (at : new ≡ term). inr (sym same ∙ at)) counts
+
+-- such tablets speak for a post alike
+pub speaks_alike : (post : Post) (term : ℕ) (old new : Handover) → IsAlike old new → speaks post new term ≡ speaks post old term
+speaks_alike (Owner place) term old new alike = refl
+speaks_alike OpeningSource term old new alike = refl
+speaks_alike (OnlyRebuilder place) term old new alike =
+    λ i. alike.same_serving i || (alike.same_rebuilding i && ltb (alike.same_term i) term)
+speaks_alike InvitedTarget term old new alike = alike.same_serving
+speaks_alike (ReadyTarget place) term old new alike = alike.same_serving
+speaks_alike MovingSource term old new alike = alike.same_serving
+speaks_alike (MovingTarget place) term old new alike = alike.same_serving
+speaks_alike (FirstRebuilder place) term old new alike = alike.same_serving
+speaks_alike (LastRebuilder place) term old new alike = alike.same_serving
+speaks_alike OutsideRebuilder term old new alike = alike.same_serving
+speaks_alike FormerMember term old new alike = alike.same_serving
+speaks_alike Bystander term old new alike = alike.same_serving
+
+-- the second member of a lineage waits alike
+pub waits_alike : (row : Row) (handovers now : ℕ → ℕ → Handover) (member : Option Member) → AreAlike handovers now → is_waiting (second_has now row member) ≡ is_waiting (second_has handovers row member)
+waits_alike row handovers now None alike = refl
+waits_alike row handovers now (Some member) alike = (alike member.master row.tablet).same_wanting
+
+pub waits_at_alike : (row : Row) (handovers now : ℕ → ℕ → Handover) (term : ℕ) (member : Option Member) → AreAlike handovers now → is_waiting_at (second_has now row member) term ≡ is_waiting_at (second_has handovers row member) term
+waits_at_alike row handovers now term None alike = refl
+waits_at_alike row handovers now term (Some member) alike =
+    λ i. (alike member.master row.tablet).same_wanting i && eqb ((alike member.master row.tablet).same_term i) term
+
+-- what is kept for a grant counts alike
+pub handed_for_grant_alike : (row : Row) (handovers now : ℕ → ℕ → Handover) (handed : NumberMap Handed) → AreAlike handovers now → handed_for_grant row now handed ≡ handed_for_grant row handovers handed
+handed_for_grant_alike row handovers now handed alike =
+    ap (λ (b : Bool). cond b (get handed row.tablet) None) (waits_alike row handovers now (second_of (lineage_of row.phase)) alike)
+
+-- what a message hands over counts alike
+pub handed_by_alike : (row : Row) (handovers now : ℕ → ℕ → Handover) (body : Body) → AreAlike handovers now → handed_by row now body ≡ handed_by row handovers body
+handed_by_alike row handovers now (bodies.Grant grant) alike =
+    ap (λ (b : Bool). cond (eqb grant.tenure.tablet row.tablet && b) (Some (record { floor = grant.floor; ends = grant.ends })) None)
+    (waits_at_alike row handovers now grant.tenure.term (second_of (lineage_of row.phase)) alike)
+handed_by_alike row handovers now _ alike = refl
+
+-- what the target of a row that moves has applied, behind what its source told, is the same where as much is applied
+pub target_truth_same : (written now : ℕ → Written) (handed : NumberMap Handed) (row : Row) (phase : Phase) → ((range : Range) (m : Member) → member_truth now range m ≡ member_truth written range m) → target_truth now handed row phase ≡ target_truth written handed row phase
+target_truth_same written now handed row (Owned owner from) same = refl
+target_truth_same written now handed row (Opening source sfrom target dfrom) same = refl
+target_truth_same written now handed row (Moving source sfrom target dfrom) same =
+    ap (λ (truth : List Entry). option_map (λ h. beginning_in row h ∷ truth) (get handed row.tablet))
+    (same row.range (record { master = target; from = dfrom }))
+target_truth_same written now handed row (Rebuilding lineage to) same = refl

@@ -1,0 +1,32 @@
+-- Laws of the part Terms: what a message that is sent, and a tablet that looks the same, keep of it.
+use Rattle.std.proofs.Common.{sym, ap, subst, ◌∙◌, ◌≤◌, ◌<◌, ℕ, List}
+use Rattle.rk_inv_base.proofs.Words.{All-weaker, NumberMap, meets, Range, Handover, Row, Message, HandoverFits}
+use Rattle.rk_sound.specs.Terms.{Terms}
+use Rattle.rk_inv_base.proofs.views.Seen.{LooksAs}
+
+-- a tablet that looks as before fits beside a row as before
+pub handover_looks : (row : Row) (number : ℕ) (old new : Handover) → LooksAs old new → HandoverFits row number old → HandoverFits row number new
+handover_looks row number old new looks fits = record {
+  within = λ is. subst (λ (term : ℕ). term ≤ row.term) (sym looks.term) (fits.within is);
+  below = λ another meeting.
+      subst (λ (term : ℕ). term < row.term) (sym looks.term)
+      (fits.below another (ap (λ (range : Range). meets row.range range) (sym looks.range) ∙ meeting));
+  exact = λ is term_is. looks.range ∙ fits.exact is (sym looks.term ∙ term_is);
+}
+
+-- each tablet looks as before
+pub terms_looks : (rows : List Row) (handovers handovers' : ℕ → ℕ → Handover) (wire : NumberMap Message) → Terms rows handovers wire → ((q r : ℕ) → LooksAs (handovers q r) (handovers' q r)) → Terms rows handovers' wire
+terms_looks rows handovers handovers' wire old looks = record {
+  kept = λ master number.
+      All-weaker (λ row. HandoverFits row number (handovers master number))
+      (λ row. HandoverFits row number (handovers' master number))
+      (λ row. handover_looks row number (handovers master number) (handovers' master number) (looks master number)) rows
+      (old.kept master number);
+  begun = λ master number there.
+      subst (λ (term : ℕ). 1 ≤ term) (sym (looks master number).term)
+      (old.begun master number (sym (looks master number).role.absent ∙ there));
+  apart = λ master a b other a_there b_there.
+      (λ i. meets ((looks master a).range i) ((looks master b).range i))
+      ∙ old.apart master a b other (sym (looks master a).role.absent ∙ a_there) (sym (looks master b).role.absent ∙ b_there);
+  sent = old.sent;
+}

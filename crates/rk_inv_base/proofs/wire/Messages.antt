@@ -1,0 +1,262 @@
+-- Laws of the part Messages: what a message that is sent, and tablets that look the same, keep of it.
+use Rattle.std.proofs.Common.{false, sym, subst, ◌∙◌, ◌≡◌, ◌≤◌, ◌<◌, ◌-◌, ℕ, Bool, List, [], ◌∷◌, Option, None, All, slice_index_or}
+use Rattle.std.proofs.Common.{flat_map}
+use Rattle.rk_inv_base.proofs.Words.{All-weaker, each_weaker, get, Ended, Member, Node, Segments, Entry, at_hash, batch_at, next_token}
+use Rattle.rk_inv_base.proofs.Words.{Completions, Handover, lineage_of, Phase, Opening, Moving, Rebuilding, Row, Known, nothing, Log}
+use Rattle.rk_inv_base.proofs.Words.{known_of, EntryEnd, BATCH_BYTES, Grant, Prepare, Tenure, Transfer, Body, Got, Pulled, CopySegment}
+use Rattle.rk_inv_base.proofs.Words.{Rebuild, Rebuilt, Handed, as_entries, Written, stored_of, SaysOf, IfMaster, ByMaster, IsOf, IsOfTarget}
+use Rattle.rk_inv_base.proofs.Words.{PrepareFits, CloseFits, RebuildFits, OwnFits, IsOwner, ReleaseFits, ReadyIn, TransferIn, JoinedIn}
+use Rattle.rk_inv_base.proofs.Words.{RebuiltIn, GrantAgrees, AskAgrees, IsFromSource, PulledAgrees, GotAgrees, CopyIn, post_of, READ_BACKUP}
+use Rattle.rk_inv_base.proofs.Words.{IsReadPart, NeededOf, scan_items, View, MessagesOf}
+use Rattle.rk_types.specs.declared.node.Node.TheVariants as nodes
+use Rattle.rk_outside.specs.Segments.{bytes_of as copied_bytes}
+use Rattle.rk_message.specs.declared.message.Body.TheVariants as bodies
+use Rattle.rk_sound.specs.Messages.{IsFrozenSource}
+use Rattle.rk_inv_base.proofs.views.Seen.{LooksAs, AllLook}
+use Rattle.rk_inv_base.proofs.views.Needed.{part_weaker}
+
+-- what is said where a node is a master, it says as well where that follows
+pub if_master : (node : Node) (Fits Gives : ℕ → Type 0) → ((master : ℕ) → Fits master → Gives master) → IfMaster node Fits → IfMaster node Gives
+if_master (nodes.Master master) Fits Gives gives fits = gives master fits
+if_master node Fits Gives gives fits = fits
+
+pub by_master : (node : Node) (Fits Gives : ℕ → Type 0) → ((master : ℕ) → Fits master → Gives master) → ByMaster node Fits → ByMaster node Gives
+by_master (nodes.Master master) Fits Gives gives fits = gives master fits
+by_master node Fits Gives gives fits = fits
+
+-- ---- orders
+
+pub prepare_looks : (row : Row) (old new : Handover) (live : Bool) (master : ℕ) (prepare : Prepare) → LooksAs old new → PrepareFits row old live master prepare → PrepareFits row new live master prepare
+prepare_looks row old new live master prepare looks fits = record {
+  range = fits.range;
+  invited = λ is lives below. fits.invited is lives (subst (λ (term : ℕ). term < row.term) looks.term below);
+  members = λ asks lives member.
+      subst (λ (term : ℕ). prepare.tenure.term ≤ term) (sym looks.term) (fits.members asks lives member);
+}
+
+pub close_looks : (row : Row) (old new : Handover) (live : Bool) (master : ℕ) (tenure : Tenure) → LooksAs old new → CloseFits row old live master tenure → CloseFits row new live master tenure
+close_looks row old new live master tenure looks fits = record {
+  source = fits.source;
+  may_follow = λ same lives below. fits.may_follow same lives (subst (λ (term : ℕ). term < tenure.term) looks.term below);
+}
+
+pub rebuild_looks : (row : Row) (old new : Handover) (live : Bool) (master : ℕ) (rebuild : Rebuild) → LooksAs old new → RebuildFits row old live master rebuild → RebuildFits row new live master rebuild
+rebuild_looks row old new live master rebuild looks fits = record {
+  range = fits.range;
+  lineage = fits.lineage;
+  ordered = λ same lives below. fits.ordered same lives (subst (λ (term : ℕ). term < rebuild.tenure.term) looks.term below);
+}
+
+pub own_looks : (row : Row) (old new : Handover) (live : Bool) (master : ℕ) (tenure : Tenure) → LooksAs old new → OwnFits row old live master tenure → OwnFits row new live master tenure
+own_looks row old new live master tenure looks fits = record {
+  owned = fits.owned;
+  reached = λ same lives. subst (λ (term : ℕ). tenure.term ≤ term) (sym looks.term) (fits.reached same lives);
+  owner = λ same lives at.
+      subst (λ (term : ℕ). IsOwner (post_of row.phase master) term row.term) (sym looks.term)
+      (fits.owner same lives (sym looks.term ∙ at));
+}
+
+pub release_looks : (row : Row) (old new : Handover) (live : Bool) (master : ℕ) (tenure : Tenure) → LooksAs old new → ReleaseFits row old live master tenure → ReleaseFits row new live master tenure
+release_looks row old new live master tenure looks fits = record {
+  owned = fits.owned;
+  outside = λ same lives within. fits.outside same lives (subst (λ (term : ℕ). term ≤ tenure.term) looks.term within);
+}
+
+-- ---- reports
+
+pub ready_looks : (phase : Phase) (old new : Handover) (term master place : ℕ) → LooksAs old new → ReadyIn phase old term master place → ReadyIn phase new term master place
+ready_looks (Opening source sfrom target None) old new term master place looks says =
+    (says.0, looks.role.waits place says.1, looks.term ∙ says.2)
+ready_looks phase old new term master place looks says = says
+
+pub source_looks : (old new : Handover) (completions : Completions) (term : ℕ) (transfer : Transfer) → LooksAs old new → IsFrozenSource old completions term transfer → IsFrozenSource new completions term transfer
+source_looks old new completions term transfer looks frozen = record {
+  role_is = looks.role.frozen frozen.role_is;
+  term_is = looks.term ∙ frozen.term_is;
+  floor_is = frozen.floor_is ∙ sym (looks.counter frozen.role_is);
+  ends_are = frozen.ends_are;
+}
+
+pub transfer_looks : (phase : Phase) (old new : Handover) (completions : Completions) (term master : ℕ) (transfer : Transfer) → LooksAs old new → TransferIn phase old completions term master transfer → TransferIn phase new completions term master transfer
+transfer_looks (Opening source sfrom target dfrom) old new completions term master transfer looks says =
+    (says.0, source_looks old new completions term transfer looks says.1)
+transfer_looks phase old new completions term master transfer looks says = says
+
+pub joined_looks : (phase : Phase) (old new : Handover) (applied applied' term master : ℕ) → LooksAs old new → applied' ≡ applied → JoinedIn phase old applied term master → JoinedIn phase new applied' term master
+joined_looks (Moving source sfrom target dfrom) old new applied applied' term master looks same says =
+    (says.0, looks.term ∙ says.1, looks.role.joined applied' (rw same says.2))
+joined_looks phase old new applied applied' term master looks same says = says
+
+pub rebuilt_looks : (phase : Phase) (old new : Handover) (merged : List Ended) (applied applied' term master : ℕ) (rebuilt : Rebuilt) → LooksAs old new → applied' ≡ applied → RebuiltIn phase old merged applied term master rebuilt → RebuiltIn phase new merged applied' term master rebuilt
+rebuilt_looks (Rebuilding lineage to) old new merged applied applied' term master rebuilt looks same says =
+    (says.0, looks.term ∙ says.1, looks.role.rebuilt applied' rebuilt.place (rw same says.2), says.3)
+rebuilt_looks phase old new merged applied applied' term master rebuilt looks same says = says
+
+-- ---- between source and target
+
+pub of_target : (row : Row) (old new : Handover) (tenure : Tenure) → LooksAs old new → IsOfTarget row new tenure → IsOfTarget row old tenure
+of_target row old new tenure looks is = record { tablet = is.tablet; term = is.term ∙ looks.term }
+
+pub grant_looks : (row : Row) (old new : Handover) (live : Bool) (handed : Option Handed) (master : ℕ) (grant : Grant) → LooksAs old new → GrantAgrees row old live handed master grant → GrantAgrees row new live handed master grant
+grant_looks row old new live handed master grant looks agrees = record {
+  reached = λ same lives. subst (λ (term : ℕ). grant.tenure.term ≤ term) (sym looks.term) (agrees.reached same lives);
+  told = λ same lives at waits. agrees.told same lives (at ∙ looks.term) (sym looks.role.wanting ∙ waits);
+}
+
+-- what is said of a target that pulls, and to it, where each tablet looks as before
+module _ (row : Row) (written written' : ℕ → Written) (handovers handovers' : ℕ → ℕ → Handover) (live : ℕ → Bool) (looks : AllLook written written' handovers handovers') where
+  -- what a target asks is of its tablet as before
+  of_target_now : (master : ℕ) (tenure : Tenure) → IsOfTarget row (handovers' master row.tablet) tenure → IsOfTarget row (handovers master row.tablet) tenure
+  of_target_now master tenure =
+      of_target row (handovers master row.tablet) (handovers' master row.tablet) tenure (looks.each master row.tablet)
+
+  ask_looks : (lineage : List Member) (master : ℕ) (to : Node) (tenure : Tenure) → AskAgrees row handovers lineage master to tenure → AskAgrees row handovers' lineage master to tenure
+  ask_looks (source ∷ target ∷ []) master to tenure agrees = λ here is. agrees here (of_target_now master tenure is)
+  ask_looks lineage master to tenure agrees = agrees
+
+  pulled_looks : (lineage : List Member) (from : Node) (master : ℕ) (pulled : Pulled) → PulledAgrees row written handovers live lineage from master pulled → PulledAgrees row written' handovers' live lineage from master pulled
+  pulled_looks (source ∷ target ∷ []) from master pulled agrees = λ here lives is.
+      subst
+      (λ (truth : List Entry).
+      IsFromSource source from (as_entries (batch_at pulled.token BATCH_BYTES (scan_items truth))) pulled.entries
+      × (pulled.next ≡ next_token pulled.token BATCH_BYTES (scan_items truth)))
+      (sym (looks.truths row.range source)) (agrees here lives (of_target_now master pulled.tenure is))
+  pulled_looks lineage from master pulled agrees = agrees
+
+  got_looks : (lineage : List Member) (from : Node) (master : ℕ) (got : Got) → GotAgrees row written handovers live lineage from master got → GotAgrees row written' handovers' live lineage from master got
+  got_looks (source ∷ target ∷ []) from master got agrees = λ here lives is.
+      subst
+      (λ (truth : List Entry).
+      IsFromSource source from (as_entries (flat_map (λ hash. at_hash hash (scan_items truth)) got.hashes)) got.entries)
+      (sym (looks.truths row.range source)) (agrees here lives (of_target_now master got.tenure is))
+  got_looks lineage from master got agrees = agrees
+
+-- ---- between a rebuilding master and backup 1
+
+-- no more is needed of a dead master
+abbrev pub NeedNoMore : (written written' : ℕ → Written) (live : ℕ → Bool) → Type 0
+NeedNoMore written written' live =
+    (row : Row) (lineage : List Member) (q : ℕ) → live q ≡ false → (end : EntryEnd) → NeededOf row written' lineage q end
+    → NeededOf row written lineage q end
+
+module _ (logs logs' : ℕ → Log) (written written' : ℕ → Written) (stored : ℕ → Segments) (live : ℕ → Bool) (copy : CopySegment) (same : (logs' copy.master).known ≡ (logs copy.master).known) (less : NeedNoMore written written' live) where
+  copy_looks : (row : Row) (phase : Phase) → CopyIn row phase logs written stored live copy → CopyIn row phase logs' written' stored live copy
+  copy_looks row (Rebuilding lineage to) says = (
+    says.0,
+    part_weaker (NeededOf row written lineage copy.master) (NeededOf row written' lineage copy.master) (known_of (logs' copy.master) READ_BACKUP)
+        (stored_of stored copy.master READ_BACKUP) copy.segment (copied_bytes copy.bytes) (less row lineage copy.master says.0)
+        (subst
+        (λ (known : List Known).
+        IsReadPart (NeededOf row written lineage copy.master) (slice_index_or known (READ_BACKUP - 1) nothing)
+        (stored_of stored copy.master READ_BACKUP) copy.segment (copied_bytes copy.bytes))
+        (sym same) says.1),
+  )
+  copy_looks row phase says = says
+
+-- ---- all kinds
+
+-- what a message says of a row, it says where each tablet looks as before, and backups are known to hold as much
+module _ (v : View) (logs' : ℕ → Log) (written' : ℕ → Written) (handovers' : ℕ → ℕ → Handover) (looks : AllLook v.written written' v.handovers handovers') (same : (q : ℕ) → (logs' q).known ≡ (v.logs q).known) (less : NeedNoMore v.written written' v.live) where
+  abbrev SaysBefore : Row → Node → Node → Body → Type 0
+  SaysBefore row = SaysOf row v.logs v.written v.stored v.handovers v.completions v.merged v.live v.handed
+
+  abbrev SaysAfter : Row → Node → Node → Body → Type 0
+  SaysAfter row = SaysOf row logs' written' v.stored handovers' v.completions v.merged v.live v.handed
+
+  says_of_looks : (row : Row) (from to : Node) (body : Body) → SaysBefore row from to body → SaysAfter row from to body
+  says_of_looks row from to (bodies.Prepare prepare) says =
+      if_master to (λ m. PrepareFits row (v.handovers m row.tablet) (v.live m) m prepare)
+      (λ m. PrepareFits row (handovers' m row.tablet) (v.live m) m prepare)
+      (λ m. prepare_looks row (v.handovers m row.tablet) (handovers' m row.tablet) (v.live m) m prepare (looks.each m row.tablet)) says
+  says_of_looks row from to (bodies.Ready ready) says =
+      by_master from (λ m. IsOf row ready.tenure → ReadyIn row.phase (v.handovers m row.tablet) row.term m ready.place)
+      (λ m. IsOf row ready.tenure → ReadyIn row.phase (handovers' m row.tablet) row.term m ready.place)
+      (λ m told is.
+      ready_looks row.phase (v.handovers m row.tablet) (handovers' m row.tablet) row.term m ready.place (looks.each m row.tablet)
+      (told is)) says
+  says_of_looks row from to (bodies.Close tenure) says =
+      if_master to (λ m. CloseFits row (v.handovers m row.tablet) (v.live m) m tenure)
+      (λ m. CloseFits row (handovers' m row.tablet) (v.live m) m tenure)
+      (λ m. close_looks row (v.handovers m row.tablet) (handovers' m row.tablet) (v.live m) m tenure (looks.each m row.tablet)) says
+  says_of_looks row from to (bodies.Transfer transfer) says =
+      by_master from (λ m. IsOf row transfer.tenure → TransferIn row.phase (v.handovers m row.tablet) (v.completions m row.tablet) row.term m transfer)
+      (λ m. IsOf row transfer.tenure → TransferIn row.phase (handovers' m row.tablet) (v.completions m row.tablet) row.term m transfer)
+      (λ m told is.
+      transfer_looks row.phase (v.handovers m row.tablet) (handovers' m row.tablet) (v.completions m row.tablet) row.term m transfer (looks.each m row.tablet)
+      (told is)) says
+  says_of_looks row from to (bodies.Grant grant) says = (
+    says.0,
+    if_master to (λ m. GrantAgrees row (v.handovers m row.tablet) (v.live m) (get v.handed row.tablet) m grant)
+        (λ m. GrantAgrees row (handovers' m row.tablet) (v.live m) (get v.handed row.tablet) m grant)
+        (λ m.
+        grant_looks row (v.handovers m row.tablet) (handovers' m row.tablet) (v.live m) (get v.handed row.tablet) m grant
+        (looks.each m row.tablet)) says.1,
+  )
+  says_of_looks row from to (bodies.Pull pull) says = (
+    says.0,
+    by_master from (λ m. AskAgrees row v.handovers (lineage_of row.phase) m to pull.tenure)
+        (λ m. AskAgrees row handovers' (lineage_of row.phase) m to pull.tenure)
+        (λ m. ask_looks row v.written written' v.handovers handovers' v.live looks (lineage_of row.phase) m to pull.tenure) says.1,
+  )
+  says_of_looks row from to (bodies.Pulled pulled) says = (
+    says.0,
+    if_master to (λ m. PulledAgrees row v.written v.handovers v.live (lineage_of row.phase) from m pulled)
+        (λ m. PulledAgrees row written' handovers' v.live (lineage_of row.phase) from m pulled)
+        (λ m. pulled_looks row v.written written' v.handovers handovers' v.live looks (lineage_of row.phase) from m pulled) says.1,
+  )
+  says_of_looks row from to (bodies.Want want) says = (
+    says.0,
+    by_master from (λ m. AskAgrees row v.handovers (lineage_of row.phase) m to want.tenure)
+        (λ m. AskAgrees row handovers' (lineage_of row.phase) m to want.tenure)
+        (λ m. ask_looks row v.written written' v.handovers handovers' v.live looks (lineage_of row.phase) m to want.tenure) says.1,
+  )
+  says_of_looks row from to (bodies.Got got) says = (
+    says.0,
+    if_master to (λ m. GotAgrees row v.written v.handovers v.live (lineage_of row.phase) from m got)
+        (λ m. GotAgrees row written' handovers' v.live (lineage_of row.phase) from m got)
+        (λ m. got_looks row v.written written' v.handovers handovers' v.live looks (lineage_of row.phase) from m got) says.1,
+  )
+  says_of_looks row from to (bodies.Joined tenure) says =
+      by_master from
+      (λ m. IsOf row tenure → JoinedIn row.phase (v.handovers m row.tablet) (v.written m).applied row.term m)
+      (λ m. IsOf row tenure → JoinedIn row.phase (handovers' m row.tablet) (written' m).applied row.term m)
+      (λ m told is.
+      joined_looks row.phase (v.handovers m row.tablet) (handovers' m row.tablet) (v.written m).applied (written' m).applied row.term m
+      (looks.each m row.tablet) (looks.applied m) (told is)) says
+  says_of_looks row from to (bodies.Own tenure) says =
+      if_master to (λ m. OwnFits row (v.handovers m row.tablet) (v.live m) m tenure)
+      (λ m. OwnFits row (handovers' m row.tablet) (v.live m) m tenure)
+      (λ m. own_looks row (v.handovers m row.tablet) (handovers' m row.tablet) (v.live m) m tenure (looks.each m row.tablet)) says
+  says_of_looks row from to (bodies.Release tenure) says =
+      if_master to (λ m. ReleaseFits row (v.handovers m row.tablet) (v.live m) m tenure)
+      (λ m. ReleaseFits row (handovers' m row.tablet) (v.live m) m tenure)
+      (λ m. release_looks row (v.handovers m row.tablet) (handovers' m row.tablet) (v.live m) m tenure (looks.each m row.tablet)) says
+  says_of_looks row from to (bodies.Rebuild rebuild) says =
+      if_master to (λ m. RebuildFits row (v.handovers m row.tablet) (v.live m) m rebuild)
+      (λ m. RebuildFits row (handovers' m row.tablet) (v.live m) m rebuild)
+      (λ m. rebuild_looks row (v.handovers m row.tablet) (handovers' m row.tablet) (v.live m) m rebuild (looks.each m row.tablet)) says
+  says_of_looks row from to (bodies.Copy copy) says = λ is.
+      copy_looks v.logs logs' v.written written' v.stored v.live copy (same copy.master) less row row.phase (says is)
+  says_of_looks row from to (bodies.Rebuilt rebuilt) says =
+      by_master from
+      (λ m. IsOf row rebuilt.tenure
+      → RebuiltIn row.phase (v.handovers m row.tablet) (v.merged m row.tablet) (v.written m).applied row.term m rebuilt)
+      (λ m. IsOf row rebuilt.tenure
+      → RebuiltIn row.phase (handovers' m row.tablet) (v.merged m row.tablet) (written' m).applied row.term m rebuilt)
+      (λ m told is.
+      rebuilt_looks row.phase (v.handovers m row.tablet) (handovers' m row.tablet) (v.merged m row.tablet) (v.written m).applied (written' m).applied row.term m
+      rebuilt (looks.each m row.tablet) (looks.applied m) (told is)) says
+  says_of_looks row from to body says = says
+
+  -- each tablet looks as before, as much is applied and counts as before, and backups are known to hold as much
+  pub messages_looks : MessagesOf v → MessagesOf (record v { logs = logs'; written = written'; handovers = handovers' })
+  messages_looks old = record {
+    of_rows =
+        each_weaker (λ n m. All (λ row. SaysBefore row m.from m.to m.body) v.rows)
+        (λ n m. All (λ row. SaysAfter row m.from m.to m.body) v.rows) v.wire
+        (λ n m.
+        All-weaker (λ row. SaysBefore row m.from m.to m.body) (λ row. SaysAfter row m.from m.to m.body)
+        (λ row. says_of_looks row m.from m.to m.body) v.rows)
+        old.of_rows;
+    others = old.others;
+  }

@@ -1,0 +1,12 @@
+pub mod events
+pub mod turn
+pub mod reports
+pub mod orders
+pub mod stored
+pub mod pulls
+pub mod copies
+pub mod request
+pub mod answer
+pub mod write
+pub mod rebuilt
+pub mod steps

@@ -1,0 +1,159 @@
+-- What records leave of a key: the same as all that counts, where they have its newest item, or all that came of it to a target.
+use Rattle.std.proofs.Common.{◌≡◌, ℕ, ◌≤◌, ◌<◌, Bool, true, false, cond, List, [], ◌∷◌, ◌++◌, Option, Some, None, refl, sym, ap, subst, ◌∙◌}
+use Rattle.std.proofs.Common.{⊎_elim, ◌⊎◌, inl, inr, arith, is_some, Contains, option_map}
+use Rattle.rk_inv_base.proofs.Words.{cases_Bool, All-contains, Contains-append_cases, Contains-append_left, Contains-append_right, hash_of}
+use Rattle.rk_inv_base.proofs.Words.{has, Held, Range, Entry, found, is_in, IsInScanOrder, newest_found, newest_is, is_of_from, is_of_parts}
+use Rattle.rk_inv_base.proofs.Words.{newest_own, live, record_of, is_of, newest, IsPlain, items_of, has_key, IsFound, IsReceived, IsTableOf}
+use Rattle.rk_table.specs.Items.{is_at}
+use Rattle.rk_sound.specs.Receives.{HasCome}
+use Rattle.rk_inv_base.proofs.logs.InRange.{AreIn, IsIn}
+use Rattle.rk_inv_base.proofs.calls.Records.{stands_is_found}
+use Rattle.rk_inv_rows.proofs.lineage.TakenOver.{plain_fewer}
+use Rattle.rk_inv_wellformed.proofs.maps.Lists.{find_passes}
+
+-- what a search finds stands there
+found_stands : (table : ℕ) (key : List ℕ) (records : List Held) (x : Held) → found table key records ≡ Some x → Contains records x
+found_stands table key [] x is = absurd (cc is)
+found_stands table key (first ∷ records) x is = by (is_at table key first) is (found_stands table key records x)
+  where
+    by : (here : Bool) → cond here (Some first) (found table key records) ≡ Some x → (found table key records ≡ Some x → Contains records x) → Contains (first ∷ records) x
+    by true is later = let same : first ≡ x = cc is in (0, omega arith, same)
+    by false is later = Contains-append_right (first ∷ []) records x (later is)
+
+-- an item of a key lies in a range that has the key
+item_in : (range : Range) (table : ℕ) (key : List ℕ) (x : Held) → has_key range table key ≡ true → is_of table key x ≡ true → is_in range x ≡ true
+item_in range table key x inside of =
+    let parts = is_of_parts table key x of in (λ i. has range (parts.0 i) (hash_of (parts.1 i))) ∙ inside
+
+-- records with the newest items of what counts find the newest of a key
+module _ (range : Range) (list : List Entry) (records : List Held) (table : ℕ) (key : List ℕ) (order : IsInScanOrder records) (within : AreIn range (items_of list)) (its : IsTableOf range list records) (inside : has_key range table key ≡ true) where
+  newest_there : (y : Held) → newest (items_of list) table key ≡ Some y → found table key records ≡ Some y
+  newest_there y is =
+      let best = newest_is (items_of list) table key y is in
+      stands_is_found records table key y order
+      ((its y (All-contains (IsIn range) (items_of list) y within best.stands)).1 (newest_own (items_of list) table key y is))
+      best.of_record
+
+  there_newest : (x : Held) → found table key records ≡ Some x → newest (items_of list) table key ≡ Some x
+  there_newest x is =
+      let of : is_of table key x ≡ true = find_passes (is_at table key) records x is in
+      let parts = is_of_parts table key x of in
+      (λ i. newest (items_of list) (sym parts.0 i) (sym parts.1 i))
+      ∙ (its x (item_in range table key x inside of)).0 (found_stands table key records x is)
+
+  pub table_found : found table key records ≡ newest (items_of list) table key
+  table_found = by (found table key records) refl (newest (items_of list) table key) refl
+    where
+      by : (there : Option Held) → found table key records ≡ there → (best : Option Held) → newest (items_of list) table key ≡ best → there ≡ best
+      by (Some x) is best its = sym (there_newest x is) ∙ its
+      by None is (Some y) its = sym is ∙ newest_there y its
+      by None is None its = refl
+
+-- ---- a target
+
+-- a target beside its source: a scan of the source has its newest items that are no tombstones, and what counts of the target is its own,
+-- above all of the source's, or the source's as well
+pub record IsBeside (range : Range) (source scan own mine : List Held) : Type 0 where
+  pub first : (x : Held) → Contains scan x → newest source x.table x.key ≡ Some x
+  pub scanned : (x : Held) → newest source x.table x.key ≡ Some x → is_some x.value ≡ true → Contains scan x
+  pub has_own : (x : Held) → Contains own x → Contains mine x
+  pub from : (x : Held) → Contains mine x → Contains own x ⊎ Contains source x
+  pub above : (x y : Held) → Contains own x → Contains source y → y.version < x.version
+  pub plain : IsPlain (source ++ mine)
+
+-- a tombstone leaves no record
+no_record : (value : Option (List ℕ)) (version : ℕ) → is_some value ≡ false → option_map {U = ℕ × List ℕ} (λ (v : List ℕ). (version, v)) value ≡ None
+no_record None version none = refl
+no_record (Some value) version none = absurd (cc none)
+
+module _ (range : Range) (source scan own mine sides records : List Held) (Arrived : Held → Type 0) (beside : IsBeside range source scan own mine) (received : IsReceived Arrived range scan own sides records) (order : IsInScanOrder records) (table : ℕ) (key : List ℕ) where
+  abbrev all : List Held
+  all = source ++ mine
+
+  -- what is found of a key is that which the records have
+  one_found : (x : Held) → IsFound records x → is_of table key x ≡ true → (y : Option Held) → found table key records ≡ y → (there : Held) × (y ≡ Some there) × (x.version ≤ there.version)
+  one_found x there of y is =
+      let parts = is_of_parts table key x of in
+      let its = is_of_parts x.table x.key there.there there.same_key in (
+        there.there,
+        sym is ∙ stands_is_found records table key there.there order there.stands (is_of_from table key there.there (its.0 ∙ parts.0) (its.1 ∙ parts.1)),
+        there.as_new,
+      )
+
+  module _ (inside : has_key range table key ≡ true) where
+    -- what is found is the newest of all
+    found_newest : (x : Held) → found table key records ≡ Some x → newest all table key ≡ Some x
+    found_newest x is =
+        let of : is_of table key x ≡ true = find_passes (is_at table key) records x is in
+        let parts = is_of_parts table key x of in
+        let came = received.come x (found_stands table key records x is) (item_in range table key x inside of) in
+        newest_found all table key x beside.plain (record {
+          stands =
+              ⊎_elim (λ (its : Contains own x). Contains-append_right source mine x (beside.has_own x its))
+              (λ (copy : Contains sides x).
+              Contains-append_left source mine x (newest_is source x.table x.key x (beside.first x (received.within x copy))).stands)
+              came;
+          of_record = of;
+          greatest = λ other at its.
+              let names = is_of_parts table key other its in
+              let of_own : Contains own other → other.version ≤ x.version = λ there.
+              let has = one_found other (received.found other (inl there)) its (Some x) is in
+              let same : x ≡ has.0 = cc has.1 in
+              subst (λ (h : Held). other.version ≤ h.version) (sym same) has.2 in
+              let of_source : Contains source other → other.version ≤ x.version = λ there.
+              ⊎_elim (λ (mine : Contains own x). let less = beside.above x other mine there in omega (arith, less))
+              (λ (copy : Contains sides x).
+              (newest_is source x.table x.key x (beside.first x (received.within x copy))).greatest other there
+              (is_of_from x.table x.key other (names.0 ∙ sym parts.0) (names.1 ∙ sym parts.1)))
+              came in
+              ⊎_elim of_source (λ (there : Contains mine other). ⊎_elim of_own of_source (beside.from other there))
+              (Contains-append_cases source mine other at);
+        })
+
+    -- where none is found of a key of which all has arrived, none is left but a tombstone
+    module _ (none : found table key records ≡ None) (arrives : (x : Held) → Contains scan x → is_of table key x ≡ true → Arrived x) where
+      never : (x : Held) → HasCome Arrived scan own x → is_of table key x ≡ true → ⊥
+      never x come of = let has = one_found x (received.found x come) of None none in absurd (cc has.1)
+
+      of_source : (y : Held) → newest all table key ≡ Some y → Contains source y → record_of (Some y) ≡ None
+      of_source y is there =
+          let best = newest_is all table key y is in
+          let parts = is_of_parts table key y best.of_record in
+          let first : newest source y.table y.key ≡ Some y =
+          newest_found source y.table y.key y (plain_fewer source all (λ x. Contains-append_left source mine x) beside.plain)
+          (record {
+            stands = there;
+            of_record = is_of_from y.table y.key y refl refl;
+            greatest = λ other at of.
+                let its = is_of_parts y.table y.key other of in
+                best.greatest other (Contains-append_left source mine other at)
+                (is_of_from table key other (its.0 ∙ parts.0) (its.1 ∙ parts.1));
+          }) in
+          ⊎_elim
+          (λ (lives : is_some y.value ≡ true).
+          let stands : Contains scan y = beside.scanned y first lives in
+          absurd (never y (inr (stands, arrives y stands best.of_record)) best.of_record))
+          (λ (tombstone : is_some y.value ≡ false). no_record y.value y.version tombstone)
+          (cases_Bool (is_some y.value))
+
+      none_left : live all table key ≡ None
+      none_left = by (newest all table key) refl
+        where
+          by : (best : Option Held) → newest all table key ≡ best → record_of best ≡ None
+          by None is = refl
+          by (Some y) is =
+              let best = newest_is all table key y is in
+              ⊎_elim (λ (there : Contains source y). of_source y is there)
+              (λ (there : Contains mine y).
+              ⊎_elim (λ (its : Contains own y). absurd (never y (inl its) best.of_record)) (λ (its : Contains source y). of_source y is its)
+              (beside.from y there))
+              (Contains-append_cases source mine y best.stands)
+
+    -- so the records leave of the key what all leaves
+    pub found_leaves : (found table key records ≡ None → (x : Held) → Contains scan x → is_of table key x ≡ true → Arrived x)
+        → record_of (found table key records) ≡ live all table key
+    found_leaves arrives = by (found table key records) refl
+      where
+        by : (there : Option Held) → found table key records ≡ there → record_of there ≡ live all table key
+        by (Some x) is = ap record_of (sym (found_newest x is))
+        by None is = sym (none_left is (arrives is))

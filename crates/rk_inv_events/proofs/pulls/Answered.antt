@@ -1,0 +1,108 @@
+-- A sound lane stays sound when a Got reaches a target that lives: it replays the items, each of which is its source's, and the hashes are
+-- resolved.
+use Rattle.std.proofs.Common.{◌≡◌, ℕ, Bool, true, false, cond, List, [], ◌∷◌, Some, refl, sym, ap, subst, ◌∙◌, arith, ◌&&◌, not, Contains}
+use Rattle.std.proofs.Common.{flat_map, eqb-true}
+use Rattle.rk_inv_base.proofs.Words.{and_parts, All-contains, get, Held, Member, at_hash, Role, lineage_of, Row, is_batch, Got, items_of}
+use Rattle.rk_inv_base.proofs.Words.{Master, as_entries, got_taken, hashes_resolved, replay, is_receiving, is_receiving_at, to_master}
+use Rattle.rk_inv_base.proofs.Words.{worked_at, Tablet, changed, World, has_crashed, master_at, tablet_in, with_master, GotAgrees, SaysOf}
+use Rattle.rk_inv_base.proofs.Words.{IsPulling, source_items, View, view, IsSound}
+use Rattle.rk_types.specs.declared.node.Node.TheVariants as nodes
+use Rattle.rk_transfer.specs.declared.role.Role.TheVariants as roles
+use Rattle.rk_message.specs.declared.message.Body.TheVariants as bodies
+use Rattle.rk_inv_base.proofs.pulls.HashesResolved.{sound_resolved}
+use Rattle.rk_inv_events.proofs.turn.Sending.{sends_none, sound_sends}
+use Rattle.rk_inv_events.proofs.pulls.Asked.{reaches, stays}
+use Rattle.rk_inv_events.proofs.pulls.Replaying.{found_in, put_again, replayed_all, same_source, still_pulls}
+use Rattle.rk_inv_events.proofs.pulls.Targets.{found_there, of_some_hash, target_of}
+
+-- a role that the test says to pull does
+pub receiving_is : (role : Role) → is_receiving role ≡ true → role ≡ roles.Receiving
+receiving_is roles.Receiving holds = refl
+receiving_is roles.Frozen holds = absurd (cc holds)
+receiving_is roles.Absent holds = absurd (cc holds)
+receiving_is roles.Serving holds = absurd (cc holds)
+receiving_is roles.Closing holds = absurd (cc holds)
+receiving_is (roles.Wanting from) holds = absurd (cc holds)
+receiving_is (roles.Joining entry) holds = absurd (cc holds)
+receiving_is (roles.Rebuilding from entry) holds = absurd (cc holds)
+
+-- the items of entries that are items
+pub items_again : (items : List Held) → items_of (as_entries items) ≡ items
+items_again [] = refl
+items_again (item ∷ items) = ap (λ (list : List Held). item ∷ list) (items_again items)
+
+-- a master changes and does no more
+pub sound_changed : (w : World) (master : ℕ) (now : Master) → IsSound (with_master w master now) → IsSound (worked_at w master 0 (changed now)).world
+sound_changed w master now = sound_sends w master 0 (changed now) (sends_none (view (with_master w master now)) now)
+
+-- ---- a target
+
+module _ (w : World) (sound : IsSound w) (row : Row) (source target : Member) (pulls : IsPulling (view w) row source target) where
+  -- it replays the items that have some hashes, which are resolved then
+  pub sound_items : (hashes : List ℕ) (items : List Held) → items ≡ flat_map (λ hash. at_hash hash (source_items (view w) row source)) hashes
+      → IsSound (with_master w target.master (hashes_resolved (replay (master_at w target.master) row.tablet 0 items) row.tablet hashes))
+  sound_items hashes items are =
+      let now : Master = replay (master_at w target.master) row.tablet 0 items in
+      let from_source : (x : Held) → Contains items x → Contains (source_items (view w) row source) x = λ x at.
+      of_some_hash (source_items (view w) row source) hashes x (subst (λ (list : List Held). Contains list x) are at) in
+      let done = replayed_all row source target 0 (omega arith) w items sound pulls from_source in
+      let after : World = with_master w target.master now in
+      let still = still_pulls w row source target items now done pulls in
+      let same = same_source w row source target items now done in
+      subst IsSound (put_again w target.master now (λ m. hashes_resolved m row.tablet hashes))
+      (sound_resolved after row source target hashes done.sound (record {
+        pulling = still;
+        arrived = λ item at.
+            found_there (view after) done.sound row source target still item
+            (of_some_hash (source_items (view after) row source) hashes item at)
+            (found_in w row source target items now done item
+            (done.found item
+            (subst (λ (list : List Held). Contains list item) (sym are)
+            (subst (λ (list : List Held). Contains (flat_map (λ hash. at_hash hash list) hashes) item) same at))));
+      }))
+
+-- ---- the message
+
+module _ (w : World) (number sender master : ℕ) (message : Got) (sound : IsSound w) (lives : has_crashed w master ≡ false)
+    (there : get w.wire.messages number ≡ Some (record { from = nodes.Master sender; to = nodes.Master master; body = bodies.Got message })) where
+  abbrev v : View
+  v = view w
+
+  abbrev kept : Tablet
+  kept = tablet_in w master message.tenure.tablet
+
+  -- what is said of it to a target
+  got_says : (row : Row) → Contains v.rows row → (lineage : List _) → lineage_of row.phase ≡ lineage → GotAgrees row v.written v.handovers v.live lineage (nodes.Master sender) master message
+  got_says row stands lineage is =
+      subst (λ (members : List Member). GotAgrees row v.written v.handovers v.live members (nodes.Master sender) master message) is
+      (All-contains
+      (λ (r : Row). SaysOf r v.logs v.written v.stored v.handovers v.completions v.merged v.live v.handed (nodes.Master sender) (nodes.Master master) (bodies.Got message))
+      v.rows row (sound.messages.of_rows number (record { from = nodes.Master sender; to = nodes.Master master; body = bodies.Got message }) there) stands).1
+
+  taken : is_receiving_at kept message.tenure.term ≡ true
+      → IsSound (with_master w master (hashes_resolved (replay (master_at w master) message.tenure.tablet 0 (items_of message.entries)) message.tenure.tablet message.hashes))
+  taken receives =
+      let both = and_parts _ _ receives in
+      let its = target_of v sound master message.tenure.tablet (ap not lives) (receiving_is kept.handover.role both.0) in
+      let says = got_says its.row its.pulls.has_row (its.source ∷ its.target ∷ []) its.pulls.lineage_is its.here (ap not lives) (record {
+        tablet = sym its.number_is;
+        term = sym (eqb-true kept.handover.term message.tenure.term both.1) ∙ ap (λ (n : ℕ). (v.handovers master n).term) (sym its.number_is);
+      }) in
+      let items : items_of message.entries ≡ flat_map (λ hash. at_hash hash (source_items v its.row its.source)) message.hashes =
+      ap items_of says.items_are ∙ items_again (flat_map (λ hash. at_hash hash (source_items v its.row its.source)) message.hashes) in
+      subst (λ (n : ℕ). IsSound (with_master w master (hashes_resolved (replay (master_at w master) n 0 (items_of message.entries)) n message.hashes))) its.number_is
+      (subst (λ (q : ℕ). IsSound (with_master w q (hashes_resolved (replay (master_at w q) its.row.tablet 0 (items_of message.entries)) its.row.tablet message.hashes))) its.here
+      (sound_items w sound its.row its.source its.target its.pulls message.hashes (items_of message.entries) items))
+
+  pub sound_got : IsSound (to_master w master (record { from = nodes.Master sender; to = nodes.Master master; body = bodies.Got message })).world
+  sound_got =
+      reaches w master sound 0 (got_taken (master_at w master) message) lives
+      (go (is_receiving_at kept message.tenure.term) (is_batch kept.pulling.hashes.outstanding message.hashes) refl)
+    where
+      go : (receives batch : Bool) → is_receiving_at kept message.tenure.term ≡ receives
+          → IsSound (worked_at w master 0 (cond (receives && batch)
+          (changed (hashes_resolved (replay (master_at w master) message.tenure.tablet 0 (items_of message.entries)) message.tenure.tablet message.hashes))
+          (changed (master_at w master)))).world
+      go true true is = sound_changed w master _ (taken is)
+      go true false is = stays w master sound 0
+      go false batch is = stays w master sound 0

@@ -1,0 +1,229 @@
+-- A sound lane stays sound when a Pulled reaches a target that lives: it replays the batch of its token and passes on, and behind the last
+-- batch it seals what it copied.
+use Rattle.std.proofs.Common.{◌≡◌, ◌≤◌, ◌<◌, ◌+◌, ℕ, Bool, true, false, cond, List, [], ◌∷◌, All, length, Some, refl, sym, ap, subst, ◌∙◌}
+use Rattle.std.proofs.Common.{⊎_elim, inl, arith, ◌&&◌, ◌%◌, ◌^◌, not, Contains, eqb-true}
+use Rattle.std.proofs.lemmas.Nat.{mod_below}
+use Rattle.rk_inv_base.proofs.Words.{and_parts, cases_eq, All-contains, get, meets, Held, Token, Member, Range, FIRST_SIDE_SEGMENT, found}
+use Rattle.rk_inv_base.proofs.Words.{is_newer, batch_at, end, Handover, lineage_of, Row, Log, BATCH_BYTES, Pulled, items_of, IsFormedRow}
+use Rattle.rk_inv_base.proofs.Words.{IsWellFormed, limits_of, is_member, Master, tablet_at, with_tablet, batch_taken, is_token}
+use Rattle.rk_inv_base.proofs.Words.{item_replayed, pulled_all, pulled_taken, replay, replay_one, token_passed, with_pulled, with_pulling}
+use Rattle.rk_inv_base.proofs.Words.{is_receiving_at, sealed_sides, to_master, worked_at, Pulling, Tablet, changed, World, has_crashed}
+use Rattle.rk_inv_base.proofs.Words.{log_in, master_at, tablet_in, with_master, HasSegmentLeft, PulledAgrees, SaysOf, source_items}
+use Rattle.rk_inv_base.proofs.Words.{StillCounts, View, view, IsSound}
+use Rattle.rk_types.specs.declared.node.Node.TheVariants as nodes
+use Rattle.rk_transfer.specs.declared.role.Role.TheVariants as roles
+use Rattle.rk_message.specs.declared.message.Body.TheVariants as bodies
+use Rattle.rk_world.specs.Master.{with_item}
+use Rattle.rk_inv_base.proofs.views.Masters.{master_same, tablet_apart, tablet_here}
+use Rattle.rk_inv_base.proofs.calls.Rebuilders.{last_member}
+use Rattle.rk_inv_rows.proofs.lineage.TargetMaterial.{meets_itself}
+use Rattle.rk_inv_tablets.specs.seal.Moves.{MaySealThere}
+use Rattle.rk_inv_events.specs.pulls.Moves.{MaySealBehind, batch_replayed}
+use Rattle.rk_inv_events.proofs.pulls.Answered.{items_again, receiving_is, sound_changed}
+use Rattle.rk_inv_events.proofs.pulls.Asked.{reaches, stays}
+use Rattle.rk_inv_events.proofs.pulls.Passing.{sound_batch, sound_pulled_all}
+use Rattle.rk_inv_events.proofs.pulls.Replaying.{put_again}
+use Rattle.rk_inv_events.proofs.pulls.Targets.{IsTargetOf, target_of}
+
+-- tokens that the test says to be one are
+token_is : (a b : Token) → is_token a b ≡ true → a ≡ b
+token_is a b same =
+    let both = and_parts _ _ same in
+    (λ i. record { bucket = eqb-true a.bucket b.bucket both.0 i; skip = eqb-true a.skip b.skip both.1 i })
+
+-- there are four workers
+some_worker : (batches : ℕ) → batches % 4 < 4
+some_worker batches = mod_below batches 4 (omega arith)
+
+-- ---- what stays of a master that takes a batch
+
+-- a master with the same log, and the same handovers and sealed segments of each tablet
+record KeepsTablets (old new : Master) : Type 0 where
+  log : new.log ≡ old.log
+  handover : (r : ℕ) → (tablet_at new r).handover ≡ (tablet_at old r).handover
+  sealed : (r : ℕ) → (tablet_at new r).pulling.sealed ≡ (tablet_at old r).pulling.sealed
+
+keeps_then : (a b c : Master) → KeepsTablets a b → KeepsTablets b c → KeepsTablets a c
+keeps_then a b c first later = record {
+  log = later.log ∙ first.log;
+  handover = λ r. later.handover r ∙ first.handover r;
+  sealed = λ r. later.sealed r ∙ first.sealed r;
+}
+
+-- so is one where a tablet pulls so, with the sealed segments that it had
+keeps_with : (m : Master) (number : ℕ) (pulling : Pulling) → pulling.sealed ≡ (tablet_at m number).pulling.sealed
+    → KeepsTablets m (with_tablet m number (with_pulling (tablet_at m number) pulling))
+keeps_with m number pulling same = record {
+  log = refl;
+  handover = λ r.
+      ⊎_elim
+      (λ (is : r ≡ number).
+      subst (λ (n : ℕ). (tablet_at (with_tablet m number tablet) n).handover ≡ (tablet_at m n).handover) (sym is)
+      (ap (λ (t : Tablet). t.handover) (tablet_here m number tablet)))
+      (λ (apart : r ≡ number → ⊥). ap (λ (t : Tablet). t.handover) (tablet_apart m number tablet r apart))
+      (cases_eq r number);
+  sealed = λ r.
+      ⊎_elim
+      (λ (is : r ≡ number).
+      subst (λ (n : ℕ). (tablet_at (with_tablet m number tablet) n).pulling.sealed ≡ (tablet_at m n).pulling.sealed) (sym is)
+      (ap (λ (t : Tablet). t.pulling.sealed) (tablet_here m number tablet) ∙ same))
+      (λ (apart : r ≡ number → ⊥). ap (λ (t : Tablet). t.pulling.sealed) (tablet_apart m number tablet r apart))
+      (cases_eq r number);
+}
+  where
+    tablet : Tablet
+    tablet = with_pulling (tablet_at m number) pulling
+
+keeps_itself : (m : Master) → KeepsTablets m m
+keeps_itself m = record { log = refl; handover = λ r. refl; sealed = λ r. refl }
+
+keeps_one : (number worker : ℕ) (m : Master) (item : Held) → KeepsTablets m (replay_one number worker m item)
+keeps_one number worker m item = go (is_newer item (found item.table item.key m.records))
+  where
+    with_it : KeepsTablets (with_item m item) (item_replayed number worker m item)
+    with_it = keeps_with (with_item m item) number (with_pulled (tablet_at m number).pulling worker item) refl
+
+    go : (newer : Bool) → KeepsTablets m (cond newer (item_replayed number worker m item) m)
+    go true = record { log = with_it.log; handover = with_it.handover; sealed = with_it.sealed }
+    go false = keeps_itself m
+
+keeps_all : (number worker : ℕ) (m : Master) (items : List Held) → KeepsTablets m (replay m number worker items)
+keeps_all number worker m [] = keeps_itself m
+keeps_all number worker m (item ∷ items) =
+    let one = replay_one number worker m item in
+    keeps_then m one (replay one number worker items) (keeps_one number worker m item) (keeps_all number worker one items)
+
+-- ---- the message
+
+module _ (w : World) (number sender master : ℕ) (message : Pulled) (sound : IsSound w) (formed : IsWellFormed w) (lives : has_crashed w master ≡ false)
+    (there : get w.wire.messages number ≡ Some (record { from = nodes.Master sender; to = nodes.Master master; body = bodies.Pulled message })) (may : message.next ≡ end → MaySealBehind w master message) where
+  abbrev v : View
+  v = view w
+
+  abbrev own : Master
+  own = master_at w master
+
+  abbrev tablet : ℕ
+  tablet = message.tenure.tablet
+
+  abbrev kept : Tablet
+  kept = tablet_in w master message.tenure.tablet
+
+  -- the master once the batch is replayed, and once its token is passed
+  abbrev replayed : Master
+  replayed = batch_replayed own message
+
+  abbrev passed : Master
+  passed = token_passed replayed tablet message.next
+
+  -- what is said of it to a target
+  says : (row : Row) → Contains v.rows row → (lineage : List Member) → lineage_of row.phase ≡ lineage → PulledAgrees row v.written v.handovers v.live lineage (nodes.Master sender) master message
+  says row stands lineage is =
+      subst (λ (members : List Member). PulledAgrees row v.written v.handovers v.live members (nodes.Master sender) master message) is
+      (All-contains
+      (λ (r : Row). SaysOf r v.logs v.written v.stored v.handovers v.completions v.merged v.live v.handed (nodes.Master sender) (nodes.Master master) (bodies.Pulled message))
+      v.rows row (sound.messages.of_rows number (record { from = nodes.Master sender; to = nodes.Master master; body = bodies.Pulled message }) there) stands).1
+
+  module _ (receives : is_receiving_at kept message.tenure.term ≡ true) (at_token : is_token message.token kept.pulling.token ≡ true) where
+    role_is : kept.handover.role ≡ roles.Receiving
+    role_is = receiving_is kept.handover.role (and_parts _ _ receives).0
+
+    its : IsTargetOf v master tablet
+    its = target_of v sound master tablet (ap not lives) role_is
+
+    -- the lane is sound with the batch
+    sound_taken : IsSound (with_master w master passed)
+    sound_taken =
+        let said = says its.row its.pulls.has_row (its.source ∷ its.target ∷ []) its.pulls.lineage_is its.here (ap not lives) (record {
+          tablet = sym its.number_is;
+          term = sym (eqb-true kept.handover.term message.tenure.term (and_parts _ _ receives).1) ∙ ap (λ (n : ℕ). (v.handovers master n).term) (sym its.number_is);
+        }) in
+        let batch : List Held = batch_at message.token BATCH_BYTES (source_items v its.row its.source) in
+        let worker : ℕ = kept.pulling.batches % 4 in
+        let token : message.token ≡ (v.pullings its.target.master its.row.tablet).token =
+        token_is message.token kept.pulling.token at_token ∙ (λ i. (v.pullings (sym its.here i) (sym its.number_is i)).token) in
+        subst (λ (n : ℕ). IsSound (with_master w master (token_passed (replay own n worker (items_of message.entries)) n message.next))) its.number_is
+        (subst (λ (q : ℕ). IsSound (with_master w q (token_passed (replay (master_at w q) its.row.tablet worker (items_of message.entries)) its.row.tablet message.next))) its.here
+        (sound_batch w sound its.row its.source its.target its.pulls worker (some_worker kept.pulling.batches) message.token message.next
+        (items_of message.entries) token (ap items_of said.0.items_are ∙ items_again batch) said.1))
+
+    -- the range of the tablet is that of its row, so it is not empty
+    meets_own : meets kept.handover.range kept.handover.range ≡ true
+    meets_own =
+        let ranged : kept.handover.range ≡ its.row.range =
+        ap (λ (n : ℕ). (v.handovers master n).range) (sym its.number_is)
+        ∙ All-contains
+        (λ (r : Row). StillCounts (v.live master) (v.handovers master r.tablet).term r.term → is_member (lineage_of r.phase) master ≡ true → (v.handovers master r.tablet).range ≡ r.range)
+        v.rows its.row (sound.roles.ranged master) its.pulls.has_row (inl (ap not lives))
+        (ap (λ (members : List Member). is_member members master) its.pulls.lineage_is
+        ∙ last_member (its.source ∷ its.target ∷ []) its.target master refl its.here) in
+        subst (λ (range : Range). meets range range ≡ true) (sym ranged)
+        (meets_itself its.row.range (All-contains (IsFormedRow (limits_of w)) v.rows its.row formed.coordinator.rows its.pulls.has_row).range.last.least_is)
+
+    abbrev after : World
+    after = with_master w master passed
+
+    own_after : master_at after master ≡ passed
+    own_after = master_same w master passed master refl
+
+    -- what stays as it was
+    keeps : KeepsTablets own passed
+    keeps =
+        keeps_then own replayed passed (keeps_all tablet (kept.pulling.batches % 4) own (items_of message.entries))
+        (keeps_with replayed tablet (record (tablet_at replayed tablet).pulling { token = message.next; batches = (tablet_at replayed tablet).pulling.batches + 1 }) refl)
+
+    handover_is : (tablet_in after master tablet).handover ≡ kept.handover
+    handover_is = ap (λ (m : Master). (tablet_at m tablet).handover) own_after ∙ keeps.handover tablet
+
+    log_is : log_in after master ≡ log_in w master
+    log_is = ap (λ (m : Master). m.log) own_after ∙ keeps.log
+
+    pulling_is : (tablet_in after master tablet).pulling ≡ record (tablet_at replayed tablet).pulling { token = message.next; batches = (tablet_at replayed tablet).pulling.batches + 1 }
+    pulling_is =
+        ap (λ (m : Master). (tablet_at m tablet).pulling) own_after
+        ∙ ap (λ (t : Tablet). t.pulling)
+        (tablet_here replayed tablet (with_pulling (tablet_at replayed tablet) (record (tablet_at replayed tablet).pulling { token = message.next; batches = (tablet_at replayed tablet).pulling.batches + 1 })))
+
+    may_seal : message.next ≡ end → MaySealThere (view after) master tablet
+    may_seal last = record {
+      may = record {
+        lives = ap not lives;
+        room =
+            subst (λ (lists : List (List Held)). FIRST_SIDE_SEGMENT + (length (log_in after master).sides + length (sealed_sides lists)) ≤ 2 ^ 32)
+            (sym (ap (λ (p : Pulling). p.sides) pulling_is))
+            (subst
+            (λ (log : Log). FIRST_SIDE_SEGMENT + (length log.sides + length (sealed_sides (tablet_at replayed tablet).pulling.sides)) ≤ 2 ^ 32) (sym log_is)
+            (may last).sides);
+        receiving = ap (λ (h : Handover). h.role) handover_is ∙ role_is;
+        pulled = ap (λ (p : Pulling). p.token) pulling_is ∙ last;
+      };
+      there = λ r.
+          subst (λ (log : Log). All (λ n. n < FIRST_SIDE_SEGMENT + length log.sides) (tablet_in after master r).pulling.sealed) (sym log_is)
+          (subst (All (λ n. n < FIRST_SIDE_SEGMENT + length (log_in w master).sides))
+          (sym (ap (λ (m : Master). (tablet_at m r).pulling.sealed) own_after ∙ keeps.sealed r)) ((may last).there r));
+    }
+
+    -- and behind the last batch it is sound with what is sealed
+    sound_last : message.next ≡ end → IsSound (with_master w master (pulled_all passed tablet))
+    sound_last last =
+        subst IsSound (put_again w master passed (λ m. pulled_all m tablet))
+        (sound_pulled_all after sound_taken master tablet (may_seal last) (subst HasSegmentLeft (sym log_is) (may last).room)
+        (subst (λ (range : Range). meets range range ≡ true) (sym (ap (λ (h : Handover). h.range) handover_is)) meets_own))
+
+    sound_batch_taken : IsSound (with_master w master (batch_taken own tablet message))
+    sound_batch_taken = go (is_token message.next end) refl
+      where
+        go : (last : Bool) → is_token message.next end ≡ last → IsSound (with_master w master (cond last (pulled_all passed tablet) passed))
+        go true is = sound_last (token_is message.next end is)
+        go false is = sound_taken
+
+  pub sound_pulled : IsSound (to_master w master (record { from = nodes.Master sender; to = nodes.Master master; body = bodies.Pulled message })).world
+  sound_pulled =
+      reaches w master sound 0 (pulled_taken own message) lives
+      (go (is_receiving_at kept message.tenure.term) (is_token message.token kept.pulling.token) refl refl)
+    where
+      go : (receives at_token : Bool) → is_receiving_at kept message.tenure.term ≡ receives → is_token message.token kept.pulling.token ≡ at_token
+          → IsSound (worked_at w master 0 (cond (receives && at_token) (changed (batch_taken own tablet message)) (changed own))).world
+      go true true is at = sound_changed w master (batch_taken own tablet message) (sound_batch_taken is at)
+      go true false is at = stays w master sound 0
+      go false at_token is at = stays w master sound 0

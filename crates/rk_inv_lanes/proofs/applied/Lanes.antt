@@ -1,0 +1,87 @@
+-- The masters of a lane are caught up: in a new lane, after each event, and after a client's turn or answer.
+use Rattle.std.proofs.Common.{◌≡◌, ◌<◌, ◌≤◌, ◌-◌, ℕ, [], length, Option, None, Some, refl, sym, ap, subst, ⊎_elim, arith, unwrap_or}
+use Rattle.rk_inv_base.proofs.Words.{cases_eq, get, get_or, FIRST_SIDE_SEGMENT, cut, Known, known_length, committed, Called, accept, ask}
+use Rattle.rk_inv_base.proofs.Words.{Session, IsWellFormed, Master, log_bytes, new_master, tablet_at, master_step, master_turn, MOST_BYTES}
+use Rattle.rk_inv_base.proofs.Words.{world_visited, has_parts, with_halves, with_split, happened, World, bytes_of_logs, log_in, master_at}
+use Rattle.rk_inv_base.proofs.Words.{new_world, with_master, Event}
+use Rattle.rk_inv_wellformed.proofs.maps.Bounds.{within_sum_of}
+use Rattle.rk_inv_base.proofs.views.Fresh.{each_fresh}
+use Rattle.rk_inv_base.proofs.views.Masters.{master_other, master_same}
+use Rattle.rk_inv_base.proofs.logs.Segments.{segments_few}
+use Rattle.rk_inv_tablets.proofs.steady.Walks.{IsKept, Part, accept_keeps, ask_keeps, event_keeps}
+use Rattle.rk_inv_lanes.specs.applied.CaughtUp.{AllCaughtUp, IsCaughtUp}
+use Rattle.rk_inv_lanes.proofs.applied.Commits.{either_caught}
+use Rattle.rk_inv_lanes.proofs.applied.Steps.{step_caught, turn_caught}
+
+-- ---- events
+
+abbrev AreCaughtUp : Part
+AreCaughtUp masters count backups = (master : ℕ) → IsCaughtUp (get_or (new_master master []) masters master)
+
+module _ (w : World) (caught : AllCaughtUp w) where
+  put_caught : (number : ℕ) (master : Master) → IsCaughtUp master → AllCaughtUp (with_master w number master)
+  put_caught number master now q =
+      ⊎_elim
+      (λ (is : q ≡ number). subst IsCaughtUp (sym (master_same w number master q is)) now)
+      (λ (apart : q ≡ number → ⊥). subst IsCaughtUp (sym (master_other w number master q apart)) (caught q))
+      (cases_eq q number)
+
+  caught_kept : IsKept AreCaughtUp w
+  caught_kept = record {
+    now = caught;
+    steps = λ master message. put_caught master (master_step (master_at w master) message).master (step_caught (master_at w master) (caught master) message);
+    turns = λ master. put_caught master (master_turn (master_at w master)).master (turn_caught (master_at w master) (caught master));
+    adds = λ master tablet range. put_caught master _ (caught master);
+    splits = λ master tablet at new term.
+        let before = master_at w master in
+        put_caught master (with_split before tablet at new term)
+        (either_caught (has_parts (tablet_at before tablet).handover.range at) (with_halves before tablet (tablet_at before tablet) at new term) before
+        (caught master) (caught master));
+    stores = λ number segments. caught;
+  }
+
+pub caught_event : (w : World) (event : Event) (called : Called) → AllCaughtUp w → AllCaughtUp (happened w event called).world
+caught_event w event called caught = event_keeps AreCaughtUp w (caught_kept w caught) event called
+
+pub caught_asked : (w : World) (session : Session) → AllCaughtUp w → AllCaughtUp (world_visited w (ask w session))
+caught_asked w session caught = ask_keeps AreCaughtUp w caught session
+
+pub caught_accepted : (w : World) (number : ℕ) (session : Session) → AllCaughtUp w → AllCaughtUp (world_visited w (accept w number session))
+caught_accepted w number session caught = accept_keeps AreCaughtUp w caught number session
+
+-- ---- new lanes
+
+pub caught_new : (lane masters backups : ℕ) → AllCaughtUp (new_world lane masters backups)
+caught_new lane masters backups master =
+    let fresh = each_fresh lane masters backups master in
+    subst IsCaughtUp (sym fresh.is_new) (record {
+      known = λ backup segment main. omega (arith, ap (λ (known : Known). known_length known segment) (fresh.nothing_known (backup - 1)));
+      count_is = λ some few. refl;
+    })
+
+-- ---- lanes with room
+
+-- a master of a lane that is well formed and has room: there is a backup, and the main segments are few
+pub record HasFew (master : Master) : Type 0 where
+  pub backed : 1 ≤ length master.log.known
+  pub few : length (cut master.log.entries) < FIRST_SIDE_SEGMENT
+
+pub few_of : (w : World) (number : ℕ) (master : Master) → IsWellFormed w → bytes_of_logs w < MOST_BYTES → get w.masters number ≡ Some master → HasFew master
+few_of w number master formed room found = record {
+  backed = omega (arith, formed.backed, (formed.masters number master found).known);
+  few =
+      let part : log_bytes master ≤ bytes_of_logs w = within_sum_of log_bytes w.masters number master found in
+      omega (arith, segments_few master.log (omega (arith, room, part)));
+}
+
+-- what every backup is known to hold is applied
+pub all_applied : (w : World) (master : ℕ) → IsWellFormed w → bytes_of_logs w < MOST_BYTES → AllCaughtUp w
+    → (master_at w master).applied ≡ committed (log_in w master)
+all_applied w master formed room caught = by (get w.masters master) refl (caught master)
+  where
+    by : (found : Option Master) → get w.masters master ≡ found → IsCaughtUp (unwrap_or found (new_master master []))
+        → (unwrap_or found (new_master master [])).applied ≡ committed (unwrap_or found (new_master master [])).log
+    by None is now = refl
+    by (Some there) is now =
+        let has = few_of w master there formed room is in
+        now.count_is has.backed has.few

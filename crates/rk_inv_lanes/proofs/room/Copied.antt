@@ -1,0 +1,228 @@
+-- What a rebuild copies when it takes its last Copy is logged, each key once, and its master has no more bytes then than before, those of the
+-- copies, and a closing entry.
+use Rattle.std.proofs.Common.{◌≡◌, ◌≤◌, ◌+◌, ℕ, Bool, true, false, List, [], ◌∷◌, All, length, Option, None, Some, is_some, refl, sym, ap}
+use Rattle.std.proofs.Common.{subst, ◌∙◌, arith, Contains, not, sum_by}
+use Rattle.std.specs.List.Sorted.{IsStrictlySortedBy}
+use Rattle.std.proofs.lemmas.List.Kept.{IsStrictlySortedBy-filter}
+use Rattle.rk_inv_base.proofs.Words.{cond-false, cond-true, All-nil, All-weaker, sum-map, spelled_of, IsInOrder, NumberMap, get, get_or}
+use Rattle.rk_inv_base.proofs.Words.{Held, Entry, completions_from, ends_of, Handover, number_of, row_of, Row, newest_items_are}
+use Rattle.rk_inv_base.proofs.Words.{newest_items, CopySegment, items_of, IsFormedGathered, IsFormedMaster, IsWellFormed, Gather}
+use Rattle.rk_inv_base.proofs.Words.{LAST_MAIN_SEGMENT, by_member, next_reading, limits_of, Master, log_bytes, tablet_at, with_all}
+use Rattle.rk_inv_base.proofs.Words.{with_appended, as_entries, has_version, merge, IsMaster, copy_taken, own_material, rebuild_goes_on}
+use Rattle.rk_inv_base.proofs.Words.{rebuild_merged, rebuilding_on, rebuilt_entry, segment_gathered, with_gathered, with_merged, HasRoom}
+use Rattle.rk_inv_base.proofs.Words.{Tablet, no_tablet, Worked, changed, World, has_crashed, master_at, tablet_in, Merged, Reading, put2}
+use Rattle.rk_inv_base.proofs.Words.{View, view, IsSound, SoundView}
+use Rattle.rk_entry.proofs.Sizes.{held_spelled}
+use Rattle.rk_entry.specs.declared.entry.Entry.TheVariants as entries
+use Rattle.rk_transfer.specs.declared.role.Role.TheVariants as roles
+use Rattle.rk_overlay.specs.Overlay.{item_cmp}
+use Rattle.rk_world.specs.Formed.{MOST_BASE_CLIENTS}
+use Rattle.rk_world.specs.Limits.{IsFormedCopy}
+use Rattle.rk_world.specs.Master.{unsealed_bytes}
+use Rattle.rk_world.specs.Refusals.{MOST_CLIENTS}
+use Rattle.rk_inv_base.proofs.views.Masters.{tablet_here}
+use Rattle.rk_inv_base.proofs.views.Put.{put2_here}
+use Rattle.rk_inv_base.proofs.rows.Serving.{found_stands}
+use Rattle.rk_inv_base.proofs.views.Views.{view_gathered}
+use Rattle.rk_inv_wellformed.proofs.masters.Handovers.{one_stood}
+use Rattle.rk_inv_wellformed.proofs.bytes.EntryBytes.{carried_fits}
+use Rattle.rk_inv_wellformed.proofs.bytes.LogBytes.{bytes_appended, bytes_put}
+use Rattle.rk_inv_wellformed.proofs.bytes.PullBytes.{first_bytes, items_bytes, none_bytes}
+use Rattle.rk_inv_wellformed.proofs.masters.Rebuilding.{few_ends, formed_gathered, merge_formed, read_formed}
+use Rattle.rk_inv_wellformed.proofs.masters.Sealing.{first_holds, items_spelled}
+use Rattle.rk_inv_wellformed.proofs.lanes.Worlds.{formed_limits, master_of}
+use Rattle.rk_inv_wellformed.specs.Brought.{LONGEST_LEFT}
+use Rattle.rk_inv_tablets.proofs.crash.MergeTells.{read_all}
+use Rattle.rk_inv_events.proofs.events.Crashing.{entries_lawful, gathered_formed, items_lawful, segments_left}
+use Rattle.rk_inv_events.proofs.events.Duties.{fits_as, known}
+use Rattle.rk_inv_tablets.specs.merge.Small.{as_merged, merge_in, own_entries}
+use Rattle.rk_inv_tablets.proofs.merge.Heirs.{gathers_from}
+use Rattle.rk_inv_events.specs.copies.Small.{awaits, copy_message, next_after}
+use Rattle.rk_inv_events.proofs.copies.GatheringRow.{gathering_row}
+use Rattle.rk_inv_events.proofs.copies.Gathers.{gathers, sound_with_copy}
+use Rattle.rk_inv_events.proofs.copies.Merges.{last_is}
+use Rattle.rk_inv_lanes.specs.room.Logged.{IsLogged}
+use Rattle.rk_inv_lanes.proofs.room.CopiesWritten.{IsWritten, copies_written, written_logged}
+
+-- what a rebuild copies when it takes its last Copy: items that are logged, each key once; and how many bytes its master has then
+pub record CopiesLogged (w : World) (master : ℕ) (copy : CopySegment) : Type 0 where
+  pub copies : List Held
+  pub apart : IsStrictlySortedBy item_cmp copies
+  pub logged : All (IsLogged w) copies
+  pub bytes : log_bytes (copy_taken (master_at w master) copy).master ≤ log_bytes (master_at w master) + sum_by spelled_of copies + LONGEST_LEFT
+
+-- ---- bytes
+
+-- items that are appended have their bytes
+all_bytes : (items : List Held) (master : Master) → log_bytes (with_all master (as_entries items)) ≡ log_bytes master + items_bytes items
+all_bytes [] master = omega (arith, none_bytes)
+all_bytes (item ∷ items) master =
+    omega (
+      arith,
+      all_bytes items (with_appended master (entries.Held item)),
+      bytes_appended master (entries.Held item),
+      held_spelled item,
+      first_bytes item items,
+    )
+
+-- they leave the tablets as they are
+all_tablets : (list : List Entry) (master : Master) → (with_all master list).tablets ≡ master.tablets
+all_tablets [] master = refl
+all_tablets (entry ∷ list) master = all_tablets list (with_appended master entry)
+
+-- what is merged has the bytes of its copies, and the entry that closes the rebuild
+merged_bytes : (id : ℕ) (master : Master) (merged : Merged) (handover : Handover) → IsInOrder master.tablets
+    → length (ends_of (completions_from [] merged.ends)) ≤ MOST_CLIENTS + MOST_BASE_CLIENTS
+    → log_bytes (rebuild_merged master id (tablet_at master id) merged handover) ≤ log_bytes master + items_bytes merged.copies + LONGEST_LEFT
+merged_bytes id master merged handover order few =
+    let it = tablet_at master id in
+    let copied = with_all master (as_entries merged.copies) in
+    let closed = with_appended copied (rebuilt_entry it merged) in
+    let same : copied.tablets ≡ master.tablets = all_tablets (as_entries merged.copies) master in
+    omega (
+      arith,
+      all_bytes merged.copies master,
+      bytes_appended copied (rebuilt_entry it merged),
+      bytes_put closed id (with_merged it merged handover) (subst (λ (tablets : NumberMap Tablet). IsInOrder tablets) (sym same) order),
+      ap (λ (tablets : NumberMap Tablet). unsealed_bytes (get_or no_tablet tablets id)) same,
+      carried_fits
+          (record { range = it.handover.range; term = it.handover.term; floor = merged.floor; ends = ends_of (completions_from [] merged.ends) })
+          few,
+    )
+
+-- nothing is copied where there are no more bytes than before
+none_copied : (w : World) (master : ℕ) (copy : CopySegment) → log_bytes (copy_taken (master_at w master) copy).master ≤ log_bytes (master_at w master)
+    → CopiesLogged w master copy
+unfolding IsStrictlySortedBy
+none_copied w master copy few = record { copies = []; apart = tt; logged = All-nil (IsLogged w); bytes = omega (arith, few) }
+
+-- ---- a Copy
+
+module _ (w : World) (number backup master : ℕ) (copy : CopySegment) (sound : IsSound w) (formed : IsWellFormed w) (room : HasRoom w)
+    (is_there : IsMaster w.coordinator.masters master) (lives : has_crashed w master ≡ false)
+    (there : get w.wire.messages number ≡ Some (copy_message backup master copy)) where
+  abbrev tablet : ℕ
+  tablet = copy.tenure.tablet
+
+  abbrev kept : Tablet
+  kept = tablet_in w master copy.tenure.tablet
+
+  -- the master once the segment is gathered, and its tablet then
+  abbrev now : Master
+  now = segment_gathered (master_at w master) copy
+
+  here : tablet_at now tablet ≡ with_gathered kept copy
+  here = tablet_here (master_at w master) tablet (with_gathered kept copy)
+
+  -- what it merges of a tablet
+  abbrev made : Tablet → Merged
+  made t = merge (own_material now t) (by_member t.gather (own_material now t))
+
+  says : IsFormedCopy (limits_of w) copy
+  says = (formed.wire.each number (copy_message backup master copy) there).says
+
+  own_formed : IsFormedMaster (limits_of w) master (master_at w master)
+  own_formed = master_of w master is_there formed
+
+  -- what is gathered has no bytes in the log
+  gathered_bytes : log_bytes now ≡ log_bytes (master_at w master)
+  gathered_bytes = omega (arith, bytes_put (master_at w master) tablet (with_gathered kept copy) own_formed.tablets_order)
+
+  module _ (awaited : awaits (master_at w master) copy ≡ true) where
+    -- what is seen of the lane then
+    abbrev v : View
+    v = record (view w) { gathers = put2 (view w).gathers master tablet (with_gathered kept copy).gather }
+
+    sound_then : SoundView v
+    sound_then =
+        subst SoundView (view_gathered w master tablet (with_gathered kept copy).gather)
+        (sound_with_copy w number backup master copy sound lives there awaited)
+
+    -- what it gathered of the tablet
+    gather_is : (r : ℕ) → r ≡ tablet → v.gathers master r ≡ (with_gathered kept copy).gather
+    gather_is r its = put2_here (view w).gathers master tablet (with_gathered kept copy).gather master r refl its
+
+    -- of no member more main segments than there can be
+    few : All (λ gathered. length gathered.main ≤ LAST_MAIN_SEGMENT) (with_gathered kept copy).gather.members
+    few =
+        All-weaker (IsFormedGathered (limits_of w)) (λ gathered. length gathered.main ≤ LAST_MAIN_SEGMENT) (λ gathered its. its.few)
+        (with_gathered kept copy).gather.members
+        (read_formed (limits_of w) kept.gather.members copy.master copy.segment copy.bytes says.spelled (gathered_formed w formed room master tablet))
+
+    -- the copies for the tablet are written
+    written : All (IsWritten v.written) (merge_in v master tablet).copies
+    written =
+        at (row_of v.rows tablet) refl (known v sound_then master tablet (ap not lives) (roles.Rebuilding role.0 None) role.1 refl)
+      where
+        role : (from : ℕ) × (kept.handover.role ≡ roles.Rebuilding from None)
+        role = gathers_from kept.handover.role (gathers w number backup master copy sound lives there awaited).0
+
+        at : (found : Option Row) → row_of v.rows tablet ≡ found → is_some found ≡ true
+            → All (IsWritten v.written) (merge_in v master tablet).copies
+        at None found some = absurd (cc some)
+        at (Some row) found some =
+            let stands : Contains v.rows row = found_stands v.rows tablet row found in
+            let number_is : row.tablet ≡ tablet = number_of v.rows tablet row found in
+            let its = gathering_row master role.0 row.term kept.handover.term (v.written master).applied row.phase
+            (fits_as v sound_then master tablet (ap not lives) (roles.Rebuilding role.0 None) role.1 row stands (sym number_is)) in
+            subst (λ (n : ℕ). All (IsWritten v.written) (merge_in v master n).copies) number_is
+            (copies_written v sound_then
+            (record { entries = entries_lawful w formed room; items = items_lawful w formed room; room = segments_left w formed room })
+            row stands its.lineage master its.phase_is (ap (λ (n : ℕ). (v.handovers master n).term) number_is ∙ its.term_is)
+            (subst (λ (gather : Gather). All (λ gathered. length gathered.main ≤ LAST_MAIN_SEGMENT) gather.members)
+            (sym (gather_is row.tablet number_is)) few))
+
+    -- and so they are logged
+    logged : All (IsLogged w) (made (with_gathered kept copy)).copies
+    logged =
+        All-weaker (IsWritten (view w).written) (IsLogged w) (written_logged w) (made (with_gathered kept copy)).copies
+        (subst
+        (λ (gather : Gather). All (IsWritten (view w).written) (merge (own_entries v master tablet) (by_member gather (own_entries v master tablet))).copies)
+        (gather_is tablet refl) written)
+
+    now_formed : IsFormedMaster (limits_of w) master now
+    now_formed = formed_gathered (limits_of w) master (master_at w master) copy says (first_holds _ _ awaited) own_formed
+
+    -- something is left to read, or all is merged
+    by_next : (next : Option Reading) → next_after (master_at w master) copy ≡ next → CopiesLogged w master copy
+    by_next (Some reading) is =
+        let goes_on : copy_taken (master_at w master) copy ≡ changed now =
+        cond-true (awaits (master_at w master) copy) (rebuild_goes_on now tablet) (changed (master_at w master)) awaited
+        ∙ ap (λ (next : Option Reading). rebuilding_on now tablet next) (ap (λ (t : Tablet). next_reading t.gather) here ∙ is) in
+        none_copied w master copy (omega (arith, ap (λ (worked : Worked). log_bytes worked.master) goes_on, gathered_bytes))
+    by_next None is =
+        let merged : Merged = made (tablet_at now tablet) in
+        let own : List Entry = own_material now (tablet_at now tablet) in
+        let read : List Held = items_of (read_all (by_member (tablet_at now tablet).gather own)) in
+        let moved : Handover = as_merged (length (with_all now (as_entries merged.copies)).log.entries) merged.floor (tablet_at now tablet).handover in
+        let ends = (merge_formed (limits_of w) master now tablet (one_stood (limits_of w) copy.tenure.term says.tenure.term) now_formed).told in
+        record {
+          copies = merged.copies;
+          apart =
+              IsStrictlySortedBy-filter item_cmp (λ item. not (has_version (items_of own) item)) (newest_items read) (newest_items_are read).order;
+          logged = subst (λ (t : Tablet). All (IsLogged w) (made t).copies) (sym here) logged;
+          bytes =
+              omega (
+                arith,
+                ap (λ (worked : Worked). log_bytes worked.master) (last_is w number backup master copy sound lives there awaited is),
+                merged_bytes tablet now merged moved now_formed.tablets_order (few_ends (limits_of w) merged.ends (formed_limits w formed room) ends),
+                gathered_bytes,
+                items_spelled merged.copies,
+                sum-map spelled_of merged.copies,
+              );
+        }
+
+  -- where it does not await the Copy it copies nothing
+  taken_logged : (awaited : Bool) → awaits (master_at w master) copy ≡ awaited → CopiesLogged w master copy
+  taken_logged true is = by_next is (next_after (master_at w master) copy) refl
+  taken_logged false is =
+      let same : copy_taken (master_at w master) copy ≡ changed (master_at w master) =
+      cond-false (awaits (master_at w master) copy) (rebuild_goes_on now tablet) (changed (master_at w master)) is in
+      none_copied w master copy (omega (arith, ap (λ (worked : Worked). log_bytes worked.master) same))
+
+-- so it is with each Copy that reaches a living master
+pub copy_logged : (w : World) (number backup master : ℕ) (copy : CopySegment) → IsSound w → IsWellFormed w → HasRoom w
+    → IsMaster w.coordinator.masters master → has_crashed w master ≡ false
+    → get w.wire.messages number ≡ Some (copy_message backup master copy) → CopiesLogged w master copy
+copy_logged w number backup master copy sound formed room is_there lives there =
+    taken_logged w number backup master copy sound formed room is_there lives there (awaits (master_at w master) copy) refl

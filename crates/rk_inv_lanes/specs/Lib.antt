@@ -1,0 +1,5 @@
+pub mod room
+pub mod late
+pub mod stands
+pub mod wires
+pub mod applied

@@ -1,0 +1,290 @@
+-- What a rebuild gathered of a member, once nothing is left to read of it: first entries of its log, as many as are applied and all that
+-- is needed, and each side segment that these name, whole.
+use Rattle.std.proofs.Common.{◌≡◌, ℕ, zero, suc, ◌+◌, ◌-◌, ◌<◌, ◌≤◌, Bool, true, false, cond, List, [], ◌∷◌, ◌++◌, length, get_or, map, max}
+use Rattle.std.proofs.Common.{Option, Some, None, refl, sym, ap, subst, ◌∙◌, ⊎_elim, arith, length-append, ◌==◌, IfSome, drop, find}
+use Rattle.std.proofs.Common.{is_some, nat_lt, not, slice_get, unwrap_or, All, Contains, flat_map, eq-eqb, eqb-true, lt-ltb, le-ltb}
+use Rattle.std.proofs.Common.{leb-true, append-nil}
+use Rattle.rk_inv_base.proofs.Words.{cases_lt, cond-false, cond-true, cond_both, false≢true, All-contains, All-map, recursion_from_All}
+use Rattle.rk_inv_base.proofs.Words.{prefix_len-le-length, get_or_from_slice_get, slice_get-get_or, slice_get_within, list_all}
+use Rattle.rk_inv_base.proofs.Words.{option_map_or, get, meets, Held, Range, NumberedBytes, all_again, entries_of, spelled_all}
+use Rattle.rk_inv_base.proofs.Words.{IsLawfulEntry, IsLawfulHeld, Entry, FIRST_SIDE_SEGMENT, list_all_each, cut, ends, Known, is_whole}
+use Rattle.rk_inv_base.proofs.Words.{known_length, nothing, IsBackup, Log, bytes_of, is_held, is_side_stored, known_of, segment_of}
+use Rattle.rk_inv_base.proofs.Words.{side_segments, EntryEnd, Gathered, LAST_MAIN_SEGMENT, next_segment, side_read, as_entries, named}
+use Rattle.rk_inv_base.proofs.Words.{named_by, side_entries, Written, IsCopy, IsFirstPart, IsLog, is_main, segments_in, AreRead, IsGathered}
+use Rattle.rk_inv_base.proofs.Words.{IsReadPart, READ_BACKUP}
+use Rattle.rk_entry.specs.declared.entry.Entry.TheVariants as entries
+use Rattle.rk_log.proofs.Cuts.{ends_within}
+use Rattle.rk_log.proofs.LogLaws.{committed_held}
+use Rattle.rk_world.specs.Gather.{main_entries, next_side}
+use Rattle.rk_inv_base.proofs.rows.Apart.{contains_cases}
+use Rattle.rk_inv_base.proofs.logs.Logs.{first_part_more}
+use Rattle.rk_inv_base.proofs.views.Needed.{end_some}
+use Rattle.rk_inv_base.proofs.logs.Segments.{bytes_in, bytes_main, bytes_side, numbered_at, numbered_past}
+use Rattle.rk_inv_tablets.proofs.crash.Among.{named_from, place_there, stands_front}
+use Rattle.rk_inv_tablets.proofs.crash.FirstRead.{AreFirstStored, IsPartRead, read_none}
+use Rattle.rk_inv_tablets.proofs.crash.Groups.{cut_groups, spelled_none}
+use Rattle.rk_inv_tablets.proofs.crash.LogRead.{all_at, all_groups, main_read, side_number}
+use Rattle.rk_inv_tablets.proofs.crash.ReadTold.{stands_there}
+use Rattle.rk_inv_logs.proofs.read.ReadMain.{reached}
+
+-- ---- lists
+
+-- where nothing is found each misses
+pub none_of : {X : Type 0} (p : X → Bool) (xs : List X) → find p xs ≡ None → (x : X) → Contains xs x → p x ≡ false
+none_of p [] none x at = absurd (omega (arith, at.1))
+none_of {X} p (y ∷ xs) none x at =
+    cond_both (p y) (Some y) (find p xs) (λ (found : Option X). found ≡ None → p x ≡ false) (λ e is. absurd (cc is))
+    (λ e is.
+    ⊎_elim (λ (same : y ≡ x). ap p (sym same) ∙ e) (λ (later : Contains xs x). none_of p xs is x later) (contains_cases y xs x at)) none
+
+-- a first part that is as long as the whole is the whole
+pub whole_part : (whole bytes more : List ℕ) → whole ≡ bytes ++ more → length whole ≤ length bytes → bytes ≡ whole
+whole_part whole bytes [] is enough = sym (is ∙ append-nil bytes)
+whole_part whole bytes (x ∷ more) is enough = absurd (omega (arith, enough, ap length is, length-append bytes (x ∷ more)))
+
+-- the segments that an entry names for a range are among those that it names
+pub named_in : (range : Range) (entry : Entry) (n : ℕ) → Contains (named_by range entry) n → Contains (segments_in entry) n
+named_in range (entries.Joined joined) n =
+    cond_both (meets joined.range range) joined.segments [] (λ numbers. Contains numbers n → Contains joined.segments n) (λ e at. at)
+    (λ e at. absurd (omega (arith, at.1)))
+named_in range (entries.Held held) n = λ at. at
+named_in range (entries.Refused refused) n = λ at. at
+named_in range (entries.Carried carried) n = λ at. at
+
+-- ---- bytes of groups
+
+spelled_at : (groups : List (List Entry)) (k : ℕ) → get_or (map spelled_all groups) k [] ≡ spelled_all (get_or groups k [])
+spelled_at [] k = sym spelled_none
+spelled_at (group ∷ groups) zero = refl
+spelled_at (group ∷ groups) (suc k) = spelled_at groups k
+
+items_at : (sides : List (List Held)) (k : ℕ) → get_or (map (λ (items : List Held). spelled_all (as_entries items)) sides) k [] ≡ spelled_all (as_entries (get_or sides k []))
+items_at [] k = sym spelled_none
+items_at (items ∷ sides) zero = refl
+items_at (items ∷ sides) (suc k) = items_at sides k
+
+module _ (log : Log) (w : Written) (stored : ℕ → ℕ → List ℕ) (kept : IsLog log w stored) (backed : IsBackup log READ_BACKUP) (few : length (cut log.entries) < FIRST_SIDE_SEGMENT) where
+  abbrev its : ℕ → List ℕ
+  its = stored READ_BACKUP
+
+  abbrev known : Known
+  known = known_of log READ_BACKUP
+
+  copy : IsCopy log (stored READ_BACKUP) (known_of log READ_BACKUP)
+  copy = kept.copies READ_BACKUP backed
+
+  module _ (Needed : EntryEnd → Type 0) (gathered : Gathered) (read : IsGathered Needed (known_of log READ_BACKUP) (stored READ_BACKUP) gathered) where
+    -- ---- main segments
+
+    abbrev pub main : List Entry
+    main = flat_map (λ (list : List Entry). list) gathered.main
+
+    -- the end of an entry is reached, where it is in what is read of its segment
+    abbrev IsReached : EntryEnd → Type 0
+    IsReached end = (bytes : List ℕ) → IsReadPart Needed known its end.segment bytes → end.offset ≤ length bytes
+
+    -- what is known to be stored of a segment, or reached
+    abbrev reach_of : EntryEnd → ℕ → ℕ
+    reach_of end n = max (known_length known n) (cond (n == end.segment) end.offset 0)
+
+    group_of : (k segment : ℕ) → 1 + k ≡ segment → segment < FIRST_SIDE_SEGMENT → (groups : List (List Entry)) → cut log.entries ≡ map spelled_all groups → bytes_of log segment ≡ spelled_all (get_or groups k [])
+    group_of k segment is main groups are =
+        let at : segment - 1 ≡ k = omega (arith, is) in
+        bytes_main log segment (omega (arith, is)) main
+        ∙ ap (λ (n : ℕ). get_or (cut log.entries) n []) at
+        ∙ ap (λ (segments : List (List ℕ)). get_or segments k []) are
+        ∙ spelled_at groups k
+
+    reach_within : (end : EntryEnd) → IsReached end → (segment : ℕ) (bytes : List ℕ) → IsReadPart Needed known its segment bytes → reach_of end segment ≤ length bytes
+    reach_within end reached segment bytes part =
+        let known_part = part.enough in
+        cond_both (segment == end.segment) end.offset 0 (λ n. max (known_length known segment) n ≤ length bytes)
+        (λ e.
+        let same : segment ≡ end.segment = eqb-true segment end.segment e in
+        let enough = reached bytes (subst (λ (n : ℕ). IsReadPart Needed known its n bytes) same part) in
+        omega (arith, known_part, enough))
+        (λ e. omega (arith, known_part))
+
+    part_read : length gathered.main ≤ LAST_MAIN_SEGMENT → (end : EntryEnd) → IsReached end → (groups : List (List Entry)) → cut log.entries ≡ map spelled_all groups → (k segment : ℕ) → 1 + k ≡ segment → k < length gathered.main → IsPartRead (reach_of end) its segment (get_or groups k []) (get_or gathered.main k [])
+    part_read fits end reached groups are k segment is within =
+        let at : k + 1 ≡ segment = omega (arith, is) in
+        let main : segment < FIRST_SIDE_SEGMENT = omega (arith, is, within, fits) in
+        let one : AreRead Needed known its segment (get_or gathered.main k []) =
+        subst (λ (n : ℕ). AreRead Needed known its n (get_or gathered.main k [])) at (read.main k within) in
+        let group = group_of k segment is main groups are in
+        record {
+          bytes = one.bytes;
+          read_is = one.spelled;
+          front = one.read.front;
+          copied = subst (IsFirstPart (its segment)) group (copy.front segment);
+          enough = reach_within end reached segment one.bytes one.read;
+          in_order = λ later behind mains some.
+              let least : length (spelled_all (get_or groups k [])) ≤ known_length known segment =
+              subst (λ (bytes : List ℕ). length bytes ≤ known_length known segment) group
+              (copy.in_order later some segment behind (lt-ltb segment FIRST_SIDE_SEGMENT main ∙ sym mains)) in
+              omega (arith, least);
+        }
+
+    -- an entry that ends within what was read of its segment was read
+    pub end_read : length gathered.main ≤ LAST_MAIN_SEGMENT → All IsLawfulEntry log.entries → (place : ℕ) (end : EntryEnd) → slice_get (ends log.entries) place ≡ Some end → 1 ≤ end.offset → end.segment ≤ length gathered.main → IsReached end → place < length (flat_map (λ list. list) gathered.main)
+    end_read fits lawful place end at some within is_reached =
+        let groups = cut_groups log.entries in
+        let reach : end.offset ≤ reach_of end end.segment =
+        subst (λ (n : ℕ). end.offset ≤ max (known_length known end.segment) n)
+        (sym (cond-true (end.segment == end.segment) end.offset 0 (eq-eqb end.segment end.segment refl))) (omega arith) in
+        reached (reach_of end) its 1 groups.groups gathered.main
+        (all_groups IsLawfulEntry groups.groups (subst (All IsLawfulEntry) (sym groups.list_is) lawful))
+        (part_read fits end is_reached groups.groups groups.spelled_are)
+        (λ n below. lt-ltb n FIRST_SIDE_SEGMENT (omega (arith, below, fits)))
+        place end (subst (λ (places : List EntryEnd). slice_get places place ≡ Some end) (sym groups.places_are) at) some
+        (omega (arith, within)) reach
+
+    -- the end of an entry is in a main segment, and not where that begins
+    record IsMainEnd (end : EntryEnd) : Type 0 where
+      some : 1 ≤ end.offset
+      first : 1 ≤ end.segment
+      main : is_main end.segment ≡ true
+
+    end_is : (place : ℕ) (end : EntryEnd) → slice_get (ends log.entries) place ≡ Some end → IsMainEnd end
+    end_is place end at =
+        let within : place < length (ends log.entries) = slice_get_within (ends log.entries) place end at in
+        let same : get_or (ends log.entries) place end ≡ end = get_or_from_slice_get (ends log.entries) place end end at in
+        let segments = ends_within [] log.entries place end within in
+        let last : end.segment ≤ length (cut log.entries) = subst (λ (e : EntryEnd). e.segment ≤ length (cut log.entries)) same segments.1 in
+        record {
+          some = subst (λ (e : EntryEnd). 1 ≤ e.offset) same (end_some [] log.entries place end (λ k h. absurd (omega arith)) within);
+          first = subst (λ (e : EntryEnd). 1 ≤ e.segment) same segments.0;
+          main = lt-ltb end.segment FIRST_SIDE_SEGMENT (omega (arith, last, few));
+        }
+
+    module _ (fits : length gathered.main ≤ LAST_MAIN_SEGMENT) (lawful : All IsLawfulEntry log.entries) (passed : gathered.main_read ≡ true) where
+      -- what is known to be stored is in what was read
+      known_read : (place : ℕ) (end : EntryEnd) → slice_get (ends log.entries) place ≡ Some end → end.offset ≤ known_length known end.segment → place < length (flat_map (λ list. list) gathered.main)
+      known_read place end at is_known =
+          let is = end_is place end at in
+          end_read fits lawful place end at is.some
+          (⊎_elim
+          (λ (beyond : length gathered.main < end.segment).
+          let none = read.passed passed end.segment beyond is.main in
+          let some = is.some in absurd (omega (arith, none, is_known, some)))
+          (λ (within : end.segment ≤ length gathered.main). within)
+          (cases_lt (length gathered.main) end.segment))
+          (λ bytes part. let enough = part.enough in omega (arith, enough, is_known))
+
+      -- so what is applied was read
+      pub applied_read : w.applied ≤ length (flat_map (λ list. list) gathered.main)
+      applied_read =
+          ⊎_elim
+          (λ (fewer : length main < w.applied).
+          let held = kept.held in
+          let count = prefix_len-le-length (is_held log.known) (ends log.entries) in
+          let place : ℕ = length main in
+          let there = slice_get-get_or (ends log.entries) place (record { segment = 0; offset = 0 }) (omega (arith, fewer, held, count)) in
+          let end : EntryEnd = get_or (ends log.entries) place (record { segment = 0; offset = 0 }) in
+          let holds : end.offset ≤ known_length known end.segment =
+          subst (λ (o : Option EntryEnd). IfSome o (λ end. end.offset ≤ known_length (known_of log READ_BACKUP) end.segment)) there (committed_held log place READ_BACKUP (omega (arith, fewer, held)) backed) in
+          let more = known_read place end there holds in
+          absurd (omega (arith, more)))
+          (λ (enough : w.applied ≤ length main). enough)
+          (cases_lt (length main) w.applied)
+
+      -- and what is needed was
+      pub needed_read : (place : ℕ) (end : EntryEnd) → slice_get (ends log.entries) place ≡ Some end → Needed end → place < length (flat_map (λ list. list) gathered.main)
+      needed_read place end at needed =
+          let is = end_is place end at in
+          end_read fits lawful place end at is.some (read.passed_needed passed end needed is.main) (λ bytes part. part.needed end needed refl)
+
+      -- what was read are first entries of the log
+      firsts : AreFirstStored (stored READ_BACKUP) log.entries (ends log.entries) (flat_map (λ list. list) gathered.main)
+      firsts = main_read log w stored kept backed few Needed gathered read fits lawful
+
+      pub main_first : (more : List Entry) × (w.entries ≡ flat_map (λ list. list) gathered.main ++ more)
+      main_first = (firsts.more, sym kept.entries_are ∙ firsts.parts)
+
+      -- ---- side segments
+
+      -- a side segment that is stored has its bytes at its place
+      side_at : (number : ℕ) → is_side_stored log number ≡ true → FIRST_SIDE_SEGMENT ≤ number → number - FIRST_SIDE_SEGMENT < length log.sides
+      side_at number stands side =
+          ⊎_elim
+          (λ (within : number - FIRST_SIDE_SEGMENT < length log.sides). within)
+          (λ (past : length log.sides ≤ number - FIRST_SIDE_SEGMENT).
+          absurd (false≢true
+          (sym (ap (λ (found : Option NumberedBytes). option_map_or (λ segment. list_all (λ known. is_whole known segment) log.known) found false)
+          (numbered_past number FIRST_SIDE_SEGMENT log.sides (omega (arith, past, side))))
+          ∙ stands)))
+          (cases_lt (number - FIRST_SIDE_SEGMENT) (length log.sides))
+
+      -- what was read of a side segment that every backup is known to hold is all of it
+      pub side_whole : All IsLawfulHeld (flat_map (λ items. items) w.sides) → (number : ℕ) → is_side_stored log number ≡ true → (list : List Entry) → get gathered.sides number ≡ Some list → list ≡ side_entries w.sides number
+      side_whole lawful_items number stands list is =
+          let side : FIRST_SIDE_SEGMENT ≤ number = side_number log w stored kept backed few Needed gathered read number stands in
+          let k : ℕ = number - FIRST_SIDE_SEGMENT in
+          let within : k < length log.sides = side_at number stands side in
+          let bytes : List ℕ = get_or log.sides k [] in
+          let found : segment_of number (side_segments log) ≡ Some (record { number = number; bytes = bytes }) =
+          numbered_at number FIRST_SIDE_SEGMENT k log.sides (omega (arith, side)) within in
+          let all_hold : list_all (λ (known : Known). is_whole known (record { number = number; bytes = bytes })) log.known ≡ true =
+          ap (λ (o : Option NumberedBytes). option_map_or (λ segment. list_all (λ known. is_whole known segment) log.known) o false) (sym found) ∙ stands in
+          let first = backed.first in
+          let last = backed.last in
+          let holds : length bytes ≤ known_length known number =
+          leb-true (length bytes) (known_length known number)
+          (list_all_each (λ (known : Known). is_whole known (record { number = number; bytes = bytes })) log.known (READ_BACKUP - 1) nothing all_hold (omega (arith, first, last))) in
+          let one = read.sides number list is in
+          let bytes_are : bytes_of log number ≡ bytes = bytes_side log number few side ∙ ap bytes_in found in
+          let items : List Held = get_or w.sides k [] in
+          let spelt : bytes ≡ spelled_all (as_entries items) = ap (λ (sides : List (List ℕ)). get_or sides k []) kept.spelled ∙ items_at w.sides k in
+          let part = first_part_more one.bytes (its number) (bytes_of log number) one.read.front (copy.front number) in
+          let enough = one.read.enough in
+          let same : one.bytes ≡ bytes =
+          whole_part bytes one.bytes part.more (sym bytes_are ∙ part.parts) (omega (arith, holds, enough)) in
+          let lawful_list : All IsLawfulEntry (as_entries items) =
+          All-map IsLawfulEntry entries.Held items (all_at IsLawfulHeld w.sides k (all_groups IsLawfulHeld w.sides lawful_items)) in
+          let its_entries : side_entries w.sides number ≡ as_entries items =
+          cond-false (nat_lt number FIRST_SIDE_SEGMENT) [] (as_entries items) (le-ltb number FIRST_SIDE_SEGMENT side) in
+          one.spelled ∙ ap entries_of (same ∙ spelt ∙ sym (append-nil (spelled_all (as_entries items))))
+          ∙ all_again (as_entries items) [] (recursion_from_All IsLawfulEntry (as_entries items) lawful_list)
+          ∙ ap (λ (l : List Entry). as_entries items ++ l) read_none ∙ append-nil (as_entries items)
+          ∙ sym its_entries
+
+      -- the side segments that what was read names were read
+      named_read : (range : Range) → next_side range gathered ≡ None → (number : ℕ) → Contains (named range (main_entries gathered)) number → (list : List Entry) × (get gathered.sides number ≡ Some list)
+      named_read range none number at = go (get gathered.sides number) refl (none_of (λ (segment : ℕ). not (is_some (get gathered.sides segment))) (named range (main_entries gathered)) none number at)
+        where
+          go : (found : Option (List Entry)) → get gathered.sides number ≡ found → not (is_some found) ≡ false → (list : List Entry) × (get gathered.sides number ≡ Some list)
+          go None is missing = absurd (false≢true (sym missing))
+          go (Some list) is missing = (list, is)
+
+      pub sides_read : All IsLawfulHeld (flat_map (λ items. items) w.sides) → (range : Range) → next_side range gathered ≡ None → (number : ℕ) → Contains (named range (main_entries gathered)) number → side_read gathered number ≡ side_entries w.sides number
+      sides_read lawful_items range none number at =
+          let found = named_read range none number at in
+          let by = named_from range (main_entries gathered) number at in
+          let place = place_there (main_entries gathered) by.0 by.1 in
+          let here : Contains w.entries by.0 = in_log (main_entries gathered) by.0 by.1 in
+          let stands : is_side_stored log number ≡ true =
+          All-contains (λ (segment : ℕ). is_side_stored log segment ≡ true) (segments_in by.0) number
+          (All-contains (λ (e : Entry). All (λ segment. is_side_stored log segment ≡ true) (segments_in e)) w.entries by.0 kept.named here)
+          (named_in range by.0 number by.2) in
+          ap (λ (o : Option (List Entry)). unwrap_or o []) found.1 ∙ side_whole lawful_items number stands found.0 found.1
+        where
+          in_log : (list : List Entry) (entry : Entry) → Contains (main_entries gathered) entry → Contains w.entries entry
+          in_log list entry at =
+              let there = place_there (main_entries gathered) entry at in
+              let place = behind main gathered.member.from there.0 entry there.1 in
+              stands_there w.entries place.0 entry
+              (subst (λ (l : List Entry). slice_get l place.0 ≡ Some entry) (sym main_first.1) (stands_front main main_first.0 place.0 entry place.1))
+            where
+              behind : (xs : List Entry) (from k : ℕ) (x : Entry) → slice_get (drop from xs) k ≡ Some x → (place : ℕ) × (slice_get xs place ≡ Some x)
+              behind xs zero k x at = (k, at)
+              behind [] (suc from) k x at = absurd (cc at)
+              behind (y ∷ xs) (suc from) k x at = let later = behind xs from k x at in (suc later.0, later.1)
+
+-- ---- nothing is left to read
+
+-- of a member of which nothing is left to read the main segments are passed, and no side segment is left
+pub none_left : (range : Range) (gathered : Gathered) → next_segment range gathered ≡ None → (gathered.main_read ≡ true) × (next_side range gathered ≡ None)
+none_left range gathered =
+    cond_both gathered.main_read (next_side range gathered) (Some (length gathered.main + 1))
+    (λ (next : Option ℕ). next ≡ None → (gathered.main_read ≡ true) × (next_side range gathered ≡ None))
+    (λ e none. (e, none)) (λ e none. absurd (cc none))

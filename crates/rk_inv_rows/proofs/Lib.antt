@@ -1,0 +1,3 @@
+pub mod lineage
+pub mod split
+pub mod finished

@@ -1,0 +1,404 @@
+-- What the invariant says of another row, of its lineage and of what is rebuilt and marked of it, stays where the marks of a tablet are
+-- taken away.
+use Rattle.std.proofs.Common.{◌≡◌, ℕ, ◌+◌, ◌≤◌, Bool, true, false, cond, ◌&&◌, eqb, List, [], ◌∷◌, ◌++◌, Option, Some, None, refl, sym, ap}
+use Rattle.std.proofs.Common.{subst, ◌∙◌, ⊎_elim, All, IfSome, drop, filter, nat_le, nat_lt, not, slice_get, take, Contains, flat_map}
+use Rattle.std.proofs.Common.{option_map, eqb-true}
+use Rattle.rk_inv_base.proofs.Words.{and_parts, cases_Bool, false_from_ne_true, false≢true, All-contains, All-filter, All-weaker}
+use Rattle.rk_inv_base.proofs.Words.{IfSome_then, get, meets, Held, Member, Node, Range, Entry, at_hash, batch_at, next_token, Handover}
+use Rattle.rk_inv_base.proofs.Words.{lineage_of, Phase, Moving, Rebuilding, Row, known_of, EntryEnd, BATCH_BYTES, Body, Got, Pulled}
+use Rattle.rk_inv_base.proofs.Words.{CopySegment, items_of, first_of, is_mark_of, is_marked, unmarked, unmarked_from, touches, as_entries}
+use Rattle.rk_inv_base.proofs.Words.{counting, counts, own_place, Written, member_material, member_truth, Mark, Merged, beginning_in}
+use Rattle.rk_inv_base.proofs.Words.{target_truth, stored_of, CopyIn, GotAgrees, IsFromSource, PulledAgrees, SaysOf, HasOwnRange}
+use Rattle.rk_inv_base.proofs.Words.{IsMergedOf, IsOfRange, IsPieceOf, IsRebuilder, MarkFits, MarkedFit, NeededOf, NeedsEnd, READ_BACKUP}
+use Rattle.rk_inv_base.proofs.Words.{RowIsRebuilt, StandsLast, TellNoMore, TellsMore, marked_entries, member_given_up, member_marked}
+use Rattle.rk_inv_base.proofs.Words.{member_stored, merged_place, stored_count, IsTarget, MembersFit, NamedFit, scan_items, FirstIsDone}
+use Rattle.rk_inv_base.proofs.Words.{IsDone, HasItems, IsTableOf, View, SoundView}
+use Rattle.rk_outside.specs.Segments.{bytes_of as copied_bytes}
+use Rattle.rk_entry.specs.declared.entry.Entry.TheVariants as entries
+use Rattle.rk_message.specs.declared.message.Body.TheVariants as bodies
+use Rattle.rk_tablet_map.specs.Phase.{member as member_at}
+use Rattle.rk_sound.specs.Rebuilds.{IsNeeded}
+use Rattle.rk_inv_base.proofs.rows.Apart.{key_outside}
+use Rattle.rk_inv_base.proofs.views.Lists.{all_by}
+use Rattle.rk_inv_base.proofs.logs.MarkedApart.{apart_either, place_of}
+use Rattle.rk_inv_base.proofs.wire.Messages.{if_master}
+use Rattle.rk_inv_base.proofs.logs.Missed.{Misses, none_touches}
+use Rattle.rk_inv_base.proofs.views.Needed.{one_weaker, part_weaker}
+use Rattle.rk_inv_base.proofs.calls.Records.{filter_stands}
+use Rattle.rk_inv_rows.specs.lineage.Small.{marks_taken}
+use Rattle.rk_inv_rows.proofs.lineage.Among.{taken_from}
+use Rattle.rk_inv_rows.proofs.lineage.FewerMarks.{free_counts}
+use Rattle.rk_inv_rows.proofs.lineage.Pieces.{unmarked_place, unmarked_stands}
+use Rattle.rk_inv_rows.proofs.lineage.Untouched.{each_misses}
+use Rattle.rk_inv_rows.proofs.lineage.MarksTaken.{apart, fewer, marked_kept, material_kept, named_kept, rest_kept, silent_apart, taken_of, truth_kept}
+
+-- what is kept by two tests is kept by one that asks for both
+both_kept : {X : Type 0} (p keep : X → Bool) (xs : List X) → ((x : X) → p x ≡ true → keep x ≡ true) → filter p (filter keep xs) ≡ filter p xs
+both_kept p keep [] less = refl
+both_kept {X} p keep (x ∷ xs) less = go (p x) (keep x) refl refl (both_kept p keep xs less)
+  where
+    go : (a b : Bool) → p x ≡ a → keep x ≡ b → filter p (filter keep xs) ≡ filter p xs → filter p (cond b (x ∷ filter keep xs) (filter keep xs)) ≡ cond a (x ∷ filter p xs) (filter p xs)
+    go true true is kept later = ap (λ (b : Bool). cond b (x ∷ filter p (filter keep xs)) (filter p (filter keep xs))) is ∙ ap (λ (l : List X). x ∷ l) later
+    go true false is kept later = absurd (false≢true (sym kept ∙ less x is))
+    go false true is kept later = ap (λ (b : Bool). cond b (x ∷ filter p (filter keep xs)) (filter p (filter keep xs))) is ∙ later
+    go false false is kept later = later
+
+module _ (v : View) (row : Row) (sound : SoundView v) (has_row : Contains v.rows row) (other : Row) (has_other : Contains v.rows other) (unlike : other.tablet ≡ row.tablet → ⊥) (some : other.range.first ≤ other.range.last) where
+  abbrev now : View
+  now = marks_taken v row.tablet row.term
+
+  abbrev old_marks : ℕ → List Mark
+  old_marks q = (v.written q).marks
+
+  abbrev new_marks : ℕ → List Mark
+  new_marks q = (now.written q).marks
+
+  abbrev stays : Mark → Bool
+  stays mark = not (is_mark_of row.tablet row.term mark)
+
+  truth_as : (m : Member) → member_truth now.written other.range m ≡ member_truth v.written other.range m
+  truth_as = truth_kept v row sound has_row other has_other unlike some
+
+  material_as : (m : Member) → member_material now.written other.range m ≡ member_material v.written other.range m
+  material_as = material_kept v row sound has_row other has_other unlike some
+
+  -- ---- lineages
+
+  done_as : (m : Member) → IsDone v.written other.range m → IsDone now.written other.range m
+  done_as m done = record {
+    rest = rest_kept v row sound has_row other has_other unlike some m ∙ done.rest;
+    all = material_as m ∙ done.all ∙ sym (truth_as m);
+  }
+
+  pub done_beside : (l : List Member) → FirstIsDone v.written other.range l → FirstIsDone now.written other.range l
+  done_beside [] done = tt
+  done_beside (only ∷ []) done = tt
+  done_beside (first ∷ last ∷ more) done = done_as first done
+
+  pub named_beside : (l : List Member) → NamedFit v.written other.range l → NamedFit now.written other.range l
+  named_beside [] fit = tt
+  named_beside (only ∷ []) fit = tt
+  named_beside (first ∷ last ∷ []) fit = λ item stands.
+      subst (λ (l : List Entry). Contains (items_of l) item) (sym (truth_as first))
+      (fit item
+      (subst (λ (l : List Held). Contains l item) (named_kept v row sound has_row other has_other unlike some last.master last.from) stands))
+  named_beside (first ∷ last ∷ third ∷ more) fit = tt
+
+  pub target_beside : (phase : Phase) → target_truth now.written v.handed other phase ≡ target_truth v.written v.handed other phase
+  target_beside (Moving source sfrom target dfrom) =
+      ap (λ (t : List Entry). option_map (λ h. beginning_in other h ∷ t) (get v.handed other.tablet)) (truth_as (member_at target dfrom))
+  target_beside _ = refl
+
+  pub items_beside : (records : List Held) → HasItems other v.written records → HasItems other now.written records
+  items_beside records = go (first_of (lineage_of other.phase))
+    where
+      go : (o : Option Member) → IfSome o (λ m. IsTableOf other.range (member_truth v.written other.range m) records) → IfSome o (λ m. IsTableOf other.range (member_truth now.written other.range m) records)
+      go None has = tt
+      go (Some m) has = subst (λ (t : List Entry). IsTableOf other.range t records) (sym (truth_as m)) has
+
+  abbrev TargetIn : (ℕ → Written) → (source target : Member) → List Entry → List Entry → Type 0
+  TargetIn written source target truth material =
+      IsTarget other.range source.master truth material target.from (written target.master) (v.handovers target.master other.tablet)
+      (v.pullings target.master other.tablet) (get v.handed other.tablet) (v.records target.master)
+
+  target_as : (source target : Member) (truth material : List Entry) → TargetIn v.written source target truth material → TargetIn now.written source target truth material
+  target_as source target truth material is = record {
+    from_source = is.from_source;
+    workers = is.workers;
+    pulled = is.pulled;
+    received = is.received;
+    above = is.above;
+    told = is.told;
+    early = is.early;
+    closing = is.closing;
+  }
+
+  abbrev Members : (ℕ → Written) → List Member → Type 0
+  Members written l = MembersFit other written v.handovers v.pullings v.records v.handed l
+
+  pub members_beside : (l : List Member) → Members v.written l → Members now.written l
+  members_beside [] fit = tt
+  members_beside (only ∷ []) fit = tt
+  members_beside (source ∷ target ∷ []) fit = λ granted.
+      subst (λ (t : List Entry). TargetIn now.written source target t (member_material now.written other.range source)) (sym (truth_as source))
+      (subst (TargetIn now.written source target (member_truth v.written other.range source)) (sym (material_as source))
+      (target_as source target (member_truth v.written other.range source) (member_material v.written other.range source) (fit granted)))
+  members_beside (source ∷ target ∷ third ∷ more) fit = tt
+
+  -- ---- what has to be read
+
+  -- a mark of the row's tablet is none of the other's
+  stays_if : (mark : Mark) → mark.tablet ≡ other.tablet → stays mark ≡ true
+  stays_if mark its =
+      ap not
+      (false_from_ne_true (is_mark_of row.tablet row.term mark)
+      (λ of.
+      let tablet = eqb-true mark.tablet row.tablet (and_parts (eqb mark.tablet row.tablet) (nat_le mark.term row.term) of).0 in
+      unlike (sym its ∙ tablet)))
+
+  given_up_as : (m : Member) → member_given_up now.written other m ≡ member_given_up v.written other m
+  given_up_as m =
+      ap
+      (λ (marks : List Mark). counting other.range (marked_entries marks m.from (drop m.from (v.written m.master).entries)))
+      (both_kept (λ mark. (eqb mark.tablet other.tablet) && nat_lt mark.term other.term) stays (old_marks m.master)
+      (λ mark of. stays_if mark (eqb-true mark.tablet other.tablet (and_parts (eqb mark.tablet other.tablet) (nat_lt mark.term other.term) of).0)))
+
+  -- an entry that counts for the other row bore no mark where it bears none
+  free_before : (q place : ℕ) (entry : Entry) → slice_get (v.written q).entries place ≡ Some entry → counts other.range entry ≡ true → is_marked (new_marks q) place ≡ false → is_marked (old_marks q) place ≡ false
+  free_before q place entry at counted free =
+      false_from_ne_true (is_marked (old_marks q) place)
+      (λ was.
+      let between = apart v row sound has_row other has_other unlike some in
+      let silent =
+      silent_apart row.range other.range between (apart_either row.range other.range between) some entry
+      (taken_of v row sound has_row q place entry at was free) in
+      false≢true (sym silent.uncounted ∙ counted))
+
+  -- what counts of a first part is the same
+  first_counted : (q from count : ℕ) → counting other.range (unmarked_from (new_marks q) from (take count (v.written q).entries)) ≡ counting other.range (unmarked_from (old_marks q) from (take count (v.written q).entries))
+  first_counted q from count =
+      free_counts other.range (old_marks q) (new_marks q) from (drop from (take count (v.written q).entries))
+      (fewer v row sound has_row other has_other unlike some q from (take count (v.written q).entries) (taken_from count (v.written q).entries))
+
+  needed_as : (given_up own : List Entry) (q from place : ℕ) (entry : Entry) → IsNeeded other.range given_up own from (now.written q) place entry → IsNeeded other.range given_up own from (v.written q) place entry
+  needed_as given_up own q from place entry is = record {
+    behind = is.behind;
+    stands = is.stands;
+    unmarked = free_before q place entry is.stands is.in_range is.unmarked;
+    in_range = is.in_range;
+    tells = subst (λ (l : List Entry). TellsMore given_up (own ++ l) entry) (first_counted q from place) is.tells;
+  }
+
+  needs_end : (given_up own : List Entry) (q from : ℕ) (end : EntryEnd) → NeedsEnd other.range given_up own from (now.written q) end → NeedsEnd other.range given_up own from (v.written q) end
+  needs_end given_up own q from end is = record {
+    place = is.place;
+    entry = is.entry;
+    needed = needed_as given_up own q from is.place is.entry is.needed;
+    ends_there = is.ends_there;
+  }
+
+  pub needed_beside : (l : List Member) (q : ℕ) (end : EntryEnd) → NeededOf other now.written l q end → NeededOf other v.written l q end
+  needed_beside [] q end none = none
+  needed_beside (only ∷ []) q end none = none
+  needed_beside (first ∷ last ∷ []) q end is = (
+    is.0,
+    subst (λ (own : List Entry). NeedsEnd other.range (member_given_up v.written other first) own last.from (v.written last.master) end)
+        (material_as first)
+        (subst
+        (λ (given_up : List Entry). NeedsEnd other.range given_up (member_material now.written other.range first) last.from (v.written last.master) end)
+        (given_up_as first)
+        (needs_end (member_given_up now.written other first) (member_material now.written other.range first) last.master last.from end is.1)),
+  )
+  needed_beside (first ∷ last ∷ third ∷ more) q end none = none
+
+  -- ---- what is rebuilt, and marked
+
+  stored_as : (m : Member) → member_stored v.logs now.written v.stored other.range m ≡ member_stored v.logs v.written v.stored other.range m
+  stored_as m = first_counted m.master m.from (stored_count (v.logs m.master) (stored_of v.stored m.master READ_BACKUP))
+
+  marked_as : (m : Member) → member_marked now.written other.range m ≡ member_marked v.written other.range m
+  marked_as = marked_kept v row sound has_row other has_other unlike some
+
+  pub marked_fit_beside : (l : List Member) → MarkedFit v.logs v.written v.stored v.live other.range l → MarkedFit v.logs now.written v.stored v.live other.range l
+  marked_fit_beside [] fit = tt
+  marked_fit_beside (only ∷ []) fit = λ dead.
+      subst (TellNoMore (member_marked now.written other.range only)) (sym (material_as only))
+      (subst (λ (l : List Entry). TellNoMore l (member_material v.written other.range only)) (sym (marked_as only)) (fit dead))
+  marked_fit_beside (first ∷ last ∷ more) fit = (
+    λ dead.
+        subst (TellNoMore (member_marked now.written other.range first))
+        (λ i. sym (material_as first) i ++ sym (stored_as last) i)
+        (subst
+        (λ (l : List Entry). TellNoMore l (member_material v.written other.range first ++ member_stored v.logs v.written v.stored other.range last))
+        (sym (marked_as first)) (fit.0 dead)),
+    λ dead.
+        subst (TellNoMore (member_marked now.written other.range last))
+        (λ i. sym (material_as first) i ++ sym (material_as last) i)
+        (subst
+        (λ (l : List Entry). TellNoMore l (member_material v.written other.range first ++ member_material v.written other.range last))
+        (sym (marked_as last)) (fit.1 dead)),
+  )
+
+  -- a mark of the other's tablet stays
+  mark_stands : (q : ℕ) (mark : Mark) → Contains (old_marks q) mark → mark.tablet ≡ other.tablet → Contains (new_marks q) mark
+  mark_stands q mark stands its = filter_stands stays (old_marks q) mark stands (stays_if mark its)
+
+  piece_as : (to from entry : ℕ) (handover : Handover) (merged : Merged) → IsPieceOf other.tablet from handover merged (v.written to) entry → IsPieceOf other.tablet from handover merged (now.written to) entry
+  piece_as to from entry handover merged piece = record {
+    mark = piece.mark;
+    marked = mark_stands to piece.mark piece.marked piece.tablet_is;
+    past_is = piece.past_is;
+    tablet_is = piece.tablet_is;
+    term_is = piece.term_is;
+    behind = piece.behind;
+    alone = All-filter stays (λ mark. mark.tablet ≡ other.tablet → mark ≡ piece.mark) (old_marks to) piece.alone;
+    stands = piece.stands;
+    last = piece.last;
+  }
+
+  abbrev MergedIn : (ℕ → Written) → ℕ → ℕ → List Entry → ℕ → Type 0
+  MergedIn written to from own entry =
+      IsMergedOf other.tablet from own (v.handovers to other.tablet) (v.completions to other.tablet) (v.gathers to other.tablet)
+      (v.merged to other.tablet) (written to) entry
+
+  merged_as : (to from : ℕ) (own : List Entry) (entry : ℕ) → MergedIn v.written to from own entry → MergedIn now.written to from own entry
+  merged_as to from own entry is = record {
+    gathered_all = is.gathered_all;
+    merged = is.merged;
+    merged_is = is.merged_is;
+    ends_are = is.ends_are;
+    piece = piece_as to from entry (v.handovers to other.tablet) is.merged is.piece;
+    counter = is.counter;
+    completions = is.completions;
+  }
+
+  abbrev RebuilderIn : (ℕ → Written) → List Member → ℕ → List Entry → List Entry → Type 0
+  RebuilderIn written l to truth own =
+      IsRebuilder other l to truth own (NeededOf other written l) (λ q. known_of (v.logs q) READ_BACKUP)
+      (λ q. stored_of v.stored q READ_BACKUP) (written to) (v.handovers to other.tablet) (v.completions to other.tablet)
+      (v.gathers to other.tablet) (v.merged to other.tablet) (v.records to)
+
+  rebuilder_as : (l : List Member) (to : ℕ) (truth own : List Entry) → RebuilderIn v.written l to truth own → RebuilderIn now.written l to truth own
+  rebuilder_as l to truth own is =
+      let from : ℕ = own_place (v.handovers to other.tablet).role in
+      record {
+        range_is = is.range_is;
+        gather = is.gather;
+        read =
+            All-weaker _ _
+            (λ gathered.
+            one_weaker (NeededOf other v.written l gathered.member.master) (NeededOf other now.written l gathered.member.master)
+            (known_of (v.logs gathered.member.master) READ_BACKUP) (stored_of v.stored gathered.member.master READ_BACKUP) gathered
+            (needed_beside l gathered.member.master))
+            (v.gathers to other.tablet).members is.read;
+        placed = is.placed;
+        merged =
+            IfSome_then (merged_place (v.handovers to other.tablet).role) is.merged (λ entry. merged_as to from own entry);
+        items = is.items;
+        sides = λ item stands.
+            is.sides item
+            (subst (λ (l : List Held). Contains l item) (named_kept v row sound has_row other has_other unlike some to from) stands);
+        outside = is.outside;
+      }
+
+  abbrev RebuiltIn : (ℕ → Written) → List Entry → Phase → Type 0
+  RebuiltIn written truth phase =
+      RowIsRebuilt other phase truth v.logs written v.stored v.handovers v.completions v.gathers v.merged v.records v.live
+
+  pub rebuilt_beside : (truth : List Entry) (phase : Phase) → RebuiltIn v.written truth phase → RebuiltIn now.written truth phase
+  rebuilt_beside truth (Rebuilding l to) fit =
+      let own : Member = member_at to (own_place (v.handovers to other.tablet).role) in (
+        λ at.
+            subst (RebuilderIn now.written l to truth) (sym (material_as own))
+            (rebuilder_as l to truth (member_material v.written other.range own) (fit.0 at)),
+        marked_fit_beside l fit.1,
+      )
+  rebuilt_beside truth _ fit = tt
+
+  -- an entry of a rebuild of the row does not touch the other one
+  of_misses : (entry : Entry) → IsOfRange row.range entry → touches other.range entry ≡ false
+  of_misses (entries.Held held) of =
+      key_outside other.range row.range held.table held.key
+      (apart_either row.range other.range (apart v row sound has_row other has_other unlike some)) of
+  of_misses (entries.Refused refused) of = absurd of
+  of_misses (entries.Carried carried) of =
+      ap (λ (range : Range). meets range other.range) of ∙ apart v row sound has_row other has_other unlike some
+  of_misses (entries.Joined joined) of = absurd of
+
+  -- so a piece of the other still stands last
+  last_as : (q : ℕ) (mark : Mark) → StandsLast other.range (v.written q) mark → StandsLast other.range (now.written q) mark
+  last_as q mark last =
+      let list : List Entry = drop mark.first (v.written q).entries in
+      let missed : All (Misses other.range) (unmarked (old_marks q) mark.first list) =
+      each_misses other.range (unmarked (old_marks q) mark.first list) last in
+      none_touches other.range (unmarked (new_marks q) mark.first list)
+      (all_by (Misses other.range) (unmarked (new_marks q) mark.first list)
+      (λ entry stands.
+      let is = unmarked_place (new_marks q) mark.first list entry stands in
+      ⊎_elim
+      (λ (was : is_marked (old_marks q) (mark.first + is.k) ≡ true).
+      of_misses entry
+      (taken_of v row sound has_row q (mark.first + is.k) entry
+      (place_of (v.written q).entries mark.first is.k (mark.first + is.k) entry refl is.at) was is.free))
+      (λ (free : is_marked (old_marks q) (mark.first + is.k) ≡ false).
+      All-contains (Misses other.range) (unmarked (old_marks q) mark.first list) entry missed
+      (unmarked_stands (old_marks q) mark.first is.k list entry is.at free))
+      (cases_Bool (is_marked (old_marks q) (mark.first + is.k)))))
+
+  abbrev MarkIn : (ℕ → Written) → ℕ → Mark → Type 0
+  MarkIn written q mark =
+      mark.tablet ≡ other.tablet → MarkFits other q (v.handovers q other.tablet) (v.live q) (written q) mark
+
+  pub marks_beside : (q : ℕ) → All (MarkIn v.written q) (old_marks q) → All (MarkIn now.written q) (new_marks q)
+  marks_beside q all =
+      All-filter stays (MarkIn now.written q) (old_marks q)
+      (All-weaker (MarkIn v.written q) (MarkIn now.written q)
+      (λ mark fits its.
+      let was = fits its in
+      record {
+        rebuilt = was.rebuilt;
+        within = was.within;
+        present = was.present;
+        by_rebuilder = was.by_rebuilder;
+        behind = last_as q mark was.behind;
+      })
+      (old_marks q) all)
+
+  pub pieces_beside : (q : ℕ) → All (λ mark. mark.tablet ≡ other.tablet → HasOwnRange other.range (v.written q).entries mark) (old_marks q) → All (λ mark. mark.tablet ≡ other.tablet → HasOwnRange other.range (v.written q).entries mark) (new_marks q)
+  pieces_beside q all =
+      All-filter stays (λ mark. mark.tablet ≡ other.tablet → HasOwnRange other.range (v.written q).entries mark) (old_marks q) all
+
+  -- ---- messages
+
+  abbrev Pulls : (ℕ → Written) → List Member → Node → ℕ → Pulled → Type 0
+  Pulls written l from q message = PulledAgrees other written v.handovers v.live l from q message
+
+  pulled_as : (l : List Member) (from : Node) (q : ℕ) (message : Pulled) → Pulls v.written l from q message → Pulls now.written l from q message
+  pulled_as [] from q message agrees = tt
+  pulled_as (only ∷ []) from q message agrees = tt
+  pulled_as (source ∷ target ∷ []) from q message agrees = λ here lives is.
+      subst
+      (λ (t : List Entry). IsFromSource source from (as_entries (batch_at message.token BATCH_BYTES (scan_items t))) message.entries
+      × (message.next ≡ next_token message.token BATCH_BYTES (scan_items t)))
+      (sym (truth_as source)) (agrees here lives is)
+  pulled_as (source ∷ target ∷ third ∷ more) from q message agrees = tt
+
+  abbrev Gets : (ℕ → Written) → List Member → Node → ℕ → Got → Type 0
+  Gets written l from q message = GotAgrees other written v.handovers v.live l from q message
+
+  got_as : (l : List Member) (from : Node) (q : ℕ) (message : Got) → Gets v.written l from q message → Gets now.written l from q message
+  got_as [] from q message agrees = tt
+  got_as (only ∷ []) from q message agrees = tt
+  got_as (source ∷ target ∷ []) from q message agrees = λ here lives is.
+      subst
+      (λ (t : List Entry).
+      IsFromSource source from (as_entries (flat_map (λ hash. at_hash hash (scan_items t)) message.hashes)) message.entries)
+      (sym (truth_as source)) (agrees here lives is)
+  got_as (source ∷ target ∷ third ∷ more) from q message agrees = tt
+
+  copy_as : (phase : Phase) (copy : CopySegment) → CopyIn other phase v.logs v.written v.stored v.live copy → CopyIn other phase v.logs now.written v.stored v.live copy
+  copy_as (Rebuilding l to) copy said = (
+    said.0,
+    part_weaker (NeededOf other v.written l copy.master) (NeededOf other now.written l copy.master)
+        (known_of (v.logs copy.master) READ_BACKUP) (stored_of v.stored copy.master READ_BACKUP) copy.segment (copied_bytes copy.bytes)
+        (needed_beside l copy.master) said.1,
+  )
+  copy_as _ copy said = tt
+
+  abbrev SaysIn : (ℕ → Written) → Node → Node → Body → Type 0
+  SaysIn written from to body =
+      SaysOf other v.logs written v.stored v.handovers v.completions v.merged v.live v.handed from to body
+
+  pub says_beside : (from to : Node) (body : Body) → SaysIn v.written from to body → SaysIn now.written from to body
+  says_beside from to (bodies.Pulled message) said = (
+    said.0,
+    if_master to (λ q. Pulls v.written (lineage_of other.phase) from q message) (λ q. Pulls now.written (lineage_of other.phase) from q message)
+        (λ q. pulled_as (lineage_of other.phase) from q message) said.1,
+  )
+  says_beside from to (bodies.Got message) said = (
+    said.0,
+    if_master to (λ q. Gets v.written (lineage_of other.phase) from q message) (λ q. Gets now.written (lineage_of other.phase) from q message)
+        (λ q. got_as (lineage_of other.phase) from q message) said.1,
+  )
+  says_beside from to (bodies.Copy copy) said = λ is. copy_as other.phase copy (said is)
+  says_beside from to body said = said

@@ -1,0 +1,177 @@
+-- What bears a mark in a log is of a row that is rebuilt: no Joined does, and it counts for no other row.
+use Rattle.std.proofs.Common.{◌≡◌, ℕ, zero, suc, ◌+◌, ◌-◌, ◌≤◌, ◌<◌, Bool, true, false, ◌&&◌, cond, List, [], ◌∷◌, Option, Some, None, refl}
+use Rattle.std.proofs.Common.{sym, ap, subst, ◌∙◌, ⊎_elim, arith, drop, is_some, nat_le, nat_lt, slice_get, take, All, Contains, leb-true}
+use Rattle.std.proofs.Common.{ltb-true}
+use Rattle.rk_inv_base.proofs.Words.{and_parts, false_from_ne_true, false≢true, All-contains, Any-from_list_any, Range, Entry, Joined}
+use Rattle.rk_inv_base.proofs.Words.{number_of, row_of, Row, behind_stands, first_stands, stands_cases, is_marked, unmarked, counting}
+use Rattle.rk_inv_base.proofs.Words.{counts, Mark, HasOwnRange, IsOfRange, marked_entries, View, SoundView}
+use Rattle.rk_entry.specs.declared.entry.Entry.TheVariants as entries
+use Rattle.rk_inv_base.proofs.logs.MarkedApart.{in_piece}
+use Rattle.rk_inv_base.proofs.rows.Serving.{found_stands}
+
+-- an entry is of the range of the row of a tablet
+pub record IsOfRow (rows : List Row) (tablet : ℕ) (entry : Entry) : Type 0 where
+  pub row : Row
+  pub stands : Contains rows row
+  pub number : row.tablet ≡ tablet
+  pub of : IsOfRange row.range entry
+
+-- a mark covers a place
+pub record IsCovered (marks : List Mark) (place : ℕ) : Type 0 where
+  pub mark : Mark
+  pub stands : Contains marks mark
+  pub first : mark.first ≤ place
+  pub past : place < mark.past
+
+pub covered_by : (marks : List Mark) (place : ℕ) → is_marked marks place ≡ true → IsCovered marks place
+covered_by marks place marked =
+    let found = Any-from_list_any (λ (mark : Mark). nat_le mark.first place && nat_lt place mark.past) marks marked in
+    let parts = and_parts (nat_le found.1.first place) (nat_lt place found.1.past) found.4 in
+    record {
+      mark = found.1;
+      stands = (found.0, found.2, found.3);
+      first = leb-true found.1.first place parts.0;
+      past = ltb-true place found.1.past parts.1;
+    }
+
+module _ (v : View) (sound : SoundView v) (q : ℕ) where
+  of_known : (mark : Mark) (entry : Entry) → Contains (v.written q).marks mark → Contains (take (mark.past - mark.first) (drop mark.first (v.written q).entries)) entry → (found : Option Row) → row_of v.rows mark.tablet ≡ found → is_some found ≡ true → IsOfRow v.rows mark.tablet entry
+  of_known mark entry marked inside None is known = absurd (false≢true known)
+  of_known mark entry marked inside (Some other) is known =
+      let stands : Contains v.rows other = found_stands v.rows mark.tablet other is in
+      let own : HasOwnRange other.range (v.written q).entries mark =
+      All-contains (λ m. m.tablet ≡ other.tablet → HasOwnRange other.range (v.written q).entries m)
+      (v.written q).marks mark
+      (All-contains (λ r. All (λ m. m.tablet ≡ r.tablet → HasOwnRange r.range (v.written q).entries m) (v.written q).marks)
+      v.rows other (sound.rebuilds.pieces q) stands) marked (sym (number_of v.rows mark.tablet other is)) in
+      record {
+        row = other;
+        stands = stands;
+        number = number_of v.rows mark.tablet other is;
+        of = All-contains (IsOfRange other.range) (take (mark.past - mark.first) (drop mark.first (v.written q).entries)) entry own inside;
+      }
+
+  -- a marked entry is of the range of the row of the mark's tablet
+  pub covered_of : (place : ℕ) (entry : Entry) → slice_get (v.written q).entries place ≡ Some entry → (covered : IsCovered (v.written q).marks place) → IsOfRow v.rows covered.mark.tablet entry
+  covered_of place entry at covered =
+      of_known covered.mark entry covered.stands
+      (in_piece (v.written q).entries covered.mark.first covered.mark.past place entry covered.first covered.past at)
+      (row_of v.rows covered.mark.tablet) refl
+      (All-contains (λ m. is_some (row_of v.rows m.tablet) ≡ true) (v.written q).marks covered.mark (sound.cover.marks q) covered.stands)
+
+  -- so a Joined bears none
+  pub joined_unmarked : (place : ℕ) (joined : Joined) → slice_get (v.written q).entries place ≡ Some (entries.Joined joined) → is_marked (v.written q).marks place ≡ false
+  joined_unmarked place joined at =
+      false_from_ne_true (is_marked (v.written q).marks place)
+      (λ marked.
+      let is = covered_of place (entries.Joined joined) at (covered_by (v.written q).marks place marked) in is.of)
+
+-- ---- where nothing that is marked counts, the same counts without it
+
+-- the first of some entries, where none of them counts
+first_counts : (range : Range) (b : Bool) (entry : Entry) (list : List Entry) → counts range entry ≡ b → counting range (entry ∷ list) ≡ [] → (b ≡ false) × (counting range list ≡ [])
+first_counts range true entry list is none =
+    let kept : entry ∷ counting range list ≡ [] = ap (λ (b : Bool). cond b (entry ∷ counting range list) (counting range list)) (sym is) ∙ none in
+    absurd (cc kept)
+first_counts range false entry list is none =
+    (refl, ap (λ (b : Bool). cond b (entry ∷ counting range list) (counting range list)) (sym is) ∙ none)
+
+-- an entry that does not count goes
+without_first : (range : Range) (entry : Entry) (list : List Entry) → counts range entry ≡ false → counting range (entry ∷ list) ≡ counting range list
+without_first range entry list none = ap (λ (b : Bool). cond b (entry ∷ counting range list) (counting range list)) none
+
+-- nothing that is marked counts, where the first of some entries stands at a place
+abbrev NoneCounts : Range → List Mark → ℕ → List Entry → Type 0
+NoneCounts range marks place list = counting range (marked_entries marks place list) ≡ []
+
+-- of a first part nothing marked counts either
+first_taken : (range : Range) (marked : Bool) (entry : Entry) (many few : List Entry) → (counting range many ≡ [] → counting range few ≡ []) → counting range (cond marked (entry ∷ many) many) ≡ [] → counting range (cond marked (entry ∷ few) few) ≡ []
+first_taken range true entry many few later none =
+    let parts = first_counts range (counts range entry) entry many refl none in without_first range entry few parts.0 ∙ later parts.1
+first_taken range false entry many few later none = later none
+
+none_taken : (range : Range) (marks : List Mark) (place n : ℕ) (list : List Entry) → NoneCounts range marks place list → NoneCounts range marks place (take n list)
+none_taken range marks place zero list none = refl
+none_taken range marks place (suc n) [] none = refl
+none_taken range marks place (suc n) (entry ∷ list) none =
+    first_taken range (is_marked marks place) entry (marked_entries marks (suc place) list) (marked_entries marks (suc place) (take n list))
+    (none_taken range marks (suc place) n list) none
+
+-- the same of two lists counts
+abbrev CountAs : Range → List Entry → List Entry → Type 0
+CountAs range these those = counting range these ≡ counting range those
+
+first_same : (range : Range) (marked : Bool) (entry : Entry) (gone free list : List Entry) → (counting range gone ≡ [] → CountAs range free list) → counting range (cond marked (entry ∷ gone) gone) ≡ [] → CountAs range (cond marked free (entry ∷ free)) (entry ∷ list)
+first_same range true entry gone free list later none =
+    let parts = first_counts range (counts range entry) entry gone refl none in later parts.1 ∙ sym (without_first range entry list parts.0)
+first_same range false entry gone free list later none = ap (λ (l : List Entry). cond (counts range entry) (entry ∷ l) l) (later none)
+
+-- what bears no mark counts as all does
+same_counts : (range : Range) (marks : List Mark) (place : ℕ) (list : List Entry) → NoneCounts range marks place list → CountAs range (unmarked marks place list) list
+same_counts range marks place [] none = refl
+same_counts range marks place (entry ∷ list) none =
+    first_same range (is_marked marks place) entry (marked_entries marks (suc place) list) (unmarked marks (suc place) list) list
+    (same_counts range marks (suc place) list) none
+
+pub taken_counts : (range : Range) (marks : List Mark) (place n : ℕ) (list : List Entry) → NoneCounts range marks place list → counting range (unmarked marks place (take n list)) ≡ counting range (take n list)
+taken_counts range marks place n list none = same_counts range marks place (take n list) (none_taken range marks place n list none)
+
+-- ---- what stands without a mark
+
+-- what is left without a mark stood there
+pub unmarked_stood : (marks : List Mark) (place : ℕ) (list : List Entry) (entry : Entry) → Contains (unmarked marks place list) entry → Contains list entry
+unmarked_stood marks place [] entry stands = stands
+unmarked_stood marks place (first ∷ list) entry stands =
+    go (is_marked marks place) (unmarked_stood marks (suc place) list entry) stands
+  where
+    go : (b : Bool) → (Contains (unmarked marks (suc place) list) entry → Contains list entry) → Contains (cond b (unmarked marks (suc place) list) (first ∷ unmarked marks (suc place) list)) entry → Contains (first ∷ list) entry
+    go true behind stands = behind_stands first list entry (behind stands)
+    go false behind stands =
+        ⊎_elim (λ (is : first ≡ entry). subst (Contains (first ∷ list)) is (first_stands first list))
+        (λ (later : Contains (unmarked marks (suc place) list) entry).
+        behind_stands first list entry (behind later))
+        (stands_cases first (unmarked marks (suc place) list) entry stands)
+
+-- and what bears none stands there
+pub unmarked_stands : (marks : List Mark) (place k : ℕ) (list : List Entry) (entry : Entry) → slice_get list k ≡ Some entry → is_marked marks (place + k) ≡ false → Contains (unmarked marks place list) entry
+unmarked_stands marks place k [] entry at free = absurd (cc at)
+unmarked_stands marks place zero (first ∷ list) entry at free =
+    let here : place + 0 ≡ place = omega arith in
+    let is : first ≡ entry = cc at in
+    subst
+    (λ (b : Bool). Contains (cond b (unmarked marks (suc place) list) (first ∷ unmarked marks (suc place) list)) entry)
+    (sym (ap (is_marked marks) (sym here) ∙ free))
+    (subst (Contains (first ∷ unmarked marks (suc place) list)) is (first_stands first (unmarked marks (suc place) list)))
+unmarked_stands marks place (suc k) (first ∷ list) entry at free =
+    let there : place + suc k ≡ suc place + k = omega arith in
+    let later = unmarked_stands marks (suc place) k list entry at (ap (is_marked marks) (sym there) ∙ free) in
+    go (is_marked marks place) later
+  where
+    go : (b : Bool) → Contains (unmarked marks (suc place) list) entry → Contains (cond b (unmarked marks (suc place) list) (first ∷ unmarked marks (suc place) list)) entry
+    go true later = later
+    go false later = behind_stands first (unmarked marks (suc place) list) entry later
+
+-- so what is left stands at a place that bears none
+pub record StandsFree (marks : List Mark) (place : ℕ) (list : List Entry) (entry : Entry) : Type 0 where
+  pub k : ℕ
+  pub at : slice_get list k ≡ Some entry
+  pub free : is_marked marks (place + k) ≡ false
+
+pub unmarked_place : (marks : List Mark) (place : ℕ) (list : List Entry) (entry : Entry) → Contains (unmarked marks place list) entry → StandsFree marks place list entry
+unmarked_place marks place [] entry stands = absurd (omega (arith, stands.1))
+unmarked_place marks place (first ∷ list) entry stands = go (is_marked marks place) refl (unmarked_place marks (suc place) list entry) stands
+  where
+    further : StandsFree marks (suc place) list entry → StandsFree marks place (first ∷ list) entry
+    further later =
+        let there : suc place + later.k ≡ place + suc later.k = omega arith in
+        record { k = suc later.k; at = later.at; free = ap (is_marked marks) (sym there) ∙ later.free }
+
+    go : (b : Bool) → is_marked marks place ≡ b → (Contains (unmarked marks (suc place) list) entry → StandsFree marks (suc place) list entry) → Contains (cond b (unmarked marks (suc place) list) (first ∷ unmarked marks (suc place) list)) entry → StandsFree marks place (first ∷ list) entry
+    go true is later stands = further (later stands)
+    go false is later stands =
+        ⊎_elim
+        (λ (same : first ≡ entry).
+        let here : place + 0 ≡ place = omega arith in
+        record { k = 0; at = ap Some same; free = ap (is_marked marks) here ∙ is })
+        (λ (behind : Contains (unmarked marks (suc place) list) entry). further (later behind))
+        (stands_cases first (unmarked marks (suc place) list) entry stands)

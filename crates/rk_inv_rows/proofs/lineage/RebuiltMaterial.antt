@@ -1,0 +1,341 @@
+-- What counts of the log of a master that rebuilt a tablet, once the marks of the tablet are taken away: its own entries and the piece that
+-- it merged, all of them applied.
+use Rattle.std.proofs.Common.{◌≡◌, ℕ, suc, ◌+◌, ◌-◌, ◌≤◌, ◌<◌, true, false, ◌&&◌, eqb, List, [], ◌∷◌, ◌++◌, Some, refl, sym, ap, subst, ◌∙◌}
+use Rattle.std.proofs.Common.{⊎_elim, arith, inl, inr, All, IfSome, drop, length, nat_le, nat_lt, not, slice_get, take, ◌⊎◌, Contains}
+use Rattle.std.proofs.Common.{flat_map, eq-eqb, le-leb}
+use Rattle.rk_inv_base.proofs.Words.{and_from, cases_Bool, false_from_ne_true, false≢true, All-contains, Contains-append_cases}
+use Rattle.rk_inv_base.proofs.Words.{Contains-append_left, Contains-append_right, list_any, meets, Ended, Member, Range, Entry, Handover}
+use Rattle.rk_inv_base.proofs.Words.{Role, Precedes, Phase, Rebuilding, Row, none_stands, is_mark_of, is_marked, unmarked, touches}
+use Rattle.rk_inv_base.proofs.Words.{as_entries, counting, counts, named, named_by, side_entries, has_all, own_place, Written}
+use Rattle.rk_inv_base.proofs.Words.{applied_entries, member_material, member_truth, Mark, HasRebuilt, MayTakeRebuilt, HasOwnRange}
+use Rattle.rk_inv_base.proofs.Words.{IsMergedOf, IsOfRange, IsPieceOf, MarkFits, RowIsRebuilt, closing_carried, merged_place, IsDone}
+use Rattle.rk_inv_base.proofs.Words.{HandoverFits, View, truths, SoundView}
+use Rattle.rk_entry.specs.declared.entry.Entry.TheVariants as entries
+use Rattle.rk_transfer.specs.declared.role.Role.TheVariants as roles
+use Rattle.rk_tablet_map.specs.Phase.{member as member_at}
+use Rattle.rk_inv_base.proofs.rows.Apart.{in_one_row, one_precedes}
+use Rattle.rk_inv_base.proofs.logs.InRest.{behind_at}
+use Rattle.rk_inv_base.proofs.logs.MarkedApart.{in_piece, place_of}
+use Rattle.rk_inv_base.proofs.logs.Missed.{Misses, none_touches}
+use Rattle.rk_inv_base.proofs.views.Needed.{any_kept}
+use Rattle.rk_inv_base.proofs.calls.Records.{filter_from, filter_stands}
+use Rattle.rk_inv_rows.specs.lineage.Small.{marks_taken}
+use Rattle.rk_inv_rows.proofs.lineage.Among.{flat_among, from_flat, kept_among, kept_passes, later_all, number_from, number_to, place_in, taken_at, taken_from, taken_within, to_flat}
+use Rattle.rk_inv_rows.proofs.lineage.MarksTaken.{taken_by}
+use Rattle.rk_inv_rows.proofs.lineage.Pieces.{IsCovered, covered_by, covered_of, unmarked_place, unmarked_stands}
+use Rattle.rk_inv_rows.proofs.lineage.TargetMaterial.{has_itself, meets_itself}
+use Rattle.rk_inv_rows.proofs.lineage.Untouched.{done_settled, each_misses}
+
+-- a role has rebuilt a tablet, with its closing entry at a place that is applied
+pub record RebuiltAt (role : Role) (applied from : ℕ) : Type 0 where
+  pub entry : ℕ
+  pub role_is : role ≡ roles.Rebuilding from (Some entry)
+  pub within : entry < applied
+
+pub rebuilt_at : (role : Role) (applied from : ℕ) → HasRebuilt role applied from → RebuiltAt role applied from
+rebuilt_at (roles.Rebuilding own (Some entry)) applied from rebuilt =
+    record { entry = entry; role_is = ap (λ (n : ℕ). roles.Rebuilding n (Some entry)) rebuilt.1; within = rebuilt.0 }
+rebuilt_at _ applied from rebuilt = absurd rebuilt
+
+module _ (v : View) (row : Row) (lineage : List Member) (to place : ℕ) (ends : List Ended) (sound : SoundView v) (some : row.range.first ≤ row.range.last) (may : MayTakeRebuilt v row lineage to place ends) where
+  abbrev w : Written
+  w = v.written to
+
+  abbrev builder : Handover
+  builder = v.handovers to row.tablet
+
+  abbrev own_member : Member
+  own_member = member_at to place
+
+  -- what is known of the row
+  in_row : (P : Row → Type 0) → All P v.rows → P row
+  in_row P all = All-contains P v.rows row all may.has_row
+
+  in_phase : (P : Phase → Type 0) → P row.phase → P (Rebuilding lineage to)
+  in_phase P = subst P may.phase_is
+
+  pub at : RebuiltAt builder.role w.applied place
+  at = rebuilt_at builder.role w.applied place may.rebuilt
+
+  in_role : (P : Role → Type 0) → P builder.role → P (roles.Rebuilding place (Some at.entry))
+  in_role P = subst P at.role_is
+
+  -- what the row says of its master that rebuilt it
+  abbrev RebuiltBy : Role → Type 0
+  RebuiltBy role =
+      IfSome (merged_place role)
+      (λ entry. IsMergedOf row.tablet (own_place role) (member_material v.written row.range (member_at to (own_place role))) builder
+      (v.completions to row.tablet) (v.gathers to row.tablet) (v.merged to row.tablet) w entry)
+
+  pub merged_is : IsMergedOf row.tablet place (member_material v.written row.range own_member) builder (v.completions to row.tablet) (v.gathers to row.tablet) (v.merged to row.tablet) w at.entry
+  merged_is =
+      let fit =
+      in_phase
+      (λ p. RowIsRebuilt row p (truths v row) v.logs v.written v.stored v.handovers v.completions v.gathers v.merged v.records v.live)
+      (in_row
+      (λ r. RowIsRebuilt r r.phase (truths v r) v.logs v.written v.stored v.handovers v.completions v.gathers v.merged v.records v.live)
+      sound.rebuilds.rebuilt) in
+      in_role RebuiltBy (fit.0 may.term_is).merged
+
+  abbrev piece : IsPieceOf row.tablet place builder merged_is.merged w at.entry
+  piece = merged_is.piece
+
+  range_is : builder.range ≡ row.range
+  range_is = (in_row (λ r. HandoverFits r row.tablet builder) (sound.terms.kept to row.tablet)).exact refl may.term_is
+
+  -- nothing of the range stands behind what is applied
+  pub settled : list_any (touches row.range) (drop w.applied w.entries) ≡ false
+  settled =
+      let missed : All (Misses row.range) (drop (suc at.entry) w.entries) =
+      each_misses row.range (drop (suc at.entry) w.entries)
+      (subst (λ (range : Range). list_any (touches range) (drop (suc at.entry) w.entries) ≡ false) range_is piece.last) in
+      let less : at.entry < w.applied = at.within in
+      none_touches row.range (drop w.applied w.entries)
+      (later_all (Misses row.range) (suc at.entry) w.applied w.entries (omega (arith, less)) missed)
+
+  -- its place is one of its log, and the piece is applied
+  pub placed_within : place ≤ length w.entries
+  placed_within =
+      let fit =
+      in_phase
+      (λ p. RowIsRebuilt row p (truths v row) v.logs v.written v.stored v.handovers v.completions v.gathers v.merged v.records v.live)
+      (in_row
+      (λ r. RowIsRebuilt r r.phase (truths v r) v.logs v.written v.stored v.handovers v.completions v.gathers v.merged v.records v.live)
+      sound.rebuilds.rebuilt) in
+      in_role (λ r. own_place r ≤ length w.entries) (fit.0 may.term_is).placed
+
+  -- a mark of the tablet covers what is applied alone
+  pub taken_applied : (mark : Mark) → Contains w.marks mark → mark.tablet ≡ row.tablet → mark.past ≤ w.applied
+  taken_applied other stands its =
+      let is : other ≡ piece.mark =
+      All-contains (λ m. m.tablet ≡ row.tablet → m ≡ piece.mark) w.marks other piece.alone stands its in
+      let less : at.entry < w.applied = at.within in
+      let past : other.past ≡ suc at.entry = ap (λ (m : Mark). m.past) is ∙ piece.past_is in
+      omega (arith, less, past)
+
+  -- so all of its own is applied
+  pub own_done : IsDone v.written row.range own_member
+  own_done = done_settled v.written row.range own_member some settled
+
+  abbrev now : View
+  now = marks_taken v row.tablet row.term
+
+  -- also once the marks are gone
+  pub now_done : IsDone now.written row.range own_member
+  now_done = done_settled now.written row.range own_member some settled
+
+  -- ---- the piece
+
+  abbrev pieces : List Entry
+  pieces = as_entries merged_is.merged.copies ++ closing_carried builder merged_is.merged ∷ []
+
+  abbrev mark : Mark
+  mark = piece.mark
+
+  -- an entry of the piece is of the row's range
+  piece_of_row : (entry : Entry) → Contains pieces entry → IsOfRange row.range entry
+  piece_of_row entry stands =
+      let own : HasOwnRange row.range w.entries mark =
+      All-contains (λ m. m.tablet ≡ row.tablet → HasOwnRange row.range w.entries m) w.marks mark
+      (in_row (λ r. All (λ m. m.tablet ≡ r.tablet → HasOwnRange r.range w.entries m) w.marks) (sound.rebuilds.pieces to)) piece.marked
+      piece.tablet_is in
+      let all : All (IsOfRange row.range) pieces =
+      subst (All (IsOfRange row.range)) piece.stands
+      (subst (λ (n : ℕ). All (IsOfRange row.range) (take (n - mark.first) (drop mark.first w.entries))) piece.past_is own) in
+      All-contains (IsOfRange row.range) pieces entry all stands
+
+  -- so it counts, and names no side segment
+  of_counts : (entry : Entry) → IsOfRange row.range entry → counts row.range entry ≡ true
+  of_counts (entries.Held held) of = of
+  of_counts (entries.Refused refused) of = absurd of
+  of_counts (entries.Carried carried) of = ap (λ (range : Range). has_all range row.range) of ∙ has_itself row.range
+  of_counts (entries.Joined joined) of = absurd of
+
+  of_names : (entry : Entry) → IsOfRange row.range entry → named_by row.range entry ≡ []
+  of_names (entries.Held held) of = refl
+  of_names (entries.Refused refused) of = absurd of
+  of_names (entries.Carried carried) of = refl
+  of_names (entries.Joined joined) of = absurd of
+
+  -- ---- what bears no mark now: what bore none, and the piece
+
+  abbrev old_marks : List Mark
+  old_marks = w.marks
+
+  abbrev new_marks : List Mark
+  new_marks = (now.written to).marks
+
+  abbrev front : List Entry
+  front = drop place (applied_entries w)
+
+  abbrev free_before : List Entry
+  free_before = unmarked old_marks place front
+
+  abbrev free_now : List Entry
+  free_now = unmarked new_marks place front
+
+  -- what stands at a place of what is applied stands there in the log
+  in_log : (k : ℕ) (entry : Entry) → slice_get front k ≡ Some entry → slice_get w.entries (place + k) ≡ Some entry
+  in_log k entry stands =
+      taken_from w.applied w.entries (place + k) entry (place_of (applied_entries w) place k (place + k) entry refl stands)
+
+  still : (n : ℕ) → is_marked new_marks n ≡ true → is_marked old_marks n ≡ true
+  still n =
+      any_kept (λ m. nat_le m.first n && nat_lt n m.past) (λ m. not (is_mark_of row.tablet row.term m)) old_marks
+
+  -- where a mark of the tablet covered an entry, that is one of the piece
+  covered_piece : (n : ℕ) (entry : Entry) → slice_get w.entries n ≡ Some entry → (covered : IsCovered old_marks n) → covered.mark.tablet ≡ row.tablet → Contains pieces entry
+  covered_piece n entry stands covered tablet =
+      let is : covered.mark ≡ mark =
+      All-contains (λ other. other.tablet ≡ row.tablet → other ≡ mark) old_marks covered.mark piece.alone covered.stands tablet in
+      let first : mark.first ≤ n = subst (λ (m : Mark). m.first ≤ n) is covered.first in
+      let past : n < mark.past = subst (λ (m : Mark). n < m.past) is covered.past in
+      subst (λ (l : List Entry). Contains l entry) piece.stands
+      (subst (λ (p : ℕ). Contains (take (p - mark.first) (drop mark.first w.entries)) entry) piece.past_is
+      (in_piece w.entries mark.first mark.past n entry first past stands))
+
+  from_either : (entry : Entry) → Contains free_now entry → Contains free_before entry ⊎ Contains pieces entry
+  from_either entry stands =
+      let is = unmarked_place new_marks place front entry stands in
+      ⊎_elim
+      (λ (was : is_marked old_marks (place + is.k) ≡ true).
+      let taken = taken_by v row sound may.has_row to (place + is.k) was is.free in
+      inr (covered_piece (place + is.k) entry (in_log is.k entry is.at) taken.covered taken.tablet))
+      (λ (free : is_marked old_marks (place + is.k) ≡ false). inl (unmarked_stands old_marks place is.k front entry is.at free))
+      (cases_Bool (is_marked old_marks (place + is.k)))
+
+  own_stands : (entry : Entry) → Contains free_before entry → Contains free_now entry
+  own_stands entry stands =
+      let is = unmarked_place old_marks place front entry stands in
+      unmarked_stands new_marks place is.k front entry is.at
+      (false_from_ne_true (is_marked new_marks (place + is.k)) (λ marked. false≢true (sym is.free ∙ still (place + is.k) marked)))
+
+  -- ---- no other mark covers the piece
+
+  -- an entry of the row's range is of no other row's
+  of_one_row : (other : Row) (entry : Entry) → Contains v.rows other → (other.tablet ≡ row.tablet → ⊥) → IsOfRange other.range entry → IsOfRange row.range entry → ⊥
+  of_one_row other (entries.Held held) stands unlike its of =
+      false≢true (sym (in_one_row v.rows row other held.table held.key sound.rows.apart may.has_row stands unlike of) ∙ its)
+  of_one_row other (entries.Refused refused) stands unlike its of = of
+  of_one_row other (entries.Carried carried) stands unlike its of =
+      let same : other.range ≡ row.range = sym its ∙ of in
+      let met : meets row.range other.range ≡ true = ap (λ (r : Range). meets row.range r) same ∙ meets_itself row.range some in
+      let back : meets other.range row.range ≡ true = ap (λ (r : Range). meets r row.range) same ∙ meets_itself row.range some in
+      ⊎_elim (λ (is : row ≡ other). unlike (ap (λ (r : Row). r.tablet) (sym is)))
+      (⊎_elim (λ (before : Precedes row other). false≢true (sym before.apart ∙ met))
+      (λ (behind : Precedes other row). false≢true (sym behind.apart ∙ back)))
+      (one_precedes v.rows row other sound.rows.apart may.has_row stands)
+  of_one_row other (entries.Joined joined) stands unlike its of = of
+
+  -- a mark that is left is of another tablet
+  left_apart : (m : Mark) → Contains new_marks m → m.tablet ≡ row.tablet → ⊥
+  left_apart m stands its =
+      let kept = kept_passes (λ m. not (is_mark_of row.tablet row.term m)) old_marks m stands in
+      let fits : MarkFits row to builder (v.live to) w m =
+      All-contains (λ m. m.tablet ≡ row.tablet → MarkFits row to builder (v.live to) w m) old_marks m
+      (in_row (λ r. All (λ m. m.tablet ≡ r.tablet → MarkFits r to (v.handovers to r.tablet) (v.live to) w m) w.marks) (sound.rebuilds.marks to))
+      (filter_from (λ m. not (is_mark_of row.tablet row.term m)) old_marks m stands) its in
+      let both : is_mark_of row.tablet row.term m ≡ true =
+      and_from (eqb m.tablet row.tablet) (nat_le m.term row.term) (eq-eqb m.tablet row.tablet its) (le-leb m.term row.term fits.within) in
+      false≢true (ap not (sym both) ∙ kept)
+
+  piece_free : (n : ℕ) (entry : Entry) → slice_get w.entries n ≡ Some entry → Contains pieces entry → is_marked new_marks n ≡ false
+  piece_free n entry stands inside =
+      false_from_ne_true (is_marked new_marks n)
+      (λ marked.
+      let covered = covered_by new_marks n marked in
+      let before : IsCovered old_marks n = record {
+        mark = covered.mark;
+        stands = filter_from (λ m. not (is_mark_of row.tablet row.term m)) old_marks covered.mark covered.stands;
+        first = covered.first;
+        past = covered.past;
+      } in
+      let of = covered_of v sound to n entry stands before in
+      of_one_row of.row entry of.stands (λ its. left_apart covered.mark covered.stands (sym of.number ∙ its)) of.of (piece_of_row entry inside))
+
+  stands_now : (n k : ℕ) (entry : Entry) → place + k ≡ n → slice_get front k ≡ Some entry → is_marked new_marks n ≡ false → Contains free_now entry
+  stands_now n k entry is stands free = unmarked_stands new_marks place k front entry stands (ap (is_marked new_marks) is ∙ free)
+
+  piece_stands : (entry : Entry) → Contains pieces entry → Contains free_now entry
+  piece_stands entry inside =
+      let there : Contains (take (suc at.entry - mark.first) (drop mark.first w.entries)) entry =
+      subst (λ (l : List Entry). Contains l entry) (sym piece.stands) inside in
+      let found = place_in (take (suc at.entry - mark.first) (drop mark.first w.entries)) entry there in
+      let j : ℕ = found.0 in
+      let within : j < suc at.entry - mark.first = taken_within (suc at.entry - mark.first) (drop mark.first w.entries) j entry found.1 in
+      let n : ℕ = mark.first + j in
+      let stands : slice_get w.entries n ≡ Some entry =
+      place_of w.entries mark.first j n entry refl
+      (taken_from (suc at.entry - mark.first) (drop mark.first w.entries) j entry found.1) in
+      let less : at.entry < w.applied = at.within in
+      let behind : place ≤ mark.first = piece.behind in
+      let here = behind_at (applied_entries w) place n entry (omega (arith, behind))
+      (taken_at w.applied w.entries n entry (omega (arith, less, within)) stands) in
+      stands_now n here.0 entry here.2 here.1 (piece_free n entry stands inside)
+
+  -- ---- what counts now: its own entries, and the piece
+
+  abbrev own : List Entry
+  own = member_truth v.written row.range own_member
+
+  abbrev truth_now : List Entry
+  truth_now = member_truth now.written row.range own_member
+
+  abbrev sides_of : List Entry → List Entry
+  sides_of free = flat_map (side_entries w.sides) (named row.range free)
+
+  names_from : (n : ℕ) → Contains (named row.range free_now) n → Contains (named row.range free_before) n
+  names_from n stands =
+      ⊎_elim (λ (none : Contains [] n). absurd (none_stands n none))
+      (λ (there : Contains (flat_map (named_by row.range) free_now) n).
+      let found = from_flat (named_by row.range) free_now n there in
+      number_to [] (flat_map (named_by row.range) free_before) n
+      (⊎_elim (λ (mine : Contains free_before found.0). to_flat (named_by row.range) free_before found.0 n mine found.2)
+      (λ (inside : Contains pieces found.0).
+      absurd
+      (none_stands n (subst (λ (l : List ℕ). Contains l n) (of_names found.0 (piece_of_row found.0 inside)) found.2)))
+      (from_either found.0 found.1)))
+      (number_from [] (flat_map (named_by row.range) free_now) n stands)
+
+  names_to : (n : ℕ) → Contains (named row.range free_before) n → Contains (named row.range free_now) n
+  names_to n stands =
+      ⊎_elim (λ (none : Contains [] n). absurd (none_stands n none))
+      (λ (there : Contains (flat_map (named_by row.range) free_before) n).
+      number_to [] (flat_map (named_by row.range) free_now) n
+      (flat_among (named_by row.range) free_before free_now own_stands n there))
+      (number_from [] (flat_map (named_by row.range) free_before) n stands)
+
+  pub truth_from : (entry : Entry) → Contains truth_now entry → Contains own entry ⊎ Contains pieces entry
+  truth_from entry stands =
+      ⊎_elim
+      (λ (main : Contains (counting row.range free_now) entry).
+      ⊎_elim
+      (λ (mine : Contains free_before entry).
+      inl
+      (Contains-append_left (counting row.range free_before) (counting row.range (sides_of free_before)) entry
+      (filter_stands (counts row.range) free_before entry mine (kept_passes (counts row.range) free_now entry main))))
+      (λ (inside : Contains pieces entry). inr inside)
+      (from_either entry (filter_from (counts row.range) free_now entry main)))
+      (λ (side : Contains (counting row.range (sides_of free_now)) entry).
+      inl
+      (Contains-append_right (counting row.range free_before) (counting row.range (sides_of free_before)) entry
+      (kept_among (counts row.range) (sides_of free_now) (sides_of free_before)
+      (flat_among (side_entries w.sides) (named row.range free_now) (named row.range free_before) names_from) entry side)))
+      (Contains-append_cases (counting row.range free_now) (counting row.range (sides_of free_now)) entry stands)
+
+  pub truth_has_own : (entry : Entry) → Contains own entry → Contains truth_now entry
+  truth_has_own entry stands =
+      ⊎_elim
+      (λ (main : Contains (counting row.range free_before) entry).
+      Contains-append_left (counting row.range free_now) (counting row.range (sides_of free_now)) entry
+      (kept_among (counts row.range) free_before free_now own_stands entry main))
+      (λ (side : Contains (counting row.range (sides_of free_before)) entry).
+      Contains-append_right (counting row.range free_now) (counting row.range (sides_of free_now)) entry
+      (kept_among (counts row.range) (sides_of free_before) (sides_of free_now)
+      (flat_among (side_entries w.sides) (named row.range free_before) (named row.range free_now) names_to) entry side))
+      (Contains-append_cases (counting row.range free_before) (counting row.range (sides_of free_before)) entry stands)
+
+  pub truth_has_piece : (entry : Entry) → Contains pieces entry → Contains truth_now entry
+  truth_has_piece entry inside =
+      Contains-append_left (counting row.range free_now) (counting row.range (sides_of free_now)) entry
+      (filter_stands (counts row.range) free_now entry (piece_stands entry inside) (of_counts entry (piece_of_row entry inside)))

@@ -1,0 +1,71 @@
+-- A lane stays sound when a rebuild is taken, where the records that its ends make go on lawfully.
+use Rattle.std.proofs.Common.{◌≡◌, ℕ, Bool, true, false, cond, ◌&&◌, eqb, List, [], ◌∷◌, ◌++◌, Option, Some, None, refl, sym, ap, subst}
+use Rattle.std.proofs.Common.{◌∙◌, append-nil, append_assoc, filter, fold, not}
+use Rattle.rk_inv_base.proofs.Words.{Ended, Placed, Member, Row, outcome_of, has_record, next_record, Ledger, asked_by, marks_of, with_ends}
+use Rattle.rk_inv_base.proofs.Words.{is_mark_of, World, with_ledger, LastCall, Mark, view, IsSound, SoundView}
+use Rattle.rk_world.specs.Ledger.{with_end, with_end_of, without_marks}
+use Rattle.rk_inv_rows.specs.lineage.Rebuilt.{MayOwnRebuilt, made_by, made_of, rebuilt_taken_in}
+use Rattle.rk_inv_rows.specs.lineage.Small.{row_owned_in}
+use Rattle.rk_inv_rows.proofs.lineage.RebuiltTaken.{rows_rebuilt, view_rebuilt_taken}
+
+-- a ledger with this journal
+abbrev with_journal : Ledger → List Placed → Ledger
+with_journal ledger journal = record ledger { journal = journal }
+
+-- an end makes its record
+one_made : (ledger : Ledger) (end : Ended) (asked : Option LastCall) → with_end_of ledger end asked ≡ with_journal ledger (ledger.journal ++ made_by ledger.journal end asked)
+one_made ledger end None = ap (with_journal ledger) (sym (append-nil ledger.journal))
+one_made ledger end (Some asked) = go ((eqb asked.call.seq end.seq) && not (has_record ledger.journal end.client end.seq))
+  where
+    go : (b : Bool) → cond b (with_journal ledger (ledger.journal ++ next_record ledger.journal asked.call (outcome_of end.end) asked.seen ∷ [])) ledger ≡ with_journal ledger (ledger.journal ++ cond b (next_record ledger.journal asked.call (outcome_of end.end) asked.seen ∷ []) [])
+    go true = refl
+    go false = ap (with_journal ledger) (sym (append-nil ledger.journal))
+
+-- ends make theirs
+pub all_made : (ledger : Ledger) (ends : List Ended) → with_ends ledger ends ≡ with_journal ledger (ledger.journal ++ made_of (asked_by ledger) ledger.journal ends)
+all_made ledger [] = ap (with_journal ledger) (sym (append-nil ledger.journal))
+all_made ledger (end ∷ ends) =
+    let made : List Placed = made_by ledger.journal end (asked_by ledger end.client) in
+    let next : List Placed = ledger.journal ++ made in
+    ap (λ (l : Ledger). fold with_end l ends) (one_made ledger end (asked_by ledger end.client))
+    ∙ all_made (with_journal ledger next) ends
+    ∙ ap (with_journal ledger) (append_assoc ledger.journal made (made_of (asked_by ledger) next ends))
+
+-- what two tests keep, they keep in either order
+kept_either : {X : Type 0} (p q : X → Bool) (xs : List X) → filter p (filter q xs) ≡ filter q (filter p xs)
+kept_either p q [] = refl
+kept_either {X} p q (x ∷ xs) = go (p x) (q x) refl refl (kept_either p q xs)
+  where
+    go : (a b : Bool) → p x ≡ a → q x ≡ b → filter p (filter q xs) ≡ filter q (filter p xs) → filter p (cond b (x ∷ filter q xs) (filter q xs)) ≡ filter q (cond a (x ∷ filter p xs) (filter p xs))
+    go true true first second later =
+        ap (λ (b : Bool). cond b (x ∷ filter p (filter q xs)) (filter p (filter q xs))) first
+        ∙ ap (λ (l : List X). x ∷ l) later
+        ∙ sym (ap (λ (b : Bool). cond b (x ∷ filter q (filter p xs)) (filter q (filter p xs))) second)
+    go true false first second later =
+        later ∙ sym (ap (λ (b : Bool). cond b (x ∷ filter q (filter p xs)) (filter q (filter p xs))) second)
+    go false true first second later =
+        ap (λ (b : Bool). cond b (x ∷ filter p (filter q xs)) (filter p (filter q xs))) first ∙ later
+    go false false first second later = later
+
+pub sound_rebuilt_taken : (w : World) (row : Row) (lineage : List Member) (to place : ℕ) (ends : List Ended) → IsSound w → MayOwnRebuilt (view w) row lineage to place ends → IsSound (rebuilt_taken_in w row to place ends)
+sound_rebuilt_taken w row lineage to place ends sound may =
+    let made : List Placed = made_of (asked_by w.ledger) w.ledger.journal ends in
+    let stays : Mark → Bool = λ mark. not (is_mark_of row.tablet row.term mark) in
+    let whole : SoundView _ = view_rebuilt_taken (view w) row lineage to place ends sound may in
+    let with_rows =
+    subst
+    (λ (rows : List Row). SoundView (record (view w) {
+      rows = rows;
+      journal = w.ledger.journal ++ made;
+      written = λ q. record ((view w).written q) { marks = filter stays (marks_of w.ledger q) };
+    }))
+    (sym (rows_rebuilt (view w) row lineage to place ends sound may)) whole in
+    let with_marks =
+    subst
+    (λ (marks : ℕ → List Mark). SoundView (record (view (row_owned_in w row to place)) {
+      journal = w.ledger.journal ++ made;
+      written = λ q. record ((view w).written q) { marks = marks q };
+    }))
+    (λ i q. kept_either stays (λ (mark : Mark). eqb mark.master q) w.ledger.marks i) with_rows in
+    subst (λ (ledger : Ledger). IsSound (with_ledger (row_owned_in w row to place) (without_marks ledger row.tablet row.term)))
+    (sym (all_made w.ledger ends)) with_marks

@@ -1,0 +1,283 @@
+-- A view stays sound when a row moves, once its source is frozen and has told what it hands over, and its target waits at its place.
+use Rattle.std.proofs.Common.{◌≡◌, ℕ, ◌≤◌, Bool, true, false, cond, eqb, List, [], ◌∷◌, ◌++◌, Option, Some, None, refl, sym, ap, subst, ◌∙◌}
+use Rattle.std.proofs.Common.{arith, inl, inr, append-nil, All, IfSome, drop, filter, Contains, flat_map, option_map, eq-eqb, eqb-true}
+use Rattle.rk_inv_base.proofs.Words.{cond_both, false≢true, All-contains, All-cons, All-head, All-nil, All-weaker, list_any, get_other}
+use Rattle.rk_inv_base.proofs.Words.{get_same, NumberMap, get, insert, Ended, Member, Range, map_after, is_mutation, Entry, is_in, ends_of}
+use Rattle.rk_inv_base.proofs.Words.{Handover, Role, lineage_of, Phase, Opening, Moving, Row, base_map, Handed, items_of, first_of, touches}
+use Rattle.rk_inv_base.proofs.Words.{of_key, side_entries, floor_of, is_idle, World, lineage_rest, lineage_truth, member_truth}
+use Rattle.rk_inv_base.proofs.Words.{AreHandedOver, IsReached, ReachAll, TellAll, is_record_in, AreAboveMap, IsNext, beginning_in}
+use Rattle.rk_inv_base.proofs.Words.{is_wanting, target_truth, HasSome, row_at, Bystander, MovingSource, MovingTarget, OpeningSource, Post}
+use Rattle.rk_inv_base.proofs.Words.{ReadyTarget, Holds, StillCounts, bond_of, post_of, speaks, IsBare, is_granted, wanted_place, IsDone}
+use Rattle.rk_inv_base.proofs.Words.{RoleFits, IsPlaced, HasItems, IsTableOf, has_all_items, HandoverFits, View, view, truths, rests}
+use Rattle.rk_inv_base.proofs.Words.{IsSound, SoundView}
+use Rattle.rk_transfer.specs.declared.role.Role.TheVariants as roles
+use Rattle.rk_tablet_map.specs.Phase.{member as member_at}
+use Rattle.rk_sound.specs.Moves.{MayMove}
+use Rattle.rk_inv_rows.specs.lineage.Lineages.{MayBeLeft, MayTakeLineage, MembersAgree, TellHistory}
+use Rattle.rk_inv_rows.specs.lineage.Small.{lineage_taken, row_moved_in}
+use Rattle.rk_inv_rows.proofs.lineage.FloorsOf.{floor_among}
+use Rattle.rk_inv_rows.proofs.lineage.Histories.{history_of, kept_stands}
+use Rattle.rk_inv_rows.proofs.lineage.LineageTaken.{rows_after, view_lineage_taken}
+use Rattle.rk_inv_rows.proofs.lineage.Untouched.{done_settled, names_none, rest_none, truth_none}
+
+-- a role that waits at a place
+waits_at : (role : Role) (place : ℕ) (P : ℕ → Type 0) → role ≡ roles.Wanting place → IfSome (wanted_place role) P → P place
+waits_at role place P is bare = subst (λ (r : Role). IfSome (wanted_place r) P) is bare
+
+module _ (v : View) (row : Row) (source sfrom target dfrom : ℕ) (given : Handed) (sound : SoundView v) (some : row.range.first ≤ row.range.last) (may : MayMove v row source sfrom target dfrom given) where
+  abbrev opened : Phase
+  opened = Opening source sfrom target (Some dfrom)
+
+  abbrev moving : Phase
+  moving = Moving source sfrom target dfrom
+
+  abbrev new : Row
+  new = row_at row row.term moving
+
+  abbrev noted : NumberMap Handed
+  noted = insert v.handed row.tablet given
+
+  abbrev first : Member
+  first = member_at source sfrom
+
+  abbrev last : Member
+  last = member_at target dfrom
+
+  abbrev giver : Handover
+  giver = v.handovers source row.tablet
+
+  -- what is known of the row
+  in_row : (P : Row → Type 0) → All P v.rows → P row
+  in_row P all = All-contains P v.rows row all may.has_row
+
+  in_phase : (P : Phase → Type 0) → P row.phase → P opened
+  in_phase P = subst P may.phase_is
+
+  -- ---- the target has nothing
+
+  target_range : (v.handovers target row.tablet).range ≡ row.range
+  target_range =
+      (in_row (λ r. HandoverFits r row.tablet (v.handovers target row.tablet)) (sound.terms.kept target row.tablet)).exact refl
+      may.waiting.term_is
+
+  bare : IsBare row.range dfrom (v.written target) (v.records target)
+  bare =
+      subst (λ (range : Range). IsBare range dfrom (v.written target) (v.records target)) target_range
+      (waits_at (v.handovers target row.tablet).role dfrom
+      (λ from. IsBare (v.handovers target row.tablet).range from (v.written target) (v.records target)) may.waiting.role_is
+      (sound.receives.bare target row.tablet))
+
+  -- ---- the source has told all
+
+  settled : list_any (touches row.range) (drop (v.written source).applied (v.written source).entries) ≡ false
+  settled =
+      in_row
+      (λ r. StillCounts (v.live source) (v.handovers source r.tablet).term r.term → is_idle (v.handovers source r.tablet).role ≡ true
+      → list_any (touches r.range) (drop (v.written source).applied (v.written source).entries) ≡ false)
+      (sound.rest.idle source) (inr may.term_is) (ap is_idle may.frozen)
+
+  done : IsDone v.written row.range first
+  done = done_settled v.written row.range first some settled
+
+  -- ---- truth and rest are what they were
+
+  truth_is : truths v new ≡ truths v row
+  truth_is =
+      ap (λ (l : List Entry). member_truth v.written row.range first ++ (l ++ [])) (truth_none v.written row.range last some bare.nothing)
+      ∙ sym (ap (λ (p : Phase). lineage_truth v.base v.written row.range (lineage_of p)) may.phase_is)
+
+  rest_was : rests v row ≡ []
+  rest_was = ap (λ (p : Phase). lineage_rest v.written row.range (lineage_of p)) may.phase_is ∙ done.rest
+
+  rest_is : rests v new ≡ rests v row
+  rest_is = rest_none v.written row.range last some bare.nothing ∙ sym rest_was
+
+  history : TellHistory v.base row.range (truths v new) (rests v new) v.journal v.asked
+  history =
+      subst (λ (t : List Entry). TellHistory v.base row.range t (rests v new) v.journal v.asked) (sym truth_is)
+      (subst (λ (r : List Entry). TellHistory v.base row.range (truths v row) r v.journal v.asked) (sym rest_is)
+      (history_of v row sound may.has_row))
+
+  floor_is : floor_of (truths v new ++ rests v new) ≡ floor_of (truths v row ++ rests v row)
+  floor_is =
+      ap (λ (t : List Entry). floor_of (t ++ rests v new)) truth_is ∙ ap (λ (r : List Entry). floor_of (truths v row ++ r)) rest_is
+
+  floor : floor_of (truths v new ++ rests v new) ≤ floor_of (truths v row ++ rests v row)
+  floor = omega (arith, floor_is)
+
+  -- ---- posts
+
+  abbrev FitsPost : ℕ → Post → Type 0
+  FitsPost q post = Holds (bond_of post (v.handovers q row.tablet).role) row.term (v.handovers q row.tablet).term (v.written q).applied
+
+  source_fits : (q : ℕ) → eqb source q ≡ true → FitsPost q MovingSource
+  source_fits q is =
+      subst (λ (m : ℕ). FitsPost m MovingSource) (eqb-true source q is)
+      (subst (λ (role : Role). Holds (bond_of MovingSource role) row.term giver.term (v.written source).applied) (sym may.frozen) may.term_is)
+
+  target_fits : (q : ℕ) → eqb target q ≡ true → FitsPost q (MovingTarget dfrom)
+  target_fits q is =
+      subst (λ (m : ℕ). FitsPost m (MovingTarget dfrom)) (eqb-true target q is)
+      (subst
+      (λ (role : Role). Holds (bond_of (MovingTarget dfrom) role) row.term (v.handovers target row.tablet).term (v.written target).applied)
+      (sym may.waiting.role_is) (may.waiting.term_is, refl))
+
+  fits_by : (q : ℕ) (a b : Bool) → eqb source q ≡ a → eqb target q ≡ b
+      → FitsPost q (cond a OpeningSource (cond b (ReadyTarget dfrom) Bystander))
+      → FitsPost q (cond a MovingSource (cond b (MovingTarget dfrom) Bystander))
+  fits_by q true b at its was = source_fits q at
+  fits_by q false true at its was = target_fits q its
+  fits_by q false false at its was = was
+
+  fits : (q : ℕ) → StillCounts (v.live q) (v.handovers q row.tablet).term row.term → RoleFits new q (v.handovers q row.tablet) (v.written q).applied
+  fits q counting =
+      fits_by q (eqb source q) (eqb target q) refl refl
+      (in_phase (λ p. FitsPost q (post_of p q))
+      (in_row (λ r. StillCounts (v.live q) (v.handovers q r.tablet).term r.term → RoleFits r q (v.handovers q r.tablet) (v.written q).applied)
+      (sound.roles.fitting q) counting))
+
+  speaks_by : (h : Handover) (a b : Bool) → speaks (cond a MovingSource (cond b (MovingTarget dfrom) Bystander)) h row.term ≡ true → speaks (cond a OpeningSource (cond b (ReadyTarget dfrom) Bystander)) h row.term ≡ true
+  speaks_by h true b says = refl
+  speaks_by h false true says = says
+  speaks_by h false false says = says
+
+  speaks_no_more : (q : ℕ) → speaks (post_of moving q) (v.handovers q row.tablet) row.term ≡ true → speaks (post_of row.phase q) (v.handovers q row.tablet) row.term ≡ true
+  speaks_no_more q says =
+      ap (λ (p : Phase). speaks (post_of p q) (v.handovers q row.tablet) row.term) may.phase_is
+      ∙ speaks_by (v.handovers q row.tablet) (eqb source q) (eqb target q) says
+
+  -- the source has all items, as it had
+  full_by : (h : Handover) (a b : Bool) → has_all_items (cond a MovingSource (cond b (MovingTarget dfrom) Bystander)) h row.term ≡ true → has_all_items (cond a OpeningSource (cond b (ReadyTarget dfrom) Bystander)) h row.term ≡ true
+  full_by h true b has = refl
+  full_by h false true has = has
+  full_by h false false has = has
+
+  full : (q : ℕ) → v.live q ≡ true → has_all_items (post_of moving q) (v.handovers q row.tablet) row.term ≡ true → HasItems new v.written (v.records q)
+  full q lives has =
+      in_phase (λ p. IfSome (first_of (lineage_of p)) (λ m. IsTableOf row.range (member_truth v.written row.range m) (v.records q)))
+      (in_row (λ r. has_all_items (post_of r.phase q) (v.handovers q r.tablet) r.term ≡ true → HasItems r v.written (v.records q))
+      (sound.records.items q lives)
+      (ap (λ (p : Phase). has_all_items (post_of p q) (v.handovers q row.tablet) row.term) may.phase_is
+      ∙ full_by (v.handovers q row.tablet) (eqb source q) (eqb target q) has))
+
+  -- ---- members
+
+  given_is : get noted row.tablet ≡ Some given
+  given_is = get_same v.handed row.tablet given row.tablet refl
+
+  members : MembersAgree v new noted
+  members = record {
+    placed =
+        All-cons (IsPlaced v.written) first (last ∷ [])
+        (All-head (IsPlaced v.written) first []
+        (in_phase (λ p. All (IsPlaced v.written) (lineage_of p)) (in_row (λ r. All (IsPlaced v.written) (lineage_of r.phase)) sound.rows.placed)))
+        (All-cons (IsPlaced v.written) last [] bare.placed (All-nil (IsPlaced v.written)));
+    done = done;
+    unnamed = tt;
+    named = λ item stands.
+        let none = names_none v.written row.range last some bare.nothing in
+        let nothing : Contains [] item =
+        subst (λ (l : List ℕ). Contains (filter (is_in row.range) (items_of (flat_map (side_entries (v.written target).sides) l))) item)
+        none stands in
+        absurd (omega (arith, nothing.1));
+    target = λ granted. absurd (false≢true (ap is_granted (sym may.waiting.role_is) ∙ granted));
+    handed_on = λ terms. given_is ∙ (λ i. Some (record { floor = may.floor_is i; ends = may.ends_are i }));
+  }
+
+  -- ---- what is handed over
+
+  -- the source answers calls until then: it speaks
+  speaks_still : speaks (post_of row.phase source) giver row.term ≡ true
+  speaks_still =
+      ap (λ (p : Phase). speaks (post_of p source) giver row.term) may.phase_is
+      ∙ ap (λ (b : Bool). speaks (cond b OpeningSource (cond (eqb target source) (ReadyTarget dfrom) Bystander)) giver row.term)
+      (eq-eqb source source refl)
+
+  reached : ReachAll row.range v.journal given.ends
+  reached =
+      subst (ReachAll row.range v.journal) (sym may.ends_are)
+      (in_row
+      (λ r. StillCounts (v.live source) (v.handovers source r.tablet).term r.term
+      → speaks (post_of r.phase source) (v.handovers source r.tablet) r.term ≡ true
+      → ReachAll r.range v.journal (ends_of (v.completions source r.tablet)))
+      (sound.calls.answering source) (inr may.term_is) speaks_still)
+
+  next : IsNext (truths v row ++ rests v row) given.floor
+  next =
+      subst (IsNext (truths v row ++ rests v row)) (sym may.floor_is)
+      (in_row
+      (λ r. StillCounts (v.live source) (v.handovers source r.tablet).term r.term
+      → speaks (post_of r.phase source) (v.handovers source r.tablet) r.term ≡ true
+      → IsNext (truths v r ++ rests v r) (v.handovers source r.tablet).counter)
+      (sound.counters.counted source) (inr may.term_is) speaks_still)
+
+  -- what the target begins with tells all ends, and is above all versions
+  ends : TellAll row.range v.journal (beginning_in new given ∷ [])
+  ends =
+      All-weaker
+      (λ placed. is_record_in row.range placed ≡ true → is_mutation placed.call.op ≡ true → IsReached given.ends placed)
+      (λ placed. is_record_in row.range placed ≡ true → is_mutation placed.call.op ≡ true → IsReached (given.ends ++ []) placed)
+      (λ placed reach inside mutates.
+      subst (λ (l : List Ended). IsReached l placed) (sym (append-nil given.ends)) (reach inside mutates)) v.journal reached
+
+  low : AreAboveMap row.range (map_after (base_map v.base) v.journal) (beginning_in new given ∷ [])
+  low table key inside =
+      let below =
+      in_row (λ r. AreAboveMap r.range (map_after (base_map v.base) v.journal) (truths v r)) sound.counters.low table key inside in
+      let fewer : floor_of (of_key table key (truths v row)) ≤ floor_of (truths v row ++ rests v row) =
+      floor_among (of_key table key (truths v row)) (truths v row ++ rests v row)
+      (λ entry stands. kept_stands table key (truths v row) (rests v row) entry stands) in
+      let behind : floor_of (truths v row ++ rests v row) ≤ given.floor = next in
+      omega (arith, below, fewer, behind)
+
+  target_is : target_truth v.written noted new moving ≡ Some (beginning_in new given ∷ [])
+  target_is =
+      ap (option_map (λ h. beginning_in new h ∷ member_truth v.written row.range last)) given_is
+      ∙ ap (λ (l : List Entry). Some (beginning_in new given ∷ l)) (truth_none v.written row.range last some bare.nothing)
+
+  abbrev HandsOver : Handed → Type 0
+  HandsOver h = AreHandedOver v.base row.range v.journal h.ends × IsNext (truths v new ++ rests v new) h.floor
+
+  behind : IsNext (truths v new ++ rests v new) given.floor
+  behind = let was : floor_of (truths v row ++ rests v row) ≤ given.floor = next in omega (arith, floor, was)
+
+  left : MayBeLeft v new noted
+  left = record {
+    ends = subst (λ (o : Option (List Entry)). IfSome o (TellAll row.range v.journal)) (sym target_is) ends;
+    low =
+        subst (λ (o : Option (List Entry)). IfSome o (AreAboveMap row.range (map_after (base_map v.base) v.journal))) (sym target_is) low;
+    granted =
+        cond_both (is_wanting (v.handovers target row.tablet).role) (get noted row.tablet) None (λ o. IfSome o HandsOver)
+        (λ wants.
+        subst (λ (o : Option Handed). IfSome o HandsOver) (sym given_is) (record { reached = reached; known = may.known }, behind))
+        (λ none. tt);
+  }
+
+  pub may_be_moved : MayTakeLineage v row moving noted
+  may_be_moved = record {
+    has_row = may.has_row;
+    passes =
+        inl
+        (record { source = source; sfrom = sfrom; target = target; dfrom = dfrom; was = may.phase_is; is = refl });
+    at_term = (may.term_is, may.waiting.term_is);
+    fits = fits;
+    speaks = λ q counting. speaks_no_more q;
+    full = full;
+    history = history;
+    floor = floor;
+    members = members;
+    left = left;
+    last = inr rest_was;
+    others = λ tablet apart. get_other v.handed row.tablet given tablet apart;
+  }
+
+  pub view_moved : SoundView (lineage_taken v new noted)
+  view_moved = view_lineage_taken v row moving noted sound may_be_moved
+
+pub sound_moved : (w : World) (row : Row) (source sfrom target dfrom : ℕ) (given : Handed) → IsSound w → HasSome row.range → MayMove (view w) row source sfrom target dfrom given → IsSound (row_moved_in w row source sfrom target dfrom given)
+sound_moved w row source sfrom target dfrom given sound some may =
+    let turned = may_be_moved (view w) row source sfrom target dfrom given sound some may in
+    let noted : NumberMap Handed = insert (view w).handed row.tablet given in
+    subst (λ (rows : List Row). SoundView (record (view w) { rows = rows; handed = noted }))
+    (sym (rows_after (view w) row (Moving source sfrom target dfrom) noted sound turned))
+    (view_moved (view w) row source sfrom target dfrom given sound some may)

@@ -1,0 +1,277 @@
+-- An owned row that is split, with its halves, and what masters have of tablets before and after.
+use Rattle.std.proofs.Common.{◌≡◌, ℕ, ◌+◌, ◌≤◌, Bool, true, false, cond, ◌||◌, List, [], ◌∷◌, Option, Some, None, eqb, refl, sym, ap, subst}
+use Rattle.std.proofs.Common.{◌∙◌, ⊎_elim, arith, ◌⊎◌, inl, is_some, All, Contains, eq-eqb, ne_eqb}
+use Rattle.rk_inv_base.proofs.Words.{cases_Bool, false≢true, or_left, or_right, All-contains, has, meets, Ended, Range, Completions}
+use Rattle.rk_inv_base.proofs.Words.{Handover, lineage_of, IsTabletMap, Precedes, is_covered, is_split, row_of, Owned, Row, Gather}
+use Rattle.rk_inv_base.proofs.Words.{is_member, is_absent, Pulling, Bystander, Owner, Post, Holds, StillCounts, bond_of, RoleFits, View}
+use Rattle.rk_inv_base.proofs.Words.{SoundView}
+use Rattle.rk_inv_base.proofs.rows.Apart.{one_precedes}
+use Rattle.rk_inv_base.proofs.rows.Serving.{meets_either}
+use Rattle.rk_inv_base.proofs.rows.TurnedRows.{stands_found}
+use Rattle.rk_inv_base.proofs.rows.BeforeTurn.{at_most}
+use Rattle.rk_inv_rows.specs.split.Halves.{IsHalf}
+use Rattle.rk_inv_rows.specs.split.Small.{as_half, lower_row, rows_halved, upper_row}
+use Rattle.rk_inv_rows.proofs.split.Ranges.{meets_whole}
+use Rattle.rk_inv_rows.proofs.split.SplitRows.{covered_halved, each_halved, halves_apart, halves_apart_turned, known_halved, lower_half, lower_stands, other, others_stand, unknown, upper_half, upper_stands}
+
+-- an owned row of a sound view that may be split at a hash, with the number of its upper half
+pub record Splitting (v : View) : Type 0 where
+  pub tablet : ℕ
+  pub range : Range
+  pub term : ℕ
+  pub owner : ℕ
+  pub from : ℕ
+  pub at : ℕ
+  pub new : ℕ
+  pub sound : SoundView v
+  pub has_row : Contains v.rows (record { tablet = tablet; range = range; term = term; phase = Owned owner from })
+  pub free : is_some (row_of v.rows new) ≡ false
+  pub splits : is_split range at ≡ true
+
+module _ (v : View) (cut : Splitting v) where
+  open cut use {tablet, range, term, owner, from, at, new, sound, has_row, free, splits}
+
+  abbrev pub row : Row
+  row = record { tablet = tablet; range = range; term = term; phase = Owned owner from }
+
+  abbrev pub low : Row
+  low = lower_row row at
+
+  abbrev pub high : Row
+  high = upper_row row at new
+
+  abbrev pub rows' : List Row
+  rows' = rows_halved v.rows row at new
+
+  pub map : IsTabletMap v.rows
+  map = sound.rows.apart
+
+  pub in_row : (P : Row → Type 0) → All P v.rows → P row
+  in_row P all = All-contains P v.rows row all has_row
+
+  pub each : (P : Row → Type 0) → P low → P high → ((x : Row) → Contains v.rows x → (x.tablet ≡ tablet → ⊥) → P x) → All P rows'
+  each P = each_halved v.rows row at new map has_row free splits P
+
+  pub kept : (P : Row → Type 0) → P low → P high → All P v.rows → All P rows'
+  kept P first second all = each P first second (λ x has unlike. All-contains P v.rows x all has)
+
+  pub none_new : (x : Row) → Contains v.rows x → x.tablet ≡ new → ⊥
+  none_new = other v.rows row at new map has_row free splits
+
+  pub unknown_new : (n : ℕ) → is_some (row_of v.rows n) ≡ true → n ≡ new → ⊥
+  unknown_new = unknown v.rows row at new map has_row free splits
+
+  pub low_half : IsHalf range low.range
+  low_half = lower_half v.rows row at new map has_row free splits
+
+  pub high_half : IsHalf range high.range
+  high_half = upper_half v.rows row at new map has_row free splits
+
+  pub covered_same : (table hash : ℕ) → is_covered rows' table hash ≡ is_covered v.rows table hash
+  covered_same = covered_halved v.rows row at new map has_row free splits
+
+  pub known_on : (n : ℕ) → is_some (row_of v.rows n) ≡ true → is_some (row_of rows' n) ≡ true
+  known_on n known =
+      known_halved v.rows row at new map has_row free splits n ∙ or_right (eqb new n) (is_some (row_of v.rows n)) known
+
+  pub known_new : is_some (row_of rows' new) ≡ true
+  known_new =
+      known_halved v.rows row at new map has_row free splits new ∙ or_left (eqb new new) (is_some (row_of v.rows new)) (eq-eqb new new refl)
+
+  pub known_low : is_some (row_of rows' tablet) ≡ true
+  known_low = known_on tablet (ap is_some (stands_found v.rows row map has_row))
+
+  pub still_none : (n : ℕ) → row_of rows' n ≡ None → row_of v.rows n ≡ None
+  still_none n none = go (row_of v.rows n) (known_on n)
+    where
+      go : (o : Option Row) → (is_some o ≡ true → is_some (row_of rows' n) ≡ true) → o ≡ None
+      go None on = refl
+      go (Some x) on = absurd (false≢true (sym (ap is_some none) ∙ on refl))
+
+  none_found : row_of v.rows new ≡ None
+  none_found = go (row_of v.rows new) free
+    where
+      go : (o : Option Row) → is_some o ≡ false → o ≡ None
+      go None is = refl
+      go (Some x) is = absurd (cc is)
+
+  -- the halves stand beside each other and beside the other rows
+  pub low_apart : meets low.range high.range ≡ false
+  low_apart = halves_apart v.rows row at new map has_row free splits
+
+  pub high_apart : meets high.range low.range ≡ false
+  high_apart = halves_apart_turned v.rows row at new map has_row free splits
+
+  pub low_stands : Contains rows' low
+  low_stands = lower_stands v.rows row at new map has_row free splits
+
+  pub high_stands : Contains rows' high
+  high_stands = upper_stands v.rows row at new map has_row free splits
+
+  pub other_stands : (x : Row) → Contains v.rows x → (x.tablet ≡ tablet → ⊥) → Contains rows' x
+  other_stands = others_stand v.rows row at new map has_row free splits
+
+  pub new_apart : new ≡ tablet → ⊥
+  new_apart is = none_new row has_row (sym is)
+
+  -- what meets a half meets the row
+  pub half_met : (half a : Range) → IsHalf range half → meets half a ≡ true → meets range a ≡ true
+  half_met half a is met = meets_either a range (meets_whole range half is a (meets_either half a met))
+
+  -- no half meets another row
+  pub half_apart : (half : Range) → IsHalf range half → (x : Row) → Contains v.rows x → (x.tablet ≡ tablet → ⊥) → meets x.range half ≡ true → ⊥
+  half_apart half is x has unlike met =
+      let whole : meets x.range range ≡ true = meets_whole range half is x.range met in
+      ⊎_elim (λ (same : x ≡ row). unlike (ap (λ (r : Row). r.tablet) same))
+      (λ (p : Precedes x row ⊎ Precedes row x).
+      ⊎_elim (λ (h : Precedes x row). false≢true (sym h.apart ∙ whole)) (λ (h : Precedes row x). false≢true (sym h.apart ∙ meets_either x.range range whole)) p)
+      (one_precedes v.rows x row map has has_row)
+
+  -- ---- what masters have of the two tablets
+
+  -- what masters had of the two tablets
+  pub at_most_row : (q : ℕ) → (v.handovers q tablet).term ≤ term
+  at_most_row q = at_most v row q sound has_row
+
+  pub term_none : (q : ℕ) → (v.handovers q new).term ≡ 0
+  term_none q = sound.cover.unknown q new none_found
+
+  pub absent_before : (q : ℕ) → is_absent (v.handovers q new).role ≡ true
+  absent_before q =
+      ⊎_elim (λ (is : is_absent (v.handovers q new).role ≡ true). is)
+      (λ (is : is_absent (v.handovers q new).role ≡ false).
+      let begun : 1 ≤ (v.handovers q new).term = sound.terms.begun q new is in
+      let none : (v.handovers q new).term ≡ 0 = term_none q in
+      absurd (omega (arith, begun, none)))
+      (cases_Bool (is_absent (v.handovers q new).role))
+
+  -- the halves that a living owner has
+  abbrev pub low_half_of : ℕ → Handover
+  low_half_of q = as_half (v.handovers q tablet) low.range (term + 1)
+
+  abbrev pub high_half_of : ℕ → Handover
+  high_half_of q = as_half (v.handovers q tablet) high.range (term + 1)
+
+  -- the tablet is the owner's that lives
+  abbrev pub Serves : ℕ → Type 0
+  Serves q = (v.live q ≡ true) × (q ≡ owner)
+
+  -- a tablet of a master beside the halves of a living owner
+  abbrev pub Beside : ℕ → ℕ → Type 0
+  Beside q n = Serves q → (n ≡ tablet → ⊥) × (n ≡ new → ⊥)
+
+  -- so it is of the halves of a living owner
+  abbrev pub AtLow : (Handover → Type 0) → ℕ → ℕ → Type 0
+  AtLow P q n = Serves q → n ≡ tablet → P (low_half_of q)
+
+  abbrev pub AtHigh : (Handover → Type 0) → ℕ → ℕ → Type 0
+  AtHigh P q n = Serves q → n ≡ new → P (high_half_of q)
+
+  -- or of a living master that is not the owner
+  abbrev pub AtOther : (Handover → Type 0) → ℕ → ℕ → Type 0
+  AtOther P q n = v.live q ≡ true → eqb owner q ≡ false → P (v.handovers q n)
+
+  -- the number of one of the halves
+  abbrev pub IsOfHalves : ℕ → Type 0
+  IsOfHalves n = (n ≡ tablet) ⊎ (n ≡ new)
+
+  -- what a master is to the row, and to its halves
+  abbrev pub post_now : ℕ → Post
+  post_now q = cond (eqb owner q) (Owner from) Bystander
+
+  -- another one than the halves has what it had
+  abbrev pub IsAway : {X : Type 0} → (ℕ → ℕ → X) → (ℕ → ℕ → X) → Type 0
+  IsAway was is = (q n : ℕ) → Beside q n → is q n ≡ was q n
+
+  pub apart_of : (x : Row) → Contains v.rows x → (x.tablet ≡ tablet → ⊥) → (q : ℕ) → Beside q x.tablet
+  apart_of x has unlike q serves = (unlike, none_new x has)
+
+  -- what a master has of a tablet: a living owner the halves, and else what it had
+  pub data Has (q n : ℕ) (h : Handover) : Type 0 where
+    Old : h ≡ v.handovers q n → Beside q n → Has q n h
+    Low : Serves q → n ≡ tablet → h ≡ low_half_of q → Has q n h
+    High : Serves q → n ≡ new → h ≡ high_half_of q → Has q n h
+
+  -- ---- what a master is to the row
+
+  -- the owner that lives
+  pub owner_fits : (q : ℕ) → Serves q → Holds (bond_of (Owner from) (v.handovers q tablet).role) term (v.handovers q tablet).term (v.written q).applied
+  owner_fits q serves =
+      subst (λ (b : Bool). Holds (bond_of (cond b (Owner from) Bystander) (v.handovers q tablet).role) term (v.handovers q tablet).term (v.written q).applied)
+      (eq-eqb owner q (sym serves.1))
+      (in_row (λ r. StillCounts (v.live q) (v.handovers q r.tablet).term r.term → RoleFits r q (v.handovers q r.tablet) (v.written q).applied) (sound.roles.fitting q) (inl serves.0))
+
+  pub owner_range : (q : ℕ) → Serves q → (v.handovers q tablet).range ≡ range
+  owner_range q serves =
+      in_row (λ r. StillCounts (v.live q) (v.handovers q r.tablet).term r.term → is_member (lineage_of r.phase) q ≡ true → (v.handovers q r.tablet).range ≡ r.range) (sound.roles.ranged q)
+      (inl serves.0) (or_left (eqb owner q) false (eq-eqb owner q (sym serves.1)))
+
+  abbrev pub Counts : ℕ → Handover → Type 0
+  Counts q h = StillCounts (v.live q) h.term (term + 1)
+
+  -- only a living master counts at the next term
+  pub lives_now : (q own : ℕ) → own ≤ term → StillCounts (v.live q) own (term + 1) → v.live q ≡ true
+  lives_now q own few counts = ⊎_elim (λ (lives : v.live q ≡ true). lives) (λ (same : own ≡ term + 1). absurd (omega (arith, few, same))) counts
+
+  -- one that has what it had is no owner
+  pub not_owner : (q n : ℕ) → Beside q n → v.live q ≡ true → IsOfHalves n → eqb owner q ≡ false
+  not_owner q n unlike lives its =
+      ne_eqb owner q
+      (λ is.
+      ⊎_elim (λ (e : n ≡ tablet). (unlike (lives, sym is)).0 e) (λ (e : n ≡ new). (unlike (lives, sym is)).1 e) its)
+
+  pub bystands : (q : ℕ) → v.live q ≡ true → eqb owner q ≡ false → Holds (bond_of Bystander (v.handovers q tablet).role) term (v.handovers q tablet).term (v.written q).applied
+  bystands q lives away =
+      subst (λ (b : Bool). Holds (bond_of (cond b (Owner from) Bystander) (v.handovers q tablet).role) term (v.handovers q tablet).term (v.written q).applied) away
+      (in_row (λ r. StillCounts (v.live q) (v.handovers q r.tablet).term r.term → RoleFits r q (v.handovers q r.tablet) (v.written q).applied) (sound.roles.fitting q) (inl lives))
+
+  pub no_owner : (q : ℕ) → eqb owner q ≡ false → is_member (record { master = owner; from = from } ∷ []) q ≡ true → ⊥
+  no_owner q away inside = false≢true (sym (ap (λ (b : Bool). b || false) away) ∙ inside)
+
+-- what masters have of tablets once the row is split
+pub record Halved (v : View) (cut : Splitting v) : Type 0 where
+  pub handovers' : ℕ → ℕ → Handover
+  pub completions' : ℕ → ℕ → Completions
+  pub pullings' : ℕ → ℕ → Pulling
+  pub gathers' : ℕ → ℕ → Gather
+  pub merged' : ℕ → ℕ → List Ended
+  pub halved : (q n : ℕ) → Has v cut q n (handovers' q n)
+  pub completions_away : IsAway v cut v.completions completions'
+  pub pullings_away : IsAway v cut v.pullings pullings'
+  pub gathers_away : IsAway v cut v.gathers gathers'
+  pub merged_away : IsAway v cut v.merged merged'
+  pub ends_stay : (q n : ℕ) → Serves v cut q → IsOfHalves v cut n → completions' q n ≡ v.completions q cut.tablet
+
+module _ (v : View) (cut : Splitting v) (after : Halved v cut) where
+  open cut use {tablet, term, owner, from, new}
+  open after use {handovers', halved}
+
+  by_has : (P : Handover → Type 0) (q n : ℕ) (h : Handover) → Has v cut q n h → (Beside v cut q n → P (v.handovers q n)) → AtLow v cut P q n → AtHigh v cut P q n → P h
+  by_has P q n h (Old is unlike) old first second = subst P (sym is) (old unlike)
+  by_has P q n h (Low serves its is) old first second = subst P (sym is) (first serves its)
+  by_has P q n h (High serves its is) old first second = subst P (sym is) (second serves its)
+
+  pub by : (P : Handover → Type 0) (q n : ℕ) → (Beside v cut q n → P (v.handovers q n)) → AtLow v cut P q n → AtHigh v cut P q n → P (handovers' q n)
+  by P q n = by_has P q n (handovers' q n) (halved q n)
+
+  -- of another row's tablet it is what it was
+  pub of_row : (x : Row) → Contains v.rows x → (x.tablet ≡ tablet → ⊥) → (q : ℕ) → v.handovers q x.tablet ≡ handovers' q x.tablet
+  of_row x has unlike q =
+      by (λ h. v.handovers q x.tablet ≡ h) q x.tablet (λ _. refl) (λ _ its. absurd (unlike its)) (λ _ its. absurd (none_new v cut x has its))
+
+  pub by_row : (x : Row) → Contains v.rows x → (x.tablet ≡ tablet → ⊥) → (q : ℕ) (P : Handover → Type 0) → P (v.handovers q x.tablet) → P (handovers' q x.tablet)
+  by_row x has unlike q P = subst P (of_row x has unlike q)
+
+  -- what a master is to a half, and has of it
+  pub by_post : (P : Post → Handover → Type 0) (q n : ℕ) → IsOfHalves v cut n → AtLow v cut (P (Owner from)) q n → AtHigh v cut (P (Owner from)) q n → AtOther v cut (P Bystander) q n → Counts v cut q (handovers' q n) → P (post_now v cut q) (handovers' q n)
+  by_post P q n its first second old =
+      by (λ h. Counts v cut q h → P (post_now v cut q) h) q n
+      (λ unlike counts.
+      let few : (v.handovers q n).term ≤ term =
+      ⊎_elim (λ (e : n ≡ tablet). subst (λ (m : ℕ). (v.handovers q m).term ≤ term) (sym e) (at_most_row v cut q))
+      (λ (e : n ≡ new). let none : (v.handovers q n).term ≡ 0 = ap (λ (m : ℕ). (v.handovers q m).term) e ∙ term_none v cut q in omega (arith, none)) its in
+      let lives = lives_now v cut q (v.handovers q n).term few counts in
+      let away = not_owner v cut q n unlike lives its in
+      subst (λ (b : Bool). P (cond b (Owner from) Bystander) (v.handovers q n)) (sym away) (old lives away))
+      (λ serves it _. subst (λ (b : Bool). P (cond b (Owner from) Bystander) (low_half_of v cut q)) (sym (eq-eqb owner q (sym serves.1))) (first serves it))
+      (λ serves it _. subst (λ (b : Bool). P (cond b (Owner from) Bystander) (high_half_of v cut q)) (sym (eq-eqb owner q (sym serves.1))) (second serves it))

@@ -1,0 +1,6 @@
+pub mod ready
+pub mod grant
+pub mod seal
+pub mod merge
+pub mod crash
+pub mod steady

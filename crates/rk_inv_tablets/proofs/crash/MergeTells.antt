@@ -1,0 +1,267 @@
+-- What a rebuild merged tells nothing that is not told by what it read: neither its copies nor the entry that closes it.
+use Rattle.std.proofs.Common.{◌≡◌, ◌≤◌, ℕ, zero, List, [], ◌∷◌, ◌++◌, map, fold, cond, true, false, Option, Some, None, refl, sym, ap}
+use Rattle.std.proofs.Common.{subst, ◌∙◌, ⊎_elim, arith, All, Contains, filter, not, ◌==◌, flat_map, nat_cmp}
+use Rattle.rk_inv_base.proofs.Words.{cond_both, flat_map-append, All-append, All-cons, All-contains, All-filter, All-head, All-map, All-nil}
+use Rattle.rk_inv_base.proofs.Words.{All-tail, All-weaker, Contains-append_left, Contains-append_right, ranked, by_order, eq_by_cmp, Less}
+use Rattle.rk_inv_base.proofs.Words.{Equal, Greater, same_number, get, insert, Ended, Held, Member, Entry, Completions, completions_from}
+use Rattle.rk_inv_base.proofs.Words.{ended_of, ends_of, is_later, noted, Completion, Handover, newest_is, newest_items_are, newest_items}
+use Rattle.rk_inv_base.proofs.Words.{item_end, items_in, items_of, told, told_by, Gather, Gathered, by_member, counted_of, is_of_lineage}
+use Rattle.rk_inv_base.proofs.Words.{material_by, as_entries, ends_by_place, first_told, floor_by, floor_of, has_version, is_placed, merge}
+use Rattle.rk_inv_base.proofs.Words.{merged_ends, placed_ends, TellNoMore, closing_carried}
+use Rattle.rk_entry.specs.declared.entry.Entry.TheVariants as entries
+use Rattle.rk_inv_base.proofs.rows.Apart.{contains_cases}
+use Rattle.rk_inv_base.proofs.logs.Floors.{floor_above, floor_append, floor_rises, floor_step}
+use Rattle.rk_inv_base.proofs.views.Lists.{all_by}
+use Rattle.rk_inv_wellformed.proofs.maps.Lists.{all_flat}
+use Rattle.rk_inv_tablets.proofs.crash.Among.{flat_of}
+
+-- an entry tells nothing that these do not
+pub record IsToldBy (others : List Entry) (entry : Entry) : Type 0 where
+  pub items : All (Contains (items_of others)) (items_in entry)
+  pub ends : All (Contains (told others)) (told_by entry)
+  pub floor : floor_by 1 entry ≤ floor_of others
+
+-- a floor that is low stays so by an entry whose own floor is low
+floor_under : (floor bound : ℕ) (entry : Entry) → floor ≤ bound → floor_by 1 entry ≤ bound → floor_by floor entry ≤ bound
+floor_under floor bound (entries.Held held) low its = omega (arith, low, its)
+floor_under floor bound (entries.Refused refused) low its = low
+floor_under floor bound (entries.Carried carried) low its = omega (arith, low, its)
+floor_under floor bound (entries.Joined joined) low its = low
+
+floors_under : (floor bound : ℕ) (list : List Entry) → floor ≤ bound → All (λ entry. floor_by 1 entry ≤ bound) list → fold floor_by floor list ≤ bound
+floors_under floor bound [] low each = low
+floors_under floor bound (entry ∷ list) low each =
+    let Low : Entry → Type 0 = λ e. floor_by 1 e ≤ bound in
+    floors_under (floor_by floor entry) bound list (floor_under floor bound entry low (All-head Low entry list each))
+    (All-tail Low entry list each)
+
+-- a floor is at least 1
+floor_some : (list : List Entry) → 1 ≤ floor_of list
+floor_some list = floor_append 1 [] list
+
+-- entries tell nothing that others do not, where none of them does
+pub all_told : (list others : List Entry) → All (IsToldBy others) list → TellNoMore list others
+all_told list others each = record {
+  items = λ item at.
+      All-contains (Contains (items_of others)) (items_of list) item
+      (all_flat (Contains (items_of others)) items_in list
+      (All-weaker (IsToldBy others) (λ e. All (Contains (items_of others)) (items_in e)) (λ e its. its.items) list each)) at;
+  ends =
+      all_flat (Contains (told others)) told_by list
+      (All-weaker (IsToldBy others) (λ e. All (Contains (told others)) (told_by e)) (λ e its. its.ends) list each);
+  floor =
+      floors_under 1 (floor_of others) list (floor_some others)
+      (All-weaker (IsToldBy others) (λ e. floor_by 1 e ≤ floor_of others) (λ e its. its.floor) list each);
+}
+
+-- the end of a call that left an item is told where the item stands
+pub item_told : (list : List Entry) (item : Held) → Contains (items_of list) item → Contains (told list) (item_end item)
+item_told [] item at = absurd (omega (arith, at.1))
+item_told (entries.Held held ∷ list) item at =
+    ⊎_elim
+    (λ (same : held ≡ item). subst (λ (x : Held). Contains (item_end held ∷ told list) (item_end x)) same (zero, omega arith, refl))
+    (λ (behind : Contains (items_of list) item).
+    Contains-append_right (item_end held ∷ []) (told list) (item_end item) (item_told list item behind))
+    (contains_cases held (items_of list) item at)
+item_told (entries.Refused refused ∷ list) item at =
+    Contains-append_right (told_by (entries.Refused refused)) (told list) (item_end item) (item_told list item at)
+item_told (entries.Carried carried ∷ list) item at =
+    Contains-append_right carried.ends (told list) (item_end item) (item_told list item at)
+item_told (entries.Joined joined ∷ list) item at = item_told list item at
+
+-- an item that others have is told by them
+pub held_told : (others : List Entry) (item : Held) → Contains (items_of others) item → IsToldBy others (entries.Held item)
+held_told others item at = record {
+  items = All-cons (Contains (items_of others)) item [] at (All-nil _);
+  ends = All-cons (Contains (told others)) (item_end item) [] (item_told others item at) (All-nil _);
+  floor =
+      let above = floor_above others item at in
+      let some = floor_some others in omega (arith, above, some);
+}
+
+-- the newest items are items
+newest_stand : (items : List Held) → All (Contains items) (newest_items items)
+newest_stand items =
+    all_by (Contains items) (newest_items items)
+    (λ item at. (newest_is items item.table item.key item (((newest_items_are items).newest item).0 at)).stands)
+
+-- ---- ends
+
+module _ (P : Ended → Type 0) where
+  -- the ends that have their place are among the ends
+  placed_each : (all later seen ends : List Ended) → All P ends → All P (placed_ends all later seen ends)
+  placed_each all later seen [] each = All-nil P
+  placed_each all later seen (end ∷ ends) each =
+      let rest = placed_each all later (seen ++ end ∷ []) ends (All-tail P end ends each) in
+      cond_both (is_placed all later seen end) (end ∷ placed_ends all later (seen ++ end ∷ []) ends)
+      (placed_ends all later (seen ++ end ∷ []) ends) (All P)
+      (λ here. All-cons P end _ (All-head P end ends each) rest) (λ elsewhere. rest)
+
+  by_place_each : (all : List Ended) (members : List (List Entry)) → All P (flat_map told members) → All P (ends_by_place all (map told members))
+  by_place_each all [] each = All-nil P
+  by_place_each all (list ∷ later) each =
+      All-append P _ _
+      (placed_each all (flat_map (λ told. told) (map told later)) [] (told list)
+      (all_by P (told list) (λ end at.
+      All-contains P (flat_map told (list ∷ later)) end each (Contains-append_left (told list) (flat_map told later) end at))))
+      (by_place_each all later
+      (all_by P (flat_map told later) (λ end at.
+      All-contains P (flat_map told (list ∷ later)) end each (Contains-append_right (told list) (flat_map told later) end at))))
+
+  -- a pair of a client and its last call
+  abbrev OfPair : ℕ × Completion → Type 0
+  OfPair pair = P (ended_of pair)
+
+  insert_each : (things : Completions) (number : ℕ) (thing : Completion) → All OfPair things → OfPair (number, thing) → All OfPair (insert things number thing)
+  insert_each [] number thing each new = All-cons OfPair (number, thing) [] new (All-nil OfPair)
+  insert_each (here ∷ things) number thing each new =
+      elim (nat_cmp number here.0) as (λ o. nat_cmp number here.0 ≡ o → All OfPair (by_order o ((number, thing) ∷ here ∷ things) ((here.0, thing) ∷ things) (here ∷ insert things number thing))) [
+        | Less ↦ λ is. All-cons OfPair (number, thing) (here ∷ things) new each
+        | Equal ↦ λ is.
+            let same : number ≡ here.0 = ranked number here.0 Equal (sym is) in
+            All-cons OfPair (here.0, thing) things (subst (λ (n : ℕ). OfPair (n, thing)) same new) (All-tail OfPair here things each)
+        | Greater ↦ λ is.
+            All-cons OfPair here (insert things number thing) (All-head OfPair here things each)
+            (insert_each things number thing (All-tail OfPair here things each) new)
+      ] refl
+
+  -- the last ends of clients are among the ends
+  completions_each : (completions : Completions) (ends : List Ended) → All OfPair completions → All P ends → All OfPair (completions_from completions ends)
+  completions_each completions [] each new = each
+  completions_each completions (ended ∷ later) each new =
+      completions_each (noted completions ended) later
+      (cond_both (is_later (get completions ended.client) ended.seq)
+      (insert completions ended.client (record { seq = ended.seq; end = ended.end })) completions (All OfPair)
+      (λ late. insert_each completions ended.client (record { seq = ended.seq; end = ended.end }) each (All-head P ended later new))
+      (λ old. each))
+      (All-tail P ended later new)
+
+  got_each : (things : Completions) (q : ℕ) (thing : Completion) → All OfPair things → get things q ≡ Some thing → OfPair (q, thing)
+  got_each [] q thing each found = absurd (cc found)
+  got_each (here ∷ things) q thing each found =
+      elim (eq_by_cmp nat_cmp q here.0) as (λ b. eq_by_cmp nat_cmp q here.0 ≡ b → cond b (Some here.1) (get things q) ≡ Some thing → OfPair (q, thing)) [
+        | true ↦ λ is e.
+            let same : here.1 ≡ thing = cc e in
+            subst (λ (x : Completion). OfPair (q, x)) same
+            (subst (λ (n : ℕ). OfPair (n, here.1)) (sym (same_number q here.0 is)) (All-head OfPair here things each))
+        | false ↦ λ is e. got_each things q thing (All-tail OfPair here things each) e
+      ] refl found
+
+  first_each : (all : List Ended) (end : Ended) → All P all → P end → P (first_told end (get (completions_from [] all) end.client))
+  first_each all end each it = go (get (completions_from [] all) end.client) refl
+    where
+      go : (last : Option Completion) → get (completions_from [] all) end.client ≡ last → P (first_told end last)
+      go None is = it
+      go (Some last) is =
+          got_each (completions_from [] all) end.client last (completions_each [] all (All-nil OfPair) each) is
+
+  -- so are the ends of a merge
+  merged_each : (members : List (List Entry)) → All P (flat_map told members) → All P (merged_ends members)
+  merged_each members each =
+      All-map P (λ end. first_told end (get (completions_from [] (flat_map told members)) end.client)) _
+      (All-weaker P (λ end. P (first_told end (get (completions_from [] (flat_map told members)) end.client)))
+      (λ end it. first_each (flat_map told members) end each it) _
+      (by_place_each (flat_map told members) members each))
+
+  -- and the last of them, client by client
+  closing_each : (members : List (List Entry)) → All P (flat_map told members) → All P (ends_of (completions_from [] (merged_ends members)))
+  closing_each members each =
+      All-map P ended_of (completions_from [] (merged_ends members))
+      (completions_each [] (merged_ends members) (All-nil OfPair) (merged_each members each))
+
+-- ---- the piece of a rebuild
+
+-- what members tell, one after the other
+told_flat : (members : List (List Entry)) → flat_map told members ≡ told (flat_map (λ entries. entries) members)
+told_flat [] = refl
+told_flat (list ∷ later) =
+    ap (λ (ends : List Ended). told list ++ ends) (told_flat later)
+    ∙ sym (flat_map-append told_by list (flat_map (λ entries. entries) later))
+
+-- what was read, member by member, in one list
+abbrev pub read_all : List (List Entry) → List Entry
+read_all members = flat_map (λ entries. entries) members
+
+-- what a rebuild merged tells nothing that is not told by others, where what it read tells nothing that is not
+pub piece_told : (own : List Entry) (members : List (List Entry)) (handover : Handover) (others : List Entry) → TellNoMore (read_all members) others → All (IsToldBy others) (as_entries (merge own members).copies ++ closing_carried handover (merge own members) ∷ [])
+piece_told own members handover others tells =
+    All-append (IsToldBy others) (as_entries (merge own members).copies) (closing_carried handover (merge own members) ∷ [])
+    (All-map (IsToldBy others) entries.Held (merge own members).copies
+    (All-weaker (Contains (items_of (read_all members))) (λ item. IsToldBy others (entries.Held item))
+    (λ item at. held_told others item (tells.items item at)) (merge own members).copies
+    (All-filter (λ item. not (has_version (items_of own) item)) (Contains (items_of (read_all members)))
+    (newest_items (items_of (read_all members))) (newest_stand (items_of (read_all members))))))
+    (All-cons (IsToldBy others) (closing_carried handover (merge own members)) [] closing (All-nil _))
+  where
+    closing : IsToldBy others (closing_carried handover (merge own members))
+    closing = record {
+      items = All-nil _;
+      ends =
+          closing_each (Contains (told others)) members
+          (subst (All (Contains (told others))) (sym (told_flat members)) tells.ends);
+      floor = let low = tells.floor in let some = floor_some others in omega (arith, low, some);
+    }
+
+-- ---- entries that stand among others
+
+-- a floor is as great from a greater one on
+floor_more : (a b : ℕ) (entry : Entry) → a ≤ b → floor_by a entry ≤ floor_by b entry
+floor_more a b (entries.Held held) less = omega (arith, less)
+floor_more a b (entries.Refused refused) less = less
+floor_more a b (entries.Carried carried) less = omega (arith, less)
+floor_more a b (entries.Joined joined) less = less
+
+-- an entry's floor is not above that of all
+floor_stands : (floor : ℕ) (list : List Entry) (entry : Entry) → 1 ≤ floor → Contains list entry → floor_by 1 entry ≤ fold floor_by floor list
+floor_stands floor [] entry some at = absurd (omega (arith, at.1))
+floor_stands floor (first ∷ list) entry some at =
+    let step = floor_step floor first in
+    ⊎_elim
+    (λ (same : first ≡ entry).
+    let one = floor_more 1 floor first some in
+    let rest = floor_rises (floor_by floor first) list in
+    subst (λ (e : Entry). floor_by 1 e ≤ fold floor_by (floor_by floor first) list) same (omega (arith, one, rest)))
+    (λ (later : Contains list entry). floor_stands (floor_by floor first) list entry (omega (arith, some, step)) later)
+    (contains_cases first list entry at)
+
+-- an entry that stands among others is told by them
+pub stands_told : (others : List Entry) (entry : Entry) → Contains others entry → IsToldBy others entry
+stands_told others entry at = record {
+  items = all_by (Contains (items_of others)) (items_in entry) (λ item its. flat_of items_in others entry item at its);
+  ends = all_by (Contains (told others)) (told_by entry) (λ end its. flat_of told_by others entry end at its);
+  floor = floor_stands 1 others entry (omega arith) at;
+}
+
+-- so are all of some, where others have them
+pub all_stand_told : (list others : List Entry) → ((entry : Entry) → Contains list entry → Contains others entry) → All (IsToldBy others) list
+all_stand_told list others more = all_by (IsToldBy others) list (λ entry at. stands_told others entry (more entry at))
+
+-- what is told by entries is told by others, where these tell no more
+pub told_through : (list others : List Entry) (entry : Entry) → TellNoMore list others → IsToldBy list entry → IsToldBy others entry
+told_through list others entry tells is = record {
+  items = All-weaker (Contains (items_of list)) (Contains (items_of others)) (λ item at. tells.items item at) (items_in entry) is.items;
+  ends =
+      All-weaker (Contains (told list)) (Contains (told others))
+      (λ end at. All-contains (Contains (told others)) (told list) end tells.ends at) (told_by entry) is.ends;
+  floor = let low = tells.floor in let its = is.floor in omega (arith, low, its);
+}
+
+-- ---- what was gathered
+
+-- what is told of what counts of each member is told of all that was gathered, and the own entries
+pub read_told : (others own : List Entry) (gather : Gather) → All (IsToldBy others) own → All (λ gathered. All (IsToldBy others) (counted_of gather.range gathered)) gather.members → All (IsToldBy others) (read_all (by_member gather own))
+read_told others own gather of_own each =
+    all_flat (IsToldBy others) (λ (list : List Entry). list) (by_member gather own)
+    (All-append (All (IsToldBy others)) _ _
+    (All-map (All (IsToldBy others)) (λ (member : Member). material_by gather own member.master) gather.lineage
+    (all_by (λ (member : Member). All (IsToldBy others) (material_by gather own member.master)) gather.lineage (λ member at. of_master member.master)))
+    (cond_both (is_of_lineage gather) [] (own ∷ []) (All (All (IsToldBy others))) (λ e. All-nil _) (λ e. All-cons (All (IsToldBy others)) own [] of_own (All-nil _))))
+  where
+    of_master : (master : ℕ) → All (IsToldBy others) (material_by gather own master)
+    of_master master =
+        cond_both (master == gather.own) own
+        (flat_map (counted_of gather.range) (filter (λ gathered. gathered.member.master == master) gather.members)) (All (IsToldBy others))
+        (λ e. of_own)
+        (λ e.
+        all_flat (IsToldBy others) (counted_of gather.range) (filter (λ gathered. gathered.member.master == master) gather.members)
+        (All-filter (λ (gathered : Gathered). gathered.member.master == master) (λ (gathered : Gathered). All (IsToldBy others) (counted_of gather.range gathered)) gather.members each))

@@ -1,0 +1,64 @@
+-- An entry that bears a mark is of the range of the row whose rebuild the mark is of.
+use Rattle.std.proofs.Common.{◌≡◌, ℕ, true, List, [], Some, refl, sym, ◌∙◌, ⊎_elim, ◌-◌, ◌≤◌, All, Contains, drop, is_some, slice_get, take}
+use Rattle.rk_inv_base.proofs.Words.{cases_eq, All-contains, Range, Entry, number_of, row_of, Row, counts, named_by, Mark, HasOwnRange}
+use Rattle.rk_inv_base.proofs.Words.{IsOfRange, MarkFits, View, SoundView}
+use Rattle.rk_entry.specs.declared.entry.Entry.TheVariants as entries
+use Rattle.rk_inv_base.proofs.logs.MarkedApart.{in_piece}
+use Rattle.rk_inv_base.proofs.rows.Serving.{found_stands}
+use Rattle.rk_inv_tablets.proofs.crash.MarkedPieces.{HasMark, counts_alone, row_there}
+
+-- such an entry names no side segment
+pub names_none : (range its : Range) (entry : Entry) → IsOfRange its entry → named_by range entry ≡ []
+names_none range its (entries.Held held) of = refl
+names_none range its (entries.Refused refused) of = absurd of
+names_none range its (entries.Carried carried) of = refl
+names_none range its (entries.Joined joined) of = absurd of
+
+module _ (v : View) (sound : SoundView v) (q : ℕ) (place : ℕ) (entry : Entry) (at : slice_get (v.written q).entries place ≡ Some entry) (found : HasMark (v.written q).marks place) where
+  -- the row of the mark
+  record OfRow : Type 0 where
+    row : Row
+    stands : Contains v.rows row
+    number : row.tablet ≡ found.mark.tablet
+    in_range : IsOfRange row.range entry
+
+  row_of_mark : OfRow
+  row_of_mark =
+      let marks : List Mark = (v.written q).marks in
+      let list : List Entry = (v.written q).entries in
+      let there = row_there v.rows found.mark.tablet (All-contains (λ (mark : Mark). is_some (row_of v.rows mark.tablet) ≡ true) marks found.mark (sound.cover.marks q) found.here) in
+      let of : Row = there.0 in
+      let stands : Contains v.rows of = found_stands v.rows found.mark.tablet of there.1 in
+      let number : of.tablet ≡ found.mark.tablet = number_of v.rows found.mark.tablet of there.1 in
+      let each : HasOwnRange of.range list found.mark =
+      All-contains (λ (mark : Mark). mark.tablet ≡ of.tablet → HasOwnRange of.range list mark) marks found.mark
+      (All-contains (λ (r : Row). All (λ mark. mark.tablet ≡ r.tablet → HasOwnRange r.range list mark) marks) v.rows of (sound.rebuilds.pieces q) stands)
+      found.here (sym number) in
+      record {
+        row = of;
+        stands = stands;
+        number = number;
+        in_range =
+            All-contains (IsOfRange of.range) (take (found.mark.past - found.mark.first) (drop found.mark.first list)) entry each
+            (in_piece list found.mark.first found.mark.past place entry found.from found.before at);
+      }
+
+  -- so it names no side segment
+  pub marked_names_none : (range : Range) → named_by range entry ≡ []
+  marked_names_none range = names_none range row_of_mark.row.range entry row_of_mark.in_range
+
+  -- and counts for that row alone
+  pub marked_of_row : (row : Row) → Contains v.rows row → row.range.first ≤ row.range.last → counts row.range entry ≡ true → found.mark.tablet ≡ row.tablet
+  marked_of_row row has some inside =
+      ⊎_elim (λ (same : found.mark.tablet ≡ row.tablet). same)
+      (λ (other : found.mark.tablet ≡ row.tablet → ⊥).
+      absurd (counts_alone v.rows row_of_mark.row row entry sound.rows.apart row_of_mark.stands has
+      (λ same. other (sym row_of_mark.number ∙ sym same)) some row_of_mark.in_range inside))
+      (cases_eq found.mark.tablet row.tablet)
+
+  -- what the row says of the mark
+  pub mark_says : (row : Row) → Contains v.rows row → found.mark.tablet ≡ row.tablet → MarkFits row q (v.handovers q row.tablet) (v.live q) (v.written q) found.mark
+  mark_says row has its =
+      All-contains (λ (mark : Mark). mark.tablet ≡ row.tablet → MarkFits row q (v.handovers q row.tablet) (v.live q) (v.written q) mark) (v.written q).marks found.mark
+      (All-contains (λ (r : Row). All (λ mark. mark.tablet ≡ r.tablet → MarkFits r q (v.handovers q r.tablet) (v.live q) (v.written q) mark) (v.written q).marks) v.rows row (sound.rebuilds.marks q) has)
+      found.here its

@@ -1,0 +1,123 @@
+-- The entries of a log from a place on that bear no mark, and those that bear one, by their places.
+use Rattle.std.proofs.Common.{◌≡◌, ℕ, zero, suc, ◌+◌, ◌<◌, ◌≤◌, true, false, List, [], ◌∷◌, Some, refl, sym, ap, ◌∙◌, ⊎_elim, arith, drop}
+use Rattle.std.proofs.Common.{slice_get, take, Contains, take-append-drop}
+use Rattle.rk_inv_base.proofs.Words.{cond_both, false≢true, Contains-append_right, Range, Entry, is_marked, unmarked, unmarked_from}
+use Rattle.rk_inv_base.proofs.Words.{counting, counts, Mark, marked_entries}
+use Rattle.rk_inv_base.proofs.rows.Apart.{contains_cases}
+use Rattle.rk_inv_base.proofs.logs.Grows.{Extends, counting_extends, still_contains}
+use Rattle.rk_inv_base.proofs.logs.InRest.{behind_at}
+use Rattle.rk_inv_base.proofs.pulls.Joining.{stands_kept}
+use Rattle.rk_inv_base.proofs.logs.MarkedApart.{place_of}
+
+-- an entry that bears no mark, at its place from some place on
+pub record IsUnmarked (marks : List Mark) (from : ℕ) (list : List Entry) (entry : Entry) : Type 0 where
+  pub place : ℕ
+  pub behind : from ≤ place
+  pub stands : slice_get list place ≡ Some entry
+  pub free : is_marked marks place ≡ false
+
+module _ (marks : List Mark) where
+  -- an entry without a mark is among those that bear none
+  free_at : (start : ℕ) (list : List Entry) (k : ℕ) (entry : Entry) → slice_get list k ≡ Some entry → is_marked marks (start + k) ≡ false → Contains (unmarked marks start list) entry
+  free_at start [] k entry at free = absurd (cc at)
+  free_at start (first ∷ list) zero entry at free =
+      let here : start + 0 ≡ start = omega arith in
+      let same : first ≡ entry = cc at in
+      cond_both (is_marked marks start) (unmarked marks (suc start) list) (first ∷ unmarked marks (suc start) list) (λ l. Contains l entry)
+      (λ e. absurd (false≢true (sym free ∙ ap (is_marked marks) here ∙ e)))
+      (λ e. (zero, omega arith, same))
+  free_at start (first ∷ list) (suc k) entry at free =
+      let there : suc start + k ≡ start + suc k = omega arith in
+      let later : Contains (unmarked marks (suc start) list) entry = free_at (suc start) list k entry at (ap (is_marked marks) there ∙ free) in
+      cond_both (is_marked marks start) (unmarked marks (suc start) list) (first ∷ unmarked marks (suc start) list) (λ l. Contains l entry)
+      (λ e. later) (λ e. Contains-append_right (first ∷ []) (unmarked marks (suc start) list) entry later)
+
+  pub free_stands : (from : ℕ) (list : List Entry) (entry : Entry) → IsUnmarked marks from list entry → Contains (unmarked_from marks from list) entry
+  free_stands from list entry is =
+      let found = behind_at list from is.place entry is.behind is.stands in
+      free_at from (drop from list) found.0 entry found.1 (ap (is_marked marks) found.2 ∙ is.free)
+
+  -- an entry without a mark, by how many stand before it
+  abbrev IsFree : ℕ → List Entry → Entry → Type 0
+  IsFree start list entry = (k : ℕ) × (slice_get list k ≡ Some entry) × (is_marked marks (start + k) ≡ false)
+
+  later_free : (start : ℕ) (first : Entry) (list : List Entry) (entry : Entry) → IsFree (suc start) list entry → IsFree start (first ∷ list) entry
+  later_free start first list entry found =
+      let there : start + suc found.0 ≡ suc start + found.0 = omega arith in
+      (suc found.0, found.1, ap (is_marked marks) there ∙ found.2)
+
+  -- and the other way round
+  free_from : (start : ℕ) (list : List Entry) (entry : Entry) → Contains (unmarked marks start list) entry → IsFree start list entry
+  free_from start [] entry = λ at. absurd (omega (arith, at.1))
+  free_from start (first ∷ list) entry =
+      let here : start ≡ start + 0 = omega arith in
+      cond_both (is_marked marks start) (unmarked marks (suc start) list) (first ∷ unmarked marks (suc start) list)
+      (λ l. Contains l entry → IsFree start (first ∷ list) entry)
+      (λ e at. later_free start first list entry (free_from (suc start) list entry at))
+      (λ e at.
+      ⊎_elim (λ (same : first ≡ entry). (zero, ap Some same, sym (ap (is_marked marks) here) ∙ e))
+      (λ (behind : Contains (unmarked marks (suc start) list) entry). later_free start first list entry (free_from (suc start) list entry behind))
+      (contains_cases first (unmarked marks (suc start) list) entry at))
+
+  pub free_place : (from : ℕ) (list : List Entry) (entry : Entry) → Contains (unmarked_from marks from list) entry → IsUnmarked marks from list entry
+  free_place from list entry at =
+      let found = free_from from (drop from list) entry at in
+      record {
+        place = from + found.0;
+        behind = omega arith;
+        stands = place_of list from found.0 (from + found.0) entry refl found.1;
+        free = found.2;
+      }
+
+  -- an entry with a mark that counts is among those that bear one
+  marked_at : (range : Range) (start : ℕ) (list : List Entry) (k : ℕ) (entry : Entry) → slice_get list k ≡ Some entry → is_marked marks (start + k) ≡ true → counts range entry ≡ true → Contains (counting range (marked_entries marks start list)) entry
+  marked_at range start list k entry at marked inside = stands_kept (counts range) (marked_entries marks start list) entry (its start list k at marked) inside
+    where
+      its : (start : ℕ) (list : List Entry) (k : ℕ) → slice_get list k ≡ Some entry → is_marked marks (start + k) ≡ true → Contains (marked_entries marks start list) entry
+      its start [] k at marked = absurd (cc at)
+      its start (first ∷ list) zero at marked =
+          let here : start + 0 ≡ start = omega arith in
+          let same : first ≡ entry = cc at in
+          cond_both (is_marked marks start) (first ∷ marked_entries marks (suc start) list) (marked_entries marks (suc start) list) (λ l. Contains l entry)
+          (λ e. (zero, omega arith, same))
+          (λ e. absurd (false≢true (sym e ∙ sym (ap (is_marked marks) here) ∙ marked)))
+      its start (first ∷ list) (suc k) at marked =
+          let there : suc start + k ≡ start + suc k = omega arith in
+          let later : Contains (marked_entries marks (suc start) list) entry = its (suc start) list k at (ap (is_marked marks) there ∙ marked) in
+          cond_both (is_marked marks start) (first ∷ marked_entries marks (suc start) list) (marked_entries marks (suc start) list) (λ l. Contains l entry)
+          (λ e. Contains-append_right (first ∷ []) (marked_entries marks (suc start) list) entry later) (λ e. later)
+
+  pub marked_stands : (range : Range) (from : ℕ) (list : List Entry) (place : ℕ) (entry : Entry) → from ≤ place → slice_get list place ≡ Some entry → is_marked marks place ≡ true → counts range entry ≡ true → Contains (counting range (marked_entries marks from (drop from list))) entry
+  marked_stands range from list place entry behind at marked inside =
+      let found = behind_at list from place entry behind at in
+      marked_at range from (drop from list) found.0 entry found.1 (ap (is_marked marks) found.2 ∙ marked) inside
+
+-- what stands at one of the first places stands there among the first
+pub taken_at : {X : Type 0} (xs : List X) (n k : ℕ) (x : X) → k < n → slice_get xs k ≡ Some x → slice_get (take n xs) k ≡ Some x
+taken_at [] n k x less at = absurd (cc at)
+taken_at (y ∷ xs) zero k x less at = absurd (omega (arith, less))
+taken_at (y ∷ xs) (suc n) zero x less at = at
+taken_at (y ∷ xs) (suc n) (suc k) x less at = taken_at xs n k x (omega (arith, less)) at
+
+-- so an entry that counts and bears no mark is among those of the first ones
+pub first_stands : (marks : List Mark) (range : Range) (from count : ℕ) (list : List Entry) (entry : Entry) → (is : IsUnmarked marks from list entry) → is.place < count → counts range entry ≡ true → Contains (counting range (unmarked_from marks from (take count list))) entry
+first_stands marks range from count list entry is before inside =
+    let first : List Entry = take count list in
+    stands_kept (counts range) (unmarked_from marks from first) entry
+    (free_stands marks from first entry (record {
+      place = is.place;
+      behind = is.behind;
+      stands = taken_at list count is.place entry before is.stands;
+      free = is.free;
+    }))
+    inside
+
+-- the first entries with the others behind them
+pub taken_extends : (count : ℕ) (list : List Entry) → Extends (take count list) list
+taken_extends count list = record { more = drop count list; parts = sym (take-append-drop count list) }
+
+-- what counts of the first ones counts of all
+pub first_among : (marks : List Mark) (range : Range) (from count : ℕ) (list : List Entry) (entry : Entry) → Contains (counting range (unmarked_from marks from (take count list))) entry → Contains (counting range (unmarked_from marks from list)) entry
+first_among marks range from count list entry at =
+    still_contains (counting range (unmarked_from marks from (take count list))) (counting range (unmarked_from marks from list)) entry
+    (counting_extends range marks from (take count list) list (taken_extends count list)) at

@@ -1,0 +1,198 @@
+-- The part Logs where a master appends a piece of more entries than one.
+use Rattle.std.proofs.Common.{◌≡◌, ◌≢◌, ℕ, ◌-◌, ◌<◌, ◌≤◌, true, List, [], ◌∷◌, ◌++◌, length, get_or, All, refl, sym, ap, ◌∙◌, subst, ⊎_elim}
+use Rattle.std.proofs.Common.{arith, append_assoc, lt-ltb, ltb-true, append-nil, length-append, length-set}
+use Rattle.rk_inv_base.proofs.Words.{cases_eq, cases_lt, cond_both, get_or_past, All-append, All-push, All-weaker, Node, spelled, Entry}
+use Rattle.rk_inv_base.proofs.Words.{FIRST_SIDE_SEGMENT, cut_push, cut, has_room, in_last, with_bytes, Log, bytes_of, committed}
+use Rattle.rk_inv_base.proofs.Words.{is_side_stored, known_of, with_entry, Body, Written, Mark, IsFirstPart, IsFromLog, IsLog, LogSays}
+use Rattle.rk_inv_base.proofs.Words.{Logs, is_main, segments_in, stored_of, put, View, LogsOf}
+use Rattle.rk_types.specs.declared.node.Node.TheVariants as nodes
+use Rattle.rk_log.proofs.LogLaws.{committed_entry}
+use Rattle.rk_log.specs.Cut.{last_of}
+use Rattle.rk_message.specs.declared.message.Body.TheVariants as bodies
+use Rattle.rk_inv_base.proofs.views.Put.{put_by, put_here, put_other}
+use Rattle.rk_inv_base.proofs.logs.Logs.{copy_grown, first_part_more, piece_grown}
+use Rattle.rk_inv_base.proofs.logs.Segments.{Grows, bytes_main, bytes_side, bytes_zero, first_part_same, with_bytes_front, with_bytes_full}
+use Rattle.rk_inv_tablets.specs.merge.Small.{with_entries, with_piece}
+
+-- ---- one more entry, where the main segments then are few
+
+-- segments with more bytes are no fewer
+with_bytes_more : (segments : List (List ℕ)) (bytes : List ℕ) → length segments ≤ length (with_bytes segments bytes)
+with_bytes_more segments bytes =
+    cond_both (has_room segments bytes) (in_last segments bytes) (segments ++ bytes ∷ []) (λ s. length segments ≤ length s)
+    (λ e. omega (arith, length-set segments (length segments - 1) (last_of segments ++ bytes)))
+    (λ e. omega (arith, length-append segments (bytes ∷ [])))
+
+module _ (log : Log) (entry : Entry) (few : length (cut (log.entries ++ entry ∷ [])) < FIRST_SIDE_SEGMENT) where
+  abbrev more : Log
+  more = with_entry log entry
+
+  -- so they were few
+  was_few : length (cut log.entries) < FIRST_SIDE_SEGMENT
+  was_few = omega (arith, few, ap length (cut_push [] log.entries entry), with_bytes_more (cut log.entries) (spelled entry))
+
+  grown_side : (number : ℕ) → FIRST_SIDE_SEGMENT ≤ number → bytes_of more number ≡ bytes_of log number
+  grown_side number side = bytes_side more number few side ∙ sym (bytes_side log number was_few side)
+
+  grown_main : (number : ℕ) → 1 ≤ number → number < FIRST_SIDE_SEGMENT → bytes_of more number ≡ get_or (with_bytes (cut log.entries) (spelled entry)) (number - 1) []
+  grown_main number some less =
+      bytes_main more number some less ∙ ap (λ (s : List (List ℕ)). get_or s (number - 1) []) (cut_push [] log.entries entry)
+
+  grown_zero : (number : ℕ) → number < 1 → bytes_of more number ≡ bytes_of log number
+  grown_zero number less = bytes_zero more number less ∙ sym (bytes_zero log number less)
+
+  grown_front : (number : ℕ) → IsFirstPart (bytes_of log number) (bytes_of more number)
+  grown_front number =
+      ⊎_elim
+      (λ (less : number < FIRST_SIDE_SEGMENT).
+      ⊎_elim
+      (λ (none : number < 1). first_part_same (bytes_of log number) (bytes_of more number) (grown_zero number none))
+      (λ (some : 1 ≤ number).
+      subst (λ (b : List ℕ). IsFirstPart b (bytes_of more number)) (sym (bytes_main log number some less))
+      (subst (IsFirstPart (get_or (cut log.entries) (number - 1) [])) (sym (grown_main number some less))
+      (with_bytes_front (cut log.entries) (spelled entry) (number - 1))))
+      (cases_lt number 1))
+      (λ (side : FIRST_SIDE_SEGMENT ≤ number). first_part_same (bytes_of log number) (bytes_of more number) (grown_side number side))
+      (cases_lt number FIRST_SIDE_SEGMENT)
+
+  -- a main segment that has bytes is one of those that were cut
+  within_cut : (later : ℕ) → 1 ≤ later → later < FIRST_SIDE_SEGMENT → bytes_of log later ≢ [] → later - 1 < length (cut log.entries)
+  within_cut later some less filled =
+      ⊎_elim
+      (λ (within : later - 1 < length (cut log.entries)). within)
+      (λ (past : length (cut log.entries) ≤ later - 1).
+      absurd (filled (bytes_main log later some less ∙ get_or_past (cut log.entries) (later - 1) [] past)))
+      (cases_lt (later - 1) (length (cut log.entries)))
+
+  grown_full : (earlier later : ℕ) → earlier < later → is_main earlier ≡ is_main later → bytes_of log later ≢ [] → bytes_of more earlier ≡ bytes_of log earlier
+  grown_full earlier later before sort filled =
+      ⊎_elim
+      (λ (less : earlier < FIRST_SIDE_SEGMENT).
+      ⊎_elim
+      (λ (none : earlier < 1). grown_zero earlier none)
+      (λ (some : 1 ≤ earlier).
+      let later_less : later < FIRST_SIDE_SEGMENT = ltb-true later FIRST_SIDE_SEGMENT (sym sort ∙ lt-ltb earlier FIRST_SIDE_SEGMENT less) in
+      let within : later - 1 < length (cut log.entries) = within_cut later (omega arith) later_less filled in
+      grown_main earlier some less
+      ∙ with_bytes_full (cut log.entries) (spelled entry) (earlier - 1) (omega arith)
+      ∙ sym (bytes_main log earlier some less))
+      (cases_lt earlier 1))
+      (λ (side : FIRST_SIDE_SEGMENT ≤ earlier). grown_side earlier side)
+      (cases_lt earlier FIRST_SIDE_SEGMENT)
+
+  -- and the log grew
+  pub grows_one : Grows log (with_entry log entry)
+  grows_one = record { front = grown_front; full = grown_full }
+
+-- ---- more entries
+
+-- a log that grew, and grew again, grew
+pub grows_then : (old mid new : Log) → Grows old mid → Grows mid new → Grows old new
+grows_then old mid new first next = record {
+  front = λ n. first_part_more (bytes_of old n) (bytes_of mid n) (bytes_of new n) (first.front n) (next.front n);
+  full = λ earlier later before sort filled.
+      next.full earlier later before sort (λ none. filled (nothing (bytes_of old later) (first.front later).more (sym (first.front later).parts ∙ none)))
+      ∙ first.full earlier later before sort filled;
+}
+  where
+    nothing : (bytes more : List ℕ) → bytes ++ more ≡ [] → bytes ≡ []
+    nothing [] more none = refl
+    nothing (b ∷ bytes) more none = absurd (cc none)
+
+-- fewer entries have no more main segments
+cut_less : (list more : List Entry) → length (cut list) ≤ length (cut (list ++ more))
+cut_less list [] = subst (λ (all : List Entry). length (cut list) ≤ length (cut all)) (sym (append-nil list)) (omega arith)
+cut_less list (entry ∷ more) =
+    let one = with_bytes_more (cut list) (spelled entry) in
+    let step = ap length (cut_push [] list entry) in
+    let rest = cut_less (list ++ entry ∷ []) more in
+    let same = ap (λ (all : List Entry). length (cut all)) (append_assoc list (entry ∷ []) more) in
+    omega (arith, one, step, rest, same)
+
+-- so a log with more entries grew, where its main segments then are few
+pub grows_more : (log : Log) (list : List Entry) → length (cut (log.entries ++ list)) < FIRST_SIDE_SEGMENT → Grows log (with_entries log list)
+grows_more log [] few =
+    subst (Grows log) (λ i. record log { entries = sym (append-nil log.entries) i }) (record {
+      front = λ n. first_part_same (bytes_of log n) (bytes_of log n) refl;
+      full = λ earlier later before sort filled. refl;
+    })
+grows_more log (entry ∷ list) few =
+    let same : (log.entries ++ entry ∷ []) ++ list ≡ log.entries ++ (entry ∷ list) = append_assoc log.entries (entry ∷ []) list in
+    let left : length (cut ((log.entries ++ entry ∷ []) ++ list)) < FIRST_SIDE_SEGMENT =
+    subst (λ (all : List Entry). length (cut all) < FIRST_SIDE_SEGMENT) (sym same) few in
+    let first : Grows log (with_entry log entry) =
+    grows_one log entry (omega (arith, left, cut_less (log.entries ++ entry ∷ []) list)) in
+    subst (Grows log) (λ i. record log { entries = same i })
+    (grows_then log (with_entry log entry) (with_entries (with_entry log entry) list) first (grows_more (with_entry log entry) list left))
+
+-- no fewer of a log's entries are committed
+committed_more : (log : Log) (list : List Entry) → committed log ≤ committed (with_entries log list)
+committed_more log [] = subst (λ (all : Log). committed log ≤ committed all) (λ i. record log { entries = sym (append-nil log.entries) i }) (omega arith)
+committed_more log (entry ∷ list) =
+    let one = committed_entry log entry in
+    let rest = committed_more (with_entry log entry) list in
+    subst (λ (all : Log). committed log ≤ committed all) (λ i. record log { entries = append_assoc log.entries (entry ∷ []) list i })
+    (omega (arith, one, rest))
+
+-- every backup is known to hold the side segments that these entries name
+abbrev pub AreStored : Log → List Entry → Type 0
+AreStored log list = All (λ entry. All (λ segment. is_side_stored log segment ≡ true) (segments_in entry)) list
+
+-- a piece may stand at the end of a log: its main segments are few then, and the piece names only side segments that are stored
+pub record MayStand (log : Log) (written : Written) (list : List Entry) (mark : Mark) : Type 0 where
+  pub few : length (cut (log.entries ++ list)) < FIRST_SIDE_SEGMENT
+  pub held : AreStored log list
+  pub past : mark.past ≤ length (written.entries ++ list)
+
+-- a log with such a piece at its end
+pub log_piece : (log : Log) (written : Written) (stored : ℕ → ℕ → List ℕ) (list : List Entry) (mark : Mark) → MayStand log written list mark → IsLog log written stored → IsLog (with_entries log list) (with_piece written list mark) stored
+log_piece log written stored list mark may old = record {
+  entries_are = ap (λ (all : List Entry). all ++ list) old.entries_are;
+  held = omega (arith, old.held, committed_more log list);
+  copies = λ backup numbered.
+      copy_grown log (with_entries log list) (stored backup) (known_of log backup) (grows_more log list may.few)
+      (old.copies backup (record { first = numbered.first; last = numbered.last }));
+  spelled = old.spelled;
+  named = All-append (λ entry. All (λ segment. is_side_stored log segment ≡ true) (segments_in entry)) written.entries list old.named may.held;
+  marked =
+      All-push (λ (m : Mark). m.past ≤ length (written.entries ++ list)) written.marks mark
+      (All-weaker (λ (m : Mark). m.past ≤ length written.entries) (λ (m : Mark). m.past ≤ length (written.entries ++ list))
+      (λ m within. omega (arith, within, length-append written.entries list)) written.marks old.marked) may.past;
+}
+
+module _ (v : View) (master : ℕ) (list : List Entry) (mark : Mark) (may : MayStand (v.logs master) (v.written master) list mark) where
+  -- the logs with the piece at one master
+  abbrev logs : ℕ → Log
+  logs = put v.logs master (with_entries (v.logs master) list)
+
+  -- a message says of a log that grew what it said
+  says_more : (from to : Node) (body : Body) → LogSays v.logs v.stored from to body → LogSays logs v.stored from to body
+  says_more (nodes.Master q) (nodes.Backup backup) (bodies.Append append) piece =
+      put_by v.logs master (λ log. with_entries log list) (λ log. IsFromLog log (known_of log backup) append) q
+      (λ here.
+      subst (λ (m : ℕ). IsFromLog (with_entries (v.logs m) list) (known_of (v.logs m) backup) append) (sym here)
+      (piece_grown (v.logs master) (with_entries (v.logs master) list) (known_of (v.logs master) backup) append
+      (grows_more (v.logs master) list may.few)
+      (subst (λ (m : ℕ). IsFromLog (v.logs m) (known_of (v.logs m) backup) append) here piece)))
+      (λ apart. piece)
+  says_more _ _ _ says = says
+
+  pub logs_more : LogsOf v → Logs logs (put v.written master (with_piece (v.written master) list mark)) v.stored v.wire
+  logs_more old = record {
+    each = λ q.
+        ⊎_elim
+        (λ (here : q ≡ master).
+        subst (λ (m : ℕ). IsLog (logs m) (put v.written master (with_piece (v.written master) list mark) m) (stored_of v.stored m)) (sym here)
+        (subst (λ (l : Log). IsLog l (put v.written master (with_piece (v.written master) list mark) master) (stored_of v.stored master))
+        (sym (put_here v.logs master (with_entries (v.logs master) list) master refl))
+        (subst (λ (w : Written). IsLog (with_entries (v.logs master) list) w (stored_of v.stored master))
+        (sym (put_here v.written master (with_piece (v.written master) list mark) master refl))
+        (log_piece (v.logs master) (v.written master) (stored_of v.stored master) list mark may (old.each master)))))
+        (λ (apart : q ≡ master → ⊥).
+        subst (λ (l : Log). IsLog l (put v.written master (with_piece (v.written master) list mark) q) (stored_of v.stored q))
+        (sym (put_other v.logs master (with_entries (v.logs master) list) q apart))
+        (subst (λ (w : Written). IsLog (v.logs q) w (stored_of v.stored q))
+        (sym (put_other v.written master (with_piece (v.written master) list mark) q apart)) (old.each q)))
+        (cases_eq q master);
+    sent = λ n m found. says_more m.from m.to m.body (old.sent n m found);
+  }

@@ -1,0 +1,112 @@
+-- What the entries of a rebuild of one range are to another one, and that what a rebuild merges is of its range.
+use Rattle.std.proofs.Common.{◌≡◌, ℕ, Bool, true, false, cond, List, [], ◌∷◌, filter, map, refl, sym, subst, ◌==◌, not, All, Contains}
+use Rattle.std.proofs.Common.{flat_map}
+use Rattle.rk_inv_base.proofs.Words.{cond_both, or_from, All-append, All-cons, All-contains, All-filter, All-head, All-map, All-nil}
+use Rattle.rk_inv_base.proofs.Words.{All-tail, All-weaker, list_any, meets, Held, Range, Entry, is_in, Handover, newest_is}
+use Rattle.rk_inv_base.proofs.Words.{newest_items_are, newest_items, items_in, items_of, Gather, Gathered, by_member, counted_of}
+use Rattle.rk_inv_base.proofs.Words.{is_of_lineage, material_by, side_read, touches, as_entries, counting, counts, is_joined_in}
+use Rattle.rk_inv_base.proofs.Words.{material_of, named, has_version, merge, segments_in, IsOfRange}
+use Rattle.rk_entry.specs.declared.entry.Entry.TheVariants as entries
+use Rattle.rk_world.specs.Gather.{main_entries}
+use Rattle.rk_inv_tablets.specs.merge.Small.{piece_entries}
+use Rattle.rk_inv_base.proofs.rows.Apart.{key_outside}
+use Rattle.rk_inv_base.proofs.pulls.Joining.{kept_stands}
+use Rattle.rk_inv_base.proofs.views.Lists.{all_by}
+use Rattle.rk_inv_wellformed.proofs.maps.Lists.{all_flat}
+
+-- ---- an entry of a rebuild of a range
+
+-- names no side segment
+pub segments_none : (a : Range) (e : Entry) → IsOfRange a e → segments_in e ≡ []
+segments_none a (entries.Held held) of = refl
+segments_none a (entries.Refused refused) of = refl
+segments_none a (entries.Carried carried) of = refl
+segments_none a (entries.Joined joined) of = absurd of
+
+-- and is no Joined
+pub joins_none : (a b : Range) (e : Entry) → IsOfRange a e → is_joined_in b e ≡ false
+joins_none a b (entries.Held held) of = refl
+joins_none a b (entries.Refused refused) of = refl
+joins_none a b (entries.Carried carried) of = refl
+joins_none a b (entries.Joined joined) of = absurd of
+
+-- it touches no range that does not meet its own
+pub touches_none : (a b : Range) → meets a b ≡ false → meets b a ≡ false → (e : Entry) → IsOfRange a e → touches b e ≡ false
+touches_none a b apart back (entries.Held held) of = key_outside b a held.table held.key back of
+touches_none a b apart back (entries.Refused refused) of = absurd of
+touches_none a b apart back (entries.Carried carried) of = subst (λ (range : Range). meets range b ≡ false) (sym of) apart
+touches_none a b apart back (entries.Joined joined) of = absurd of
+
+-- nothing passes of a list where each element fails
+pub none_passes : {X : Type 0} (p : X → Bool) (xs : List X) → All (λ x. p x ≡ false) xs → list_any p xs ≡ false
+none_passes p [] fails = refl
+none_passes p (x ∷ xs) fails =
+    or_from (p x) (list_any p xs) (All-head (λ x. p x ≡ false) x xs fails) (none_passes p xs (All-tail (λ x. p x ≡ false) x xs fails))
+
+-- ---- what counts for a range is of it
+
+-- an entry counts for a range
+abbrev pub Counts : Range → Entry → Type 0
+Counts range e = counts range e ≡ true
+
+-- all that is kept of entries counts, and so does all that counts of a log
+pub counting_counts : (range : Range) (list : List Entry) → All (Counts range) (counting range list)
+counting_counts range list = all_by (Counts range) (counting range list) (λ e at. (kept_stands (counts range) list e at).1)
+
+pub material_counts : (range : Range) (side : ℕ → List Entry) (list : List Entry) → All (Counts range) (material_of range side list)
+material_counts range side list =
+    let named_ones : List Entry = flat_map side (named range list) in
+    All-append (Counts range) (counting range list) (counting range named_ones) (counting_counts range list) (counting_counts range named_ones)
+
+-- so its items are in the range
+pub items_inside : (range : Range) (list : List Entry) → All (Counts range) list → All (λ item. is_in range item ≡ true) (items_of list)
+items_inside range [] each = All-nil (λ item. is_in range item ≡ true)
+items_inside range (entry ∷ list) each =
+    All-append (λ item. is_in range item ≡ true) (items_in entry) (items_of list) (one entry (All-head (Counts range) entry list each))
+    (items_inside range list (All-tail (Counts range) entry list each))
+  where
+    one : (e : Entry) → Counts range e → All (λ item. is_in range item ≡ true) (items_in e)
+    one (entries.Held held) inside = All-cons (λ item. is_in range item ≡ true) held [] inside (All-nil (λ item. is_in range item ≡ true))
+    one (entries.Refused refused) inside = All-nil (λ item. is_in range item ≡ true)
+    one (entries.Carried carried) inside = All-nil (λ item. is_in range item ≡ true)
+    one (entries.Joined joined) inside = All-nil (λ item. is_in range item ≡ true)
+
+-- ---- what is merged
+
+-- all that is merged counts for the range of the gather
+pub read_counts : (gather : Gather) (own : List Entry) → All (Counts gather.range) own → All (Counts gather.range) (flat_map (λ list. list) (by_member gather own))
+read_counts gather own mine =
+    let Each : List Entry → Type 0 = All (Counts gather.range) in
+    let groups : List (List Entry) = map (λ member. material_by gather own member.master) gather.lineage in
+    all_flat (Counts gather.range) (λ list. list) (by_member gather own)
+    (All-append Each groups (cond (is_of_lineage gather) [] (own ∷ []))
+    (All-map Each (λ member. material_by gather own member.master) gather.lineage
+    (all_by (λ member. Each (material_by gather own member.master)) gather.lineage (λ member at. by member.master)))
+    (cond_both (is_of_lineage gather) [] (own ∷ []) (All Each) (λ e. All-nil Each) (λ e. All-cons Each own [] mine (All-nil Each))))
+  where
+    by : (master : ℕ) → All (Counts gather.range) (material_by gather own master)
+    by master =
+        let read : List Gathered = filter (λ gathered. gathered.member.master == master) gather.members in
+        cond_both (master == gather.own) own (flat_map (counted_of gather.range) read) (All (Counts gather.range)) (λ e. mine)
+        (λ e.
+        all_flat (Counts gather.range) (counted_of gather.range) read
+        (all_by (λ gathered. All (Counts gather.range) (counted_of gather.range gathered)) read (λ gathered at. material_counts gather.range (side_read gathered) (main_entries gathered))))
+
+-- the newest items are items
+newest_stand : (items : List Held) → All (Contains items) (newest_items items)
+newest_stand items =
+    all_by (Contains items) (newest_items items)
+    (λ item at. (newest_is items item.table item.key item (((newest_items_are items).newest item).0 at)).stands)
+
+-- so the copies are in it, and the whole piece is of it
+pub piece_inside : (gather : Gather) (own : List Entry) (handover : Handover) → handover.range ≡ gather.range → All (Counts gather.range) own → All (IsOfRange gather.range) (piece_entries handover (merge own (by_member gather own)))
+piece_inside gather own handover range mine =
+    let all : List Held = items_of (flat_map (λ list. list) (by_member gather own)) in
+    let inside : All (λ item. is_in gather.range item ≡ true) all =
+    items_inside gather.range (flat_map (λ list. list) (by_member gather own)) (read_counts gather own mine) in
+    All-append (IsOfRange gather.range) (as_entries (merge own (by_member gather own)).copies) _
+    (All-map (IsOfRange gather.range) entries.Held (merge own (by_member gather own)).copies
+    (All-filter (λ item. not (has_version (items_of own) item)) (λ item. is_in gather.range item ≡ true) (newest_items all)
+    (All-weaker (Contains all) (λ item. is_in gather.range item ≡ true) (λ item at. All-contains (λ item. is_in gather.range item ≡ true) all item inside at)
+    (newest_items all) (newest_stand all))))
+    (All-cons (IsOfRange gather.range) _ [] range (All-nil (IsOfRange gather.range)))

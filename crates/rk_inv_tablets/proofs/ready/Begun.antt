@@ -1,0 +1,330 @@
+-- A lane stays sound when a master begins to rebuild a tablet: it gives up each other tablet there, and outside the lineage it drops its
+-- items of the range; nothing is gathered so far.
+use Rattle.std.proofs.Common.{◌≡◌, ℕ, ◌<◌, ◌≤◌, Bool, true, false, List, [], ◌∷◌, Option, Some, None, cond, length, map, refl, sym, ap, ◌∙◌}
+use Rattle.std.proofs.Common.{subst, ⊎_elim, ◌⊎◌, inr, arith, ◌==◌, ◌||◌, filter, is_some, nat_lt, not, slice_index_or, Contains, lt-ltb}
+use Rattle.rk_inv_base.proofs.Words.{cases_eq, cond-true, false≢true, drop_all, All-cons, All-contains, All-nil, Contains-get_or, meets}
+use Rattle.rk_inv_base.proofs.Words.{Held, Member, Range, Entry, order_without, Handover, lineage_of, row_of, Phase, Rebuilding, Row, Known}
+use Rattle.rk_inv_base.proofs.Words.{known_of, EntryEnd, Rebuild, with_others_given_up, is_member, own_member, unmarked, Master, tablet_at}
+use Rattle.rk_inv_base.proofs.Words.{with_tablet, material_of, side_entries, begun_from, rebuild_begun, with_begun, without_foreign, Tablet}
+use Rattle.rk_inv_base.proofs.Words.{World, master_at, tablet_in, with_master, member_material, IsWithinRows, stored_of, Holds, Post}
+use Rattle.rk_inv_base.proofs.Words.{bond_of, IsGathered, NeededOf, READ_BACKUP, AreApart, IsFormed, HandoverFits, View, truths, view}
+use Rattle.rk_inv_base.proofs.Words.{IsSound, SoundView}
+use Rattle.rk_transfer.specs.Handover.{rebuilt as handover_rebuilt}
+use Rattle.rk_tablet_map.specs.Phase.{member as member_at}
+use Rattle.rk_world.specs.Gather.{unread}
+use Rattle.rk_sound.specs.Moves.{MayBegin}
+use Rattle.rk_sound.specs.Rebuilds.{AreGathered}
+use Rattle.rk_inv_base.proofs.rows.Apart.{same_number}
+use Rattle.rk_inv_base.proofs.views.Cover.{covered_by}
+use Rattle.rk_inv_base.proofs.logs.InRange.{stays, stood}
+use Rattle.rk_inv_base.proofs.calls.Rebuilds.{IsRebuilderIn}
+use Rattle.rk_inv_base.proofs.roles.RoleTaken.{rows_apart}
+use Rattle.rk_inv_base.proofs.rows.TurnedRows.{stands_found}
+use Rattle.rk_inv_tablets.proofs.ready.Heirs.{MayBeginBy, begins_by, post_is}
+use Rattle.rk_inv_tablets.proofs.ready.OthersGivenUp.{MayTakeOrder, apart, beside_order, step}
+use Rattle.rk_inv_tablets.proofs.ready.TakenTablets.{own_at, view_taken}
+use Rattle.rk_inv_tablets.proofs.ready.Yielded.{view_yielded}
+use Rattle.rk_inv_tablets.proofs.ready.Yielding.{AreLeft, Yields, YieldsBeside}
+use Rattle.rk_inv_tablets.specs.ready.Small.{as_begun, as_rebuilding, begins_from, begun, begun_tablets, items_left, rebuild_begun_in, tablet_seen}
+
+-- ---- what is gathered at first
+
+-- nothing was read of a member so far
+unread_one : (Needed : EntryEnd → Type 0) (known : Known) (stored : ℕ → List ℕ) (member : Member) → IsGathered Needed known stored (unread member)
+unread_one Needed known stored member = record {
+  main = λ place within. absurd (omega (arith, within));
+  passed = λ read. absurd (false≢true read);
+  passed_needed = λ read. absurd (false≢true read);
+  sides = λ segment entries found. absurd (cc found);
+}
+
+unread_all : (Needed : ℕ → EntryEnd → Type 0) (known : ℕ → Known) (stored : ℕ → ℕ → List ℕ) (members : List Member) → AreGathered Needed known stored (map unread members)
+unread_all Needed known stored [] =
+    All-nil (λ gathered. IsGathered (Needed gathered.member.master) (known gathered.member.master) (stored gathered.member.master) gathered)
+unread_all Needed known stored (member ∷ members) =
+    All-cons (λ gathered. IsGathered (Needed gathered.member.master) (known gathered.member.master) (stored gathered.member.master) gathered)
+    (unread member) (map unread members)
+    (unread_one (Needed member.master) (known member.master) (stored member.master) member) (unread_all Needed known stored members)
+
+unread_members : (members : List Member) → map (λ gathered. gathered.member) (map unread members) ≡ members
+unread_members [] = refl
+unread_members (member ∷ members) = ap (λ (list : List Member). member ∷ list) (unread_members members)
+
+-- a master outside a lineage has no member there
+own_none : (lineage : List Member) (master : ℕ) → is_member lineage master ≡ false → own_member lineage master ≡ None
+own_none [] master outside = refl
+own_none (member ∷ more) master outside = go (member.master == master) (own_none more master) outside
+  where
+    go : (b : Bool) → (is_member more master ≡ false → own_member more master ≡ None) → (b || is_member more master) ≡ false → cond b (Some member) (own_member more master) ≡ None
+    go true later outside = absurd (cc)
+    go false later outside = later outside
+
+-- ---- a view where a master begins to rebuild a row
+
+-- the order of a row that a master rebuilds
+abbrev pub order_of : Row → List Member → Rebuild
+order_of row lineage =
+    record { tenure = record { tablet = row.tablet; term = row.term }; range = row.range; lineage = lineage }
+
+module _ (v : View) (row : Row) (master : ℕ) (lineage : List Member) (sound : SoundView v) (may : MayBegin v row master (order_of row lineage)) where
+  -- what the condition says, by short names
+  abbrev has : Contains v.rows row
+  has = may.has_row
+
+  abbrev lives : v.live master ≡ true
+  lives = may.lives
+
+  abbrev is : row.phase ≡ Rebuilding lineage master
+  is = may.ordered
+
+  abbrev below : (v.handovers master row.tablet).term < row.term
+  below = may.greater
+
+  abbrev place : ℕ
+  place = begins_from v master (own_member lineage master)
+
+  abbrev left : List Held
+  left = items_left (v.records master) row.range (own_member lineage master)
+
+  abbrev old : Handover
+  old = v.handovers master row.tablet
+
+  abbrev own : Tablet
+  own = as_begun master (order_of row lineage) place (tablet_seen v master row.tablet)
+
+  lineage_apart : AreApart lineage
+  lineage_apart = subst IsFormed is (All-contains (λ (r : Row). IsFormed r.phase) v.rows row sound.rows.formed has)
+
+  begins : MayBeginBy v row master sound has lives below lineage is (own_member lineage master)
+  begins = begins_by v row master sound has lives below lineage is lineage_apart
+
+  order : MayTakeOrder v master row.tablet row.term row.range
+  order = record {
+    lives = lives;
+    above = may.above;
+    below = λ k d within other met.
+        absurd (rows_apart v (slice_index_or v.rows k d) row sound (Contains-get_or v.rows k d within) has other met);
+    outside = λ x there other met member. rows_apart v x row sound there has other met;
+  }
+
+  same_row : (x : Row) → Contains v.rows x → x.tablet ≡ row.tablet → x ≡ row
+  same_row x there its = same_number v.rows x row sound.rows.apart there has its
+
+  -- ---- its tablet
+
+  beside_row : YieldsBeside row master (v.written master).applied old own.handover
+  beside_row = record {
+    below = below;
+    grows = omega (arith, below);
+    within = omega arith;
+    greater = λ waits. absurd (cc waits);
+    fits =
+        subst (λ (post : Post). Holds (bond_of post own.handover.role) row.term row.term (v.written master).applied)
+        (sym (post_is v row master sound has lives below lineage is)) begins.fits;
+    kind =
+        inr (record { lineage = lineage; phase_is = is; term_is = refl; range_is = refl; from = place; role_is = refl });
+  }
+
+  formed : (x : Row) → Contains v.rows x → HandoverFits x row.tablet own.handover
+  formed x there = record {
+    within = λ its. subst (λ (r : Row). row.term ≤ r.term) (sym (same_row x there its)) (omega arith);
+    below = λ other met. absurd (rows_apart v x row sound there has other met);
+    exact = λ its at. ap (λ (r : Row). r.range) (sym (same_row x there its));
+  }
+
+  found : row_of v.rows row.tablet ≡ Some row
+  found = stands_found v.rows row sound.rows.apart has
+
+  row_within : IsWithinRows v.rows row.range
+  row_within hash inside = covered_by v.rows row row.range.table hash has inside
+
+  -- outside the lineage it has no entries of its own yet
+  none_own : is_member lineage master ≡ false → member_material v.written row.range (member_at master place) ≡ []
+  none_own outside =
+      let none : place ≡ length (v.logs master).entries = ap (begins_from v master) (own_none lineage master outside) in
+      let same : length (v.logs master).entries ≡ length (v.written master).entries =
+      ap (λ (list : List Entry). length list) (sound.logs.each master).entries_are in
+      ap
+      (λ (list : List Entry).
+      material_of row.range (side_entries (v.written master).sides) (unmarked (v.written master).marks place list))
+      (drop_all place (v.written master).entries (omega (arith, none, same)))
+
+  -- a master rebuilds the row, of this lineage, with what it begins with
+  abbrev IsBegun : Row → List Member → Type 0
+  IsBegun x members =
+      IsRebuilderIn v.logs v.written v.stored x members master (truths v x) own.handover (v.completions master x.tablet) own.gather [] left
+
+  rebuilder : IsBegun row lineage
+  rebuilder = record {
+    range_is = refl;
+    gather = record {
+      range_is = refl;
+      lineage_is = refl;
+      own_is = refl;
+      members_are = unread_members (filter (λ member. not (member.master == master)) lineage);
+    };
+    read =
+        unread_all (NeededOf row v.written lineage) (λ q. known_of (v.logs q) READ_BACKUP) (λ q. stored_of v.stored q READ_BACKUP)
+        (filter (λ member. not (member.master == master)) lineage);
+    placed = begins.placed;
+    merged = tt;
+    items = record { found = begins.takes.found; come = begins.takes.come };
+    sides = begins.takes.sides;
+    outside = none_own;
+  }
+
+  rebuilds : (x : Row) (members : List Member) → Contains v.rows x → x.tablet ≡ row.tablet → x.phase ≡ Rebuilding members master → IsBegun x members
+  rebuilds x members there its phase =
+      let same : x ≡ row = same_row x there its in
+      let those : members ≡ lineage =
+      ap lineage_of (sym phase) ∙ ap (λ (r : Row). lineage_of r.phase) same ∙ ap lineage_of is in
+      subst (λ (r : Row). IsBegun r members) (sym same) (subst (IsBegun row) (sym those) rebuilder)
+
+  own_yields : Yields v master left row.tablet own
+  own_yields = record {
+    beside = λ x there its.
+        subst (λ (r : Row). YieldsBeside r master (v.written master).applied old own.handover) (sym (same_row x there its)) beside_row;
+    formed = formed;
+    begun = λ present. omega (arith, below);
+    known = λ present. ap is_some found;
+    unknown = λ none. let some : Some row ≡ None = sym found ∙ none in absurd (cc some);
+    ranges = λ begun. row_within;
+    bare = tt;
+    rebuilds = λ x members there its phase at. rebuilds x members there its phase;
+  }
+
+  -- ---- its records
+
+  -- outside the lineage, a row of which it is a member, or whose term it keeps, does not meet the range
+  beside_range : is_member lineage master ≡ false → (x : Row) → Contains v.rows x → (is_member (lineage_of x.phase) master ≡ true) ⊎ ((v.handovers master x.tablet).term ≡ x.term) → meets row.range x.range ≡ false
+  beside_range outside x there counts =
+      ⊎_elim
+      (λ (its : x.tablet ≡ row.tablet).
+      let same : x ≡ row = same_row x there its in
+      absurd (⊎_elim
+      (λ (member : is_member (lineage_of x.phase) master ≡ true).
+      false≢true
+      (sym outside ∙ ap (λ (phase : Phase). is_member (lineage_of phase) master) (sym is)
+      ∙ ap (λ (r : Row). is_member (lineage_of r.phase) master) (sym same) ∙ member))
+      (λ (at : (v.handovers master x.tablet).term ≡ x.term).
+      let here : old.term ≡ row.term = subst (λ (r : Row). (v.handovers master r.tablet).term ≡ r.term) same at in
+      omega (arith, below, here))
+      counts))
+      (λ (other : x.tablet ≡ row.tablet → ⊥). beside_order v master row.tablet row.term row.range sound order x there other counts)
+      (cases_eq x.tablet row.tablet)
+
+  are_left : AreLeft v master left
+  are_left = go (own_member lineage master) begins
+    where
+      go : (member : Option Member) → MayBeginBy v row master sound has lives below lineage is member → AreLeft v master (items_left (v.records master) row.range member)
+      go (Some member) may = record {
+        ordered = sound.records.ordered master;
+        stood = λ item at. at;
+        stays = λ x there counts item inside at. at;
+      }
+      go None may = record {
+        ordered = order_without row.range (v.records master) (sound.records.ordered master);
+        stood = stood row.range (v.records master);
+        stays = λ x there counts. stays row.range x.range (beside_range (may.foreign refl) x there counts) (v.records master);
+      }
+
+  pub view_begins : SoundView (begun v master (order_of row lineage))
+  view_begins =
+      view_yielded v (record {
+        sound = sound;
+        master = master;
+        lives = lives;
+        records = left;
+        tablets = begun_tablets v master (order_of row lineage);
+        left = are_left;
+        step = step v master row.tablet row.term row.range sound order own refl left own_yields;
+        apart = apart v master row.tablet row.term row.range sound order own refl;
+      })
+
+pub view_begun : (v : View) (row : Row) (master : ℕ) (rebuild : Rebuild) → SoundView v → MayBegin v row master rebuild → SoundView (begun v master rebuild)
+view_begun v row master rebuild sound may =
+    let same : order_of row rebuild.lineage ≡ rebuild =
+    (λ i. record {
+      tenure = record { tablet = sym may.tablet_is i; term = sym may.term_is i };
+      range = sym may.range_is i;
+      lineage = rebuild.lineage;
+    }) in
+    subst (λ (r : Rebuild). SoundView (begun v master r)) same
+    (view_begins v row master rebuild.lineage sound (subst (MayBegin v row master) (sym same) may))
+
+-- ---- a world where a master begins to rebuild a tablet
+
+-- the master once it has dropped what it has to, by its member of the lineage
+foreign_is : (master : Master) (range : Range) (own : Option Member) → without_foreign master range own ≡ record master { records = items_left master.records range own }
+foreign_is master range (Some member) = refl
+foreign_is master range None = refl
+
+from_is : (w : World) (master : ℕ) (own : Option Member) → begun_from (master_at w master) own ≡ begins_from (view w) master own
+from_is w master (Some member) = refl
+from_is w master None = refl
+
+module _ (w : World) (master : ℕ) (rebuild : Rebuild) where
+  abbrev asked : ℕ
+  asked = rebuild.tenure.tablet
+
+  abbrev was : Tablet
+  was = tablet_in w master asked
+
+  -- what is left to the master, by its member of the lineage
+  abbrev base : Option Member → Master
+  base member = record (master_at w master) { records = items_left (master_at w master).records rebuild.range member }
+
+  -- the master once its other tablets of the range are gone too
+  abbrev left_alone : Option Member → Master
+  left_alone member = with_others_given_up (base member) asked rebuild.range
+
+  -- the tablet that it begins to rebuild, where this is its number
+  abbrev begins_as : ℕ → Tablet
+  begins_as number = as_begun number rebuild (begins_from (view w) master (own_member rebuild.lineage number)) was
+
+  -- the master that begins, where this is its number
+  abbrev begins_by_number : ℕ → Master
+  begins_by_number number = with_tablet (left_alone (own_member rebuild.lineage number)) asked (begins_as number)
+
+  -- the master that takes the order, where it has this of the tablet
+  abbrev taking : Option Member → Tablet → Master
+  taking member tablet =
+      with_begun (left_alone member) rebuild
+      (handover_rebuilt tablet.handover rebuild.tenure.term rebuild.range (begins_from (view w) master member))
+
+  moves_by : (member : Option Member) → was.handover.term < rebuild.tenure.term → taking member (tablet_at (left_alone member) asked) ≡ with_tablet (left_alone member) asked (as_begun (master_at w master).number rebuild (begins_from (view w) master member) was)
+  moves_by member greater =
+      let from : ℕ = begins_from (view w) master member in
+      let new : Handover = as_rebuilding rebuild.tenure.term rebuild.range from was.handover in
+      let stays_own : tablet_at (left_alone member) asked ≡ was = own_at (base member) asked rebuild.range in
+      ap (taking member) stays_own
+      ∙ ap (with_begun (left_alone member) rebuild)
+      (cond-true (nat_lt was.handover.term rebuild.tenure.term) (Some new) None (lt-ltb was.handover.term rebuild.tenure.term greater))
+      ∙ ap
+      (λ (t : Tablet).
+      with_tablet (left_alone member) asked
+      (record (as_begun (master_at w master).number rebuild from t) { handover = new })) stays_own
+
+  moves : was.handover.term < rebuild.tenure.term → rebuild_begun (master_at w master) rebuild ≡ begins_by_number (master_at w master).number
+  moves greater =
+      let member : Option Member = own_member rebuild.lineage (master_at w master).number in
+      (λ i.
+      let now : Master = with_others_given_up (foreign_is (master_at w master) rebuild.range member i) asked rebuild.range in
+      with_begun now rebuild
+      (handover_rebuilt (tablet_at now asked).handover rebuild.tenure.term rebuild.range (from_is w master member i)))
+      ∙ moves_by member greater
+
+  pub view_begun_in : (master_at w master).number ≡ master → was.handover.term < rebuild.tenure.term → view (rebuild_begun_in w master rebuild) ≡ begun (view w) master rebuild
+  view_begun_in numbered greater =
+      ap (λ (m : Master). view (with_master w master m)) (moves greater ∙ ap begins_by_number numbered)
+      ∙ view_taken w master (items_left (master_at w master).records rebuild.range (own_member rebuild.lineage master)) asked rebuild.range
+      (begins_as master) refl
+
+pub sound_begun : (w : World) (row : Row) (master : ℕ) (rebuild : Rebuild) → IsSound w → MayBegin (view w) row master rebuild → IsSound (rebuild_begun_in w master rebuild)
+sound_begun w row master rebuild sound may =
+    let greater : (tablet_in w master rebuild.tenure.tablet).handover.term < rebuild.tenure.term =
+    let here : ((view w).handovers master rebuild.tenure.tablet).term < row.term =
+    subst (λ (n : ℕ). ((view w).handovers master n).term < row.term) (sym may.tablet_is) may.greater in
+    omega (arith, here, may.term_is) in
+    subst SoundView (sym (view_begun_in w master rebuild (sound.nodes.numbered master) greater))
+    (view_begun (view w) row master rebuild sound may)

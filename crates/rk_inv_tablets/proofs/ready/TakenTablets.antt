@@ -1,0 +1,113 @@
+-- What is seen of a world where one master has other records and tablets, and what it has of each tablet once others are given up.
+use Rattle.std.proofs.Common.{◌≡◌, ℕ, true, false, List, [], ◌∷◌, Option, Some, None, cond, refl, sym, ap, ◌∙◌, ⊎_elim, ◌==◌, ◌&&◌, not}
+use Rattle.std.proofs.Common.{unwrap_or, option_map, nat_cmp, eq-eqb}
+use Rattle.rk_inv_base.proofs.Words.{and_left, cases_eq, cond_both, cond-false, eq_by_cmp, same_number, NumberMap, get, meets, Held, Range}
+use Rattle.rk_inv_base.proofs.Words.{given_up, with_others_given_up, marks_of, Master, tablet_at, with_tablet, Tablet, no_tablet, World}
+use Rattle.rk_inv_base.proofs.Words.{master_at, tablet_in, with_master, written_by, put, view}
+use Rattle.rk_types.specs.NumberMap.{changed_each}
+use Rattle.rk_inv_base.proofs.views.Masters.{master_other, master_same, same_of_all, same_of_each, tablet_apart, tablet_here}
+use Rattle.rk_inv_base.proofs.views.Put.{put_here, put_is, put_other}
+use Rattle.rk_inv_tablets.specs.ready.Small.{others_given_up, tablets_taken}
+
+-- ---- other tablets are given up
+
+-- what is found in a map where each thing was changed
+found_changed : {X Y : Type 0} (change : ℕ → X → Y) (things : NumberMap X) (q : ℕ) → get (changed_each change things) q ≡ option_map (change q) (get things q)
+found_changed change [] q = refl
+found_changed {X = X} {Y = Y} change (first ∷ rest) q =
+    elim (eq_by_cmp nat_cmp q first.0) as (λ b. eq_by_cmp nat_cmp q first.0 ≡ b → cond b (Some (change first.0 first.1)) (get (changed_each change rest) q) ≡ option_map (change q) (cond b (Some first.1) (get rest q))) [
+      | true ↦ λ is. ap (λ (n : ℕ). Some (change n first.1)) (sym (same_number q first.0 is))
+      | false ↦ λ apart. found_changed change rest q
+    ] refl
+
+module _ (master : Master) (number : ℕ) (range : Range) where
+  -- what becomes of a tablet
+  abbrev giving : ℕ → Tablet → Tablet
+  giving r tablet = cond (not (r == number) && meets tablet.handover.range range) (given_up tablet) tablet
+
+  found_or : (r : ℕ) (o : Option Tablet) → unwrap_or (option_map (giving r) o) no_tablet ≡ giving r (unwrap_or o no_tablet)
+  found_or r (Some tablet) = refl
+  found_or r None =
+      cond_both (not (r == number) && meets no_tablet.handover.range range) (given_up no_tablet) no_tablet
+      (λ (t : Tablet). no_tablet ≡ t) (λ e. refl) (λ e. refl)
+
+  others_at : (r : ℕ) → tablet_at (with_others_given_up master number range) r ≡ others_given_up (tablet_at master) number range r
+  others_at r =
+      ap (λ (o : Option Tablet). unwrap_or o no_tablet) (found_changed giving master.tablets r) ∙ found_or r (get master.tablets r)
+
+  -- the order's own tablet is as it was
+  pub own_at : tablet_at (with_others_given_up master number range) number ≡ tablet_at master number
+  own_at =
+      let own : Tablet = tablet_at master number in
+      others_at number
+      ∙ cond-false (not (number == number) && meets own.handover.range range) (given_up own) own
+      (and_left (not (number == number)) (meets own.handover.range range) (ap not (eq-eqb number number refl)))
+
+-- ---- one master has other records and tablets
+
+module _ (w : World) (master : ℕ) (records : List Held) (table : NumberMap Tablet) where
+  abbrev pub changed : Master
+  changed = record (master_at w master) { records = records; tablets = table }
+
+  module _ (tablets : ℕ → Tablet) (are : (r : ℕ) → tablet_at changed r ≡ tablets r) (ends : (r : ℕ) → (tablets r).completions ≡ (tablet_in w master r).completions) where
+    -- what is seen of each tablet
+    keeps : {X : Type 0} (f : Tablet → X) → ◌≡◌ {A = ℕ → ℕ → X} (λ q r. f (tablet_in (with_master w master changed) q r)) (put (λ q r. f (tablet_in w q r)) master (λ r. f (tablets r)))
+    keeps {X} f i q =
+        put_is (λ q r. f (tablet_in w q r)) master (λ r. f (tablets r)) q (λ r. f (tablet_in (with_master w master changed) q r))
+        (λ is j r. (ap (λ (m : Master). f (tablet_at m r)) (master_same w master changed q is) ∙ ap f (are r)) j)
+        (λ other j r. ap (λ (m : Master). f (tablet_at m r)) (master_other w master changed q other) j) i
+
+    view_tablets : view (with_master w master changed) ≡ tablets_taken (view w) master records tablets
+    view_tablets i = record (view w) {
+      numbers = same_of_all (λ q m. m.number) w master changed refl i;
+      logs = same_of_all (λ q m. m.log) w master changed refl i;
+      written = same_of_all (λ q m. written_by m (marks_of w.ledger q)) w master changed refl i;
+      records = λ q.
+          put_is (λ q. (master_at w q).records) master records q (master_at (with_master w master changed) q).records
+          (λ is. ap (λ (m : Master). m.records) (master_same w master changed q is))
+          (λ other. ap (λ (m : Master). m.records) (master_other w master changed q other)) i;
+      calls = same_of_all (λ q m. m.calls) w master changed refl i;
+      handovers = keeps (λ t. t.handover) i;
+      completions = λ q r.
+          same_of_each (λ q m. (tablet_at m r).completions) w master changed (ap (λ (t : Tablet). t.completions) (are r) ∙ ends r) q i;
+      pullings = keeps (λ t. t.pulling) i;
+      gathers = keeps (λ t. t.gather) i;
+      merged = keeps (λ t. t.merged_ends) i;
+    }
+
+-- ---- one tablet is another, and others are given up for it
+
+module _ (w : World) (master : ℕ) (records : List Held) (number : ℕ) (range : Range) (own : Tablet) (ends : own.completions ≡ (tablet_in w master number).completions) where
+  -- the master with these records, once the other tablets of the range are given up
+  abbrev cleared : Master
+  cleared = with_others_given_up (record (master_at w master) { records = records }) number range
+
+  abbrev others : ℕ → Tablet
+  others = others_given_up (tablet_in w master) number range
+
+  abbrev taken : ℕ → Tablet
+  taken = put others number own
+
+  -- what it has of each tablet
+  has_tablet : (r : ℕ) → tablet_at (with_tablet cleared number own) r ≡ taken r
+  has_tablet r =
+      put_is others number own r (tablet_at (with_tablet cleared number own) r)
+      (λ is. ap (tablet_at (with_tablet cleared number own)) is ∙ tablet_here cleared number own)
+      (λ other. tablet_apart cleared number own r other ∙ others_at (record (master_at w master) { records = records }) number range r)
+
+  -- each with the ends that it had
+  same_ends : (r : ℕ) → (taken r).completions ≡ (tablet_in w master r).completions
+  same_ends r =
+      let tablet : Tablet = tablet_in w master r in
+      ⊎_elim
+      (λ (is : r ≡ number).
+      ap (λ (t : Tablet). t.completions) (put_here others number own r is) ∙ ends
+      ∙ ap (λ (n : ℕ). (tablet_in w master n).completions) (sym is))
+      (λ (other : r ≡ number → ⊥).
+      ap (λ (t : Tablet). t.completions) (put_other others number own r other)
+      ∙ cond_both (not (r == number) && meets tablet.handover.range range) (given_up tablet) tablet
+      (λ (t : Tablet). t.completions ≡ tablet.completions) (λ e. refl) (λ e. refl))
+      (cases_eq r number)
+
+  pub view_taken : view (with_master w master (with_tablet cleared number own)) ≡ tablets_taken (view w) master records taken
+  view_taken = view_tablets w master records (with_tablet cleared number own).tablets taken has_tablet same_ends

@@ -1,0 +1,226 @@
+-- A living master that is to rebuild a row, and has not begun to: the records that it has are those with which it may begin.
+use Rattle.std.proofs.Common.{◌≡◌, ℕ, ◌<◌, ◌≤◌, ◌+◌, Bool, true, false, List, [], ◌&&◌, ◌||◌, ◌-◌, Option, Some, None, refl, sym, ap, ◌∙◌}
+use Rattle.std.proofs.Common.{subst, ⊎_elim, ◌⊎◌, arith, drop, is_some, max, nat_le, nat_lt, slice_get, take, All, Contains, flat_map}
+use Rattle.std.proofs.Common.{leb-true, ltb-true}
+use Rattle.rk_inv_base.proofs.Words.{and_parts, cases_Bool, cases_lt, false≢true, or_right, All-contains, Any-from_list_any, Held, Range}
+use Rattle.rk_inv_base.proofs.Words.{Entry, is_in, number_of, row_of, Row, newest_is, newest_none, is_of_from, newest_own, is_of, newest}
+use Rattle.rk_inv_base.proofs.Words.{items_in, items_of, is_marked, unmarked_from, touches, is_joined_in, joined_from, log_material}
+use Rattle.rk_inv_base.proofs.Words.{material_of, named, side_entries, Written, applied_entries, Mark, HasOwnRange, IsOfRange, MarkFits}
+use Rattle.rk_inv_base.proofs.Words.{applied_from, IsBare, IsFound, named_items, IsTableOf, View, truths, SoundView}
+use Rattle.rk_entry.specs.declared.entry.Entry.TheVariants as entries
+use Rattle.rk_overlay.specs.Newest.{IsNewest}
+use Rattle.rk_inv_base.proofs.rows.Apart.{in_one_row}
+use Rattle.rk_inv_base.proofs.logs.InRange.{AreIn, IsIn}
+use Rattle.rk_inv_base.proofs.logs.InRest.{behind_at}
+use Rattle.rk_inv_base.proofs.pulls.Joining.{kept_stands, stands_kept}
+use Rattle.rk_inv_base.proofs.logs.MarkedApart.{in_piece, place_of}
+use Rattle.rk_inv_base.proofs.rows.Serving.{found_stands}
+use Rattle.rk_inv_tablets.proofs.ready.Left.{fails_at}
+use Rattle.rk_inv_tablets.proofs.ready.OwnItems.{at_front, at_place, bears, flat_from, flat_stands, front_at, is_held_in, material_into, named_counts, sides_into, stands_at, unmarked_at, unmarked_stands}
+
+-- records of a master are those with which it may begin to rebuild a row, where its own entries count from this place
+pub record IsTakenUp (v : View) (row : Row) (master from : ℕ) (records : List Held) : Type 0 where
+  pub found :
+      (item : Held) → Contains (items_of (applied_from row.range from (v.written master))) item → IsFound records item
+  pub come :
+      (item : Held) → Contains records item → is_in row.range item ≡ true
+      → Contains (items_of (applied_from row.range from (v.written master))) item ⊎ Contains (items_of (truths v row)) item
+  pub sides :
+      (item : Held) → Contains (named_items row.range from (v.written master)) item
+      → Contains (items_of (truths v row)) item × IsFound records item
+
+-- records that have the newest item of each key of entries find each item of these
+pub table_finds : (range : Range) (list : List Entry) (records : List Held) (item : Held) → AreIn range (items_of list) → IsTableOf range list records → Contains (items_of list) item → IsFound records item
+table_finds range list records item inside table at = go (newest (items_of list) item.table item.key) refl
+  where
+    own : is_of item.table item.key item ≡ true
+    own = is_of_from item.table item.key item refl refl
+
+    go : (o : Option Held) → newest (items_of list) item.table item.key ≡ o → IsFound records item
+    go None none = absurd (false≢true (sym ((newest_none (items_of list) item.table item.key).0 none item at) ∙ own))
+    go (Some there) is =
+        let best : IsNewest (items_of list) item.table item.key there = newest_is (items_of list) item.table item.key there is in
+        let within : is_in range there ≡ true = All-contains (IsIn range) (items_of list) there inside best.stands in
+        record {
+          there = there;
+          stands = (table there within).1 (newest_own (items_of list) item.table item.key there is);
+          same_key = best.of_record;
+          as_new = best.greatest item at own;
+        }
+
+-- and have nothing else
+pub table_comes : (range : Range) (list : List Entry) (records : List Held) (item : Held) → IsTableOf range list records → Contains records item → is_in range item ≡ true → Contains (items_of list) item
+table_comes range list records item table stands inside =
+    (newest_is (items_of list) item.table item.key item ((table item inside).0 stands)).stands
+
+first_of_or : (b : Bool) → (b || false) ≡ true → b ≡ true
+first_of_or true either = refl
+first_of_or false either = either
+
+-- an entry that bears an item of a range touches it
+bears_touches : (range : Range) (e : Entry) → bears range e ≡ true → touches range e ≡ true
+bears_touches range (entries.Held held) is = first_of_or (is_in range held) is
+bears_touches range (entries.Refused refused) is = absurd (cc)
+bears_touches range (entries.Carried carried) is = absurd (cc)
+bears_touches range (entries.Joined joined) is = is
+
+module _ (v : View) (row : Row) (master : ℕ) (sound : SoundView v) (has : Contains v.rows row) (lives : v.live master ≡ true) (below : (v.handovers master row.tablet).term < row.term) where
+  abbrev w : Written
+  w = v.written master
+
+  -- ---- what the master has marked
+
+  -- nothing of the row's tablet
+  unmarked_here : (mark : Mark) → Contains w.marks mark → mark.tablet ≡ row.tablet → ⊥
+  unmarked_here mark stands its =
+      let fits : MarkFits row master (v.handovers master row.tablet) (v.live master) w mark =
+      All-contains (λ m. m.tablet ≡ row.tablet → MarkFits row master (v.handovers master row.tablet) (v.live master) w m) w.marks mark
+      (All-contains
+      (λ r. All (λ m. m.tablet ≡ r.tablet → MarkFits r master (v.handovers master r.tablet) (v.live master) w m) w.marks)
+      v.rows row (sound.rebuilds.marks master) has) stands its in
+      let told = (fits.by_rebuilder (fits.present lives)).1 in
+      omega (arith, below, told)
+
+  -- an entry of a piece of another row bears nothing of this one
+  of_other : (other : Row) (e : Entry) → Contains v.rows other → (row.tablet ≡ other.tablet → ⊥) → IsOfRange other.range e → bears row.range e ≡ true → ⊥
+  of_other other (entries.Held held) stands apart of is =
+      let both : is_in row.range held ≡ true = first_of_or (is_in row.range held) is in
+      false≢true (sym (in_one_row v.rows other row held.table held.key sound.rows.apart stands has apart of) ∙ both)
+  of_other other (entries.Refused refused) stands apart of is = of
+  of_other other (entries.Carried carried) stands apart of is = absurd (cc)
+  of_other other (entries.Joined joined) stands apart of is = of
+
+  of_piece : (mark : Mark) (e : Entry) → Contains w.marks mark → Contains (take (mark.past - mark.first) (drop mark.first w.entries)) e → (found : Option Row) → row_of v.rows mark.tablet ≡ found → is_some found ≡ true → bears row.range e ≡ true → ⊥
+  of_piece mark e marked inside None is known bearing = false≢true known
+  of_piece mark e marked inside (Some other) is known bearing =
+      let stands : Contains v.rows other = found_stands v.rows mark.tablet other is in
+      let number : other.tablet ≡ mark.tablet = number_of v.rows mark.tablet other is in
+      let own : HasOwnRange other.range w.entries mark =
+      All-contains (λ m. m.tablet ≡ other.tablet → HasOwnRange other.range w.entries m) w.marks mark
+      (All-contains (λ r. All (λ m. m.tablet ≡ r.tablet → HasOwnRange r.range w.entries m) w.marks) v.rows other
+      (sound.rebuilds.pieces master) stands) marked (sym number) in
+      of_other other e stands (λ same. unmarked_here mark marked (sym (same ∙ number)))
+      (All-contains (IsOfRange other.range) (take (mark.past - mark.first) (drop mark.first w.entries)) e own inside) bearing
+
+  -- so an entry that bears an item of the row has no mark
+  bare_at : (place : ℕ) (e : Entry) → slice_get w.entries place ≡ Some e → bears row.range e ≡ true → is_marked w.marks place ≡ false
+  bare_at place e at bearing =
+      ⊎_elim
+      (λ (marked : is_marked w.marks place ≡ true).
+      let found = Any-from_list_any (λ (mark : Mark). nat_le mark.first place && nat_lt place mark.past) w.marks marked in
+      let mark : Mark = found.1 in
+      let stands : Contains w.marks mark = (found.0, found.2, found.3) in
+      let parts = and_parts (nat_le mark.first place) (nat_lt place mark.past) found.4 in
+      absurd (of_piece mark e stands
+      (in_piece w.entries mark.first mark.past place e (leb-true mark.first place parts.0) (ltb-true place mark.past parts.1) at)
+      (row_of v.rows mark.tablet) refl
+      (All-contains (λ m. is_some (row_of v.rows m.tablet) ≡ true) w.marks mark (sound.cover.marks master) stands) bearing))
+      (λ (bare : is_marked w.marks place ≡ false). bare)
+      (cases_Bool (is_marked w.marks place))
+
+  -- ---- what counts of its own, from a place on
+
+  module _ (from : ℕ) where
+    abbrev pub sides : ℕ → List Entry
+    sides = side_entries w.sides
+
+    -- what is applied bears no mark where it bears an item
+    applied_bare : (e : Entry) → Contains (drop from (applied_entries w)) e → bears row.range e ≡ true → Contains (unmarked_from w.marks from (applied_entries w)) e
+    applied_bare e stands bearing =
+        let found = at_place (drop from (applied_entries w)) e stands in
+        let at : slice_get (applied_entries w) (from + found.0) ≡ Some e =
+        place_of (applied_entries w) from found.0 (from + found.0) e refl found.1 in
+        unmarked_stands w.marks from (drop from (applied_entries w)) found.0 e found.1
+        (bare_at (from + found.0) e (front_at w.entries w.applied (from + found.0) e at).1 bearing)
+
+    -- so its items are those of what counts of it
+    pub applied_counts : (item : Held) → Contains (items_of (applied_from row.range from w)) item → Contains (items_of (log_material row.range w.marks w.sides from (applied_entries w))) item
+    applied_counts item =
+        material_into row.range sides (drop from (applied_entries w)) (unmarked_from w.marks from (applied_entries w)) applied_bare item
+
+    -- an unmarked entry stands behind the place
+    pub unmarked_place : (list : List Entry) (e : Entry) → Contains (unmarked_from w.marks from list) e → (place : ℕ) × (from ≤ place) × (slice_get list place ≡ Some e) × (is_marked w.marks place ≡ false)
+    unmarked_place list e stands =
+        let found = unmarked_at w.marks from (drop from list) e stands in
+        (from + found.0, omega arith, place_of list from found.0 (from + found.0) e refl found.1, found.2)
+
+    -- so it stands behind it
+    pub unmarked_behind : (e : Entry) → Contains (unmarked_from w.marks from w.entries) e → Contains (drop from w.entries) e
+    unmarked_behind e stands =
+        let found = unmarked_place w.entries e stands in
+        let behind = behind_at w.entries from found.0 e found.1 found.2 in
+        stands_at (drop from w.entries) behind.0 e behind.1
+
+    -- and what is applied does
+    pub applied_behind : (e : Entry) → Contains (drop from (applied_entries w)) e → Contains (drop from w.entries) e
+    applied_behind e stands =
+        let found = at_place (drop from (applied_entries w)) e stands in
+        let at : slice_get (applied_entries w) (from + found.0) ≡ Some e =
+        place_of (applied_entries w) from found.0 (from + found.0) e refl found.1 in
+        let whole : slice_get w.entries (from + found.0) ≡ Some e = (front_at w.entries w.applied (from + found.0) e at).1 in
+        let behind = behind_at w.entries from (from + found.0) e (omega arith) whole in
+        stands_at (drop from w.entries) behind.0 e behind.1
+
+    -- an item that its entries name is of what counts of them
+    pub named_of : (item : Held) → Contains (named_items row.range from w) item → (is_in row.range item ≡ true) × Contains (items_of (flat_map sides (named row.range (unmarked_from w.marks from w.entries)))) item
+    named_of item at =
+        let kept = kept_stands (is_in row.range) (items_of (flat_map sides (named row.range (unmarked_from w.marks from w.entries)))) item at in
+        (kept.1, kept.0)
+
+    -- where no unmarked Joined of the range stands behind what is applied, such an item is of what counts of that
+    pub named_applied : joined_from row.range (max from w.applied) w.entries ≡ [] → (item : Held) → Contains (named_items row.range from w) item → Contains (items_of (log_material row.range w.marks w.sides from (applied_entries w))) item
+    named_applied none item at =
+        let mine = named_of item at in
+        let all : List Entry = unmarked_from w.marks from w.entries in
+        let done : List Entry = unmarked_from w.marks from (applied_entries w) in
+        let found = flat_from items_in (flat_map sides (named row.range all)) item mine.1 in
+        named_counts row.range sides done item mine.0
+        (flat_stands items_in (flat_map sides (named row.range done)) found.0 item
+        (sides_into row.range sides all done into found.0 found.1) found.2)
+      where
+        into : (e : Entry) → Contains (unmarked_from w.marks from w.entries) e → is_joined_in row.range e ≡ true → Contains (unmarked_from w.marks from (applied_entries w)) e
+        into e stands joins =
+            let found = unmarked_place w.entries e stands in
+            let place : ℕ = found.0 in
+            ⊎_elim
+            (λ (before : place < w.applied).
+            let front : slice_get (applied_entries w) place ≡ Some e = at_front w.entries w.applied place e before found.2 in
+            let behind = behind_at (applied_entries w) from place e found.1 front in
+            unmarked_stands w.marks from (drop from (applied_entries w)) behind.0 e behind.1
+            (ap (is_marked w.marks) behind.2 ∙ found.3))
+            (λ (past : w.applied ≤ place).
+            let beyond : max from w.applied ≤ place = let after = found.1 in omega (arith, after, past) in
+            let behind = behind_at w.entries (max from w.applied) place e beyond found.2 in
+            let there : Contains (joined_from row.range (max from w.applied) w.entries) e =
+            stands_kept (is_joined_in row.range) (drop (max from w.applied) w.entries) e
+            (stands_at (drop (max from w.applied) w.entries) behind.0 e behind.1) joins in
+            let nowhere : Contains [] e = subst (λ (list : List Entry). Contains list e) none there in
+            absurd (omega (arith, nowhere.1)))
+            (cases_lt place w.applied)
+
+    -- where nothing of the range stands behind the place, a master that has no record of it may begin
+    pub bare_takes : (records : List Held) → IsBare row.range from w records → IsTakenUp v row master from records
+    bare_takes records bare = record {
+      found = λ item at.
+          let none : Contains (items_of (material_of row.range sides [])) item =
+          material_into row.range sides (drop from (applied_entries w)) []
+          (λ e stands bearing. absurd (untouched e (applied_behind e stands) bearing)) item at in
+          absurd (omega (arith, none.1));
+      come = λ item stands inside.
+          absurd (false≢true (sym (fails_at (is_in row.range) records item bare.empty stands) ∙ inside));
+      sides = λ item at.
+          let mine = named_of item at in
+          let all : List Entry = unmarked_from w.marks from w.entries in
+          let found = flat_from items_in (flat_map sides (named row.range all)) item mine.1 in
+          let none : Contains (flat_map sides (named row.range [])) found.0 =
+          sides_into row.range sides all []
+          (λ e stands joins.
+          absurd (untouched e (unmarked_behind e stands)
+          (or_right (is_held_in row.range e) (is_joined_in row.range e) joins))) found.0 found.1 in
+          absurd (omega (arith, none.1));
+    }
+      where
+        untouched : (e : Entry) → Contains (drop from w.entries) e → bears row.range e ≡ true → ⊥
+        untouched e stands bearing =
+            false≢true
+            (sym (fails_at (touches row.range) (drop from w.entries) e bare.nothing stands) ∙ bears_touches row.range e bearing)

@@ -1,0 +1,219 @@
+-- A lane stays sound when a target that has pulled all seals its side lists: its master cuts them into side segments, which have what
+-- the target copied, and the target joins.
+use Rattle.std.proofs.Common.{◌≡◌, ℕ, ◌+◌, ◌-◌, ◌<◌, true, List, [], ◌∷◌, ◌++◌, fold, length, map, Option, Some, None, is_some, refl, sym}
+use Rattle.std.proofs.Common.{ap, ◌∙◌, subst, inl, arith, append_assoc, length-append, nat_le, nat_lt, slice_index_or, sum, All, Contains}
+use Rattle.std.proofs.Common.{flat_map, le-ltb, append-nil}
+use Rattle.rk_inv_base.proofs.Words.{cond-false, cond_both, get_or_append_left, get_or_push, length-map, flat_map-append, All-contains}
+use Rattle.rk_inv_base.proofs.Words.{range_with_len, hash_of, spelled_of, Held, Member, spelled_all, Entry, FIRST_SIDE_SEGMENT, is_in, Role}
+use Rattle.rk_inv_base.proofs.Words.{number_of, lineage_of, row_of, Row, items_in, items_of, Master, tablet_at, with_side_segment}
+use Rattle.rk_inv_base.proofs.Words.{with_tablet, as_entries, side_entries, next_sides, with_pulling, is_absent, sealed_sides, Pulling}
+use Rattle.rk_inv_base.proofs.Words.{Tablet, with_handover, World, master_at, tablet_in, with_master, Written, member_truth, IsItemWithin}
+use Rattle.rk_inv_base.proofs.Words.{Holds, StillCounts, bond_of, post_of, MembersFit, copied_items, is_granted, RoleFits, IsFormed, View}
+use Rattle.rk_inv_base.proofs.Words.{view, IsSound, SoundView}
+use Rattle.rk_types.specs.declared.held.TheConstants.{SEGMENT_BYTES}
+use Rattle.rk_transfer.specs.declared.role.Role.TheVariants as roles
+use Rattle.rk_world.specs.SideLogs.{cut_items, with_side_item}
+use Rattle.rk_inv_base.proofs.views.Cover.{covered_by}
+use Rattle.rk_inv_base.proofs.logs.InRange.{IsIn, truth_in}
+use Rattle.rk_inv_base.proofs.pulls.Joining.{IsSecond, joining_second, scanned}
+use Rattle.rk_inv_base.proofs.views.Lists.{all_by}
+use Rattle.rk_inv_base.proofs.views.Masters.{tablet_apart, tablet_here}
+use Rattle.rk_inv_base.proofs.views.Put.{put_here, put_same, put2_same}
+use Rattle.rk_inv_base.proofs.rows.Serving.{found_stands}
+use Rattle.rk_inv_base.proofs.views.Views.{view_master}
+use Rattle.rk_inv_tablets.specs.seal.Moves.{MaySealThere}
+use Rattle.rk_inv_tablets.specs.seal.Small.{as_joining, as_sealed, sealed, side_lists_sealed_in, sides_cut, with_side_items, with_sides}
+use Rattle.rk_inv_tablets.proofs.seal.SidesCut.{view_sides_cut}
+use Rattle.rk_inv_tablets.proofs.seal.SidesJoined.{HaveCopies, fits_joining, view_sides_joined}
+
+-- ---- lists of items
+
+-- the items of all lists
+abbrev all_of : List (List Held) → List Held
+all_of lists = flat_map (λ items. items) lists
+
+-- one more item goes to the end
+placed_last : (lists : List (List Held)) (item : Held) → all_of (with_side_item lists item) ≡ all_of lists ++ item ∷ []
+placed_last [] item = refl
+placed_last (items ∷ []) item =
+    cond_both (nat_le (sum (map spelled_of items) + spelled_of item) SEGMENT_BYTES) ((items ++ item ∷ []) ∷ []) (items ∷ (item ∷ []) ∷ [])
+    (λ now. all_of now ≡ (items ++ []) ++ item ∷ [])
+    (λ e. append-nil (items ++ item ∷ []) ∙ ap (λ (list : List Held). list ++ item ∷ []) (sym (append-nil items)))
+    (λ e. ap (λ (list : List Held). list ++ item ∷ []) (sym (append-nil items)))
+placed_last (items ∷ next ∷ more) item =
+    ap (λ (list : List Held). items ++ list) (placed_last (next ∷ more) item)
+    ∙ sym (append_assoc items (all_of (next ∷ more)) (item ∷ []))
+
+-- so all of a worker's are there
+cut_all : (lists : List (List Held)) (items : List Held) → all_of (fold with_side_item lists items) ≡ all_of lists ++ items
+cut_all lists [] = sym (append-nil (all_of lists))
+cut_all lists (item ∷ items) =
+    cut_all (with_side_item lists item) items
+    ∙ ap (λ (list : List Held). list ++ items) (placed_last lists item)
+    ∙ append_assoc (all_of lists) (item ∷ []) items
+
+-- and of all workers
+sealed_all : (sides : List (List Held)) → all_of (sealed_sides sides) ≡ all_of sides
+sealed_all [] = refl
+sealed_all (items ∷ sides) =
+    flat_map-append (λ (list : List Held). list) (cut_items items) (sealed_sides sides)
+    ∙ (λ i. cut_all [] items i ++ sealed_all sides i)
+
+-- the items of entries that are items
+items_again : (items : List Held) → items_of (as_entries items) ≡ items
+items_again [] = refl
+items_again (item ∷ items) = ap (λ (list : List Held). item ∷ list) (items_again items)
+
+items_all : (lists : List (List Held)) → items_of (flat_map as_entries lists) ≡ all_of lists
+items_all [] = refl
+items_all (items ∷ lists) =
+    flat_map-append items_in (as_entries items) (flat_map as_entries lists)
+    ∙ (λ i. items_again items i ++ items_all lists i)
+
+-- the next side segments have these items
+next_have : (sides lists : List (List Held)) (next : ℕ) → next ≡ FIRST_SIDE_SEGMENT + length sides → flat_map (side_entries (sides ++ lists)) (range_with_len next (length lists)) ≡ flat_map as_entries lists
+next_have sides [] next is = refl
+next_have sides (items ∷ lists) next is =
+    let place : next - FIRST_SIDE_SEGMENT ≡ length sides = omega (arith, is) in
+    let regrouped : (sides ++ items ∷ []) ++ lists ≡ sides ++ items ∷ lists = append_assoc sides (items ∷ []) lists in
+    let later : next + 1 ≡ FIRST_SIDE_SEGMENT + length (sides ++ items ∷ []) = omega (arith, is, length-append sides (items ∷ [])) in
+    let within : length sides < length (sides ++ items ∷ []) = omega (arith, length-append sides (items ∷ [])) in
+    let here : slice_index_or (sides ++ items ∷ lists) (next - FIRST_SIDE_SEGMENT) [] ≡ items =
+    ap (λ (all : List (List Held)). slice_index_or all (next - FIRST_SIDE_SEGMENT) []) (sym regrouped)
+    ∙ ap (λ (n : ℕ). slice_index_or ((sides ++ items ∷ []) ++ lists) n []) place
+    ∙ get_or_append_left (sides ++ items ∷ []) lists [] (length sides) within
+    ∙ get_or_push sides items [] (length sides) refl in
+    let first : side_entries (sides ++ items ∷ lists) next ≡ as_entries items =
+    cond-false (nat_lt next FIRST_SIDE_SEGMENT) [] (as_entries (slice_index_or (sides ++ items ∷ lists) (next - FIRST_SIDE_SEGMENT) []))
+    (le-ltb next FIRST_SIDE_SEGMENT (omega (arith, is)))
+    ∙ ap as_entries here in
+    let rest : flat_map (side_entries (sides ++ items ∷ lists)) (range_with_len (next + 1) (length lists)) ≡ flat_map as_entries lists =
+    ap (λ (all : List (List Held)). flat_map (side_entries all) (range_with_len (next + 1) (length lists))) (sym regrouped)
+    ∙ next_have (sides ++ items ∷ []) lists (next + 1) later in
+    (λ i. first i ++ rest i)
+
+-- ---- the view
+
+module _ (v : View) (row : Row) (master : ℕ) (sound : SoundView v) (has_row : Contains v.rows row) (may : MaySealThere v master row.tablet) where
+  abbrev pulling : Pulling
+  pulling = v.pullings master row.tablet
+
+  abbrev lists : List (List Held)
+  lists = sealed_sides (v.pullings master row.tablet).sides
+
+  abbrev next : ℕ
+  next = FIRST_SIDE_SEGMENT + length (v.logs master).sides
+
+  -- the target is the second of the row's two members
+  second : IsSecond row.phase master row.term (v.handovers master row.tablet).term
+  second =
+      joining_second master row.term (v.handovers master row.tablet).term (v.written master).applied row.phase
+      (All-contains (λ (r : Row). IsFormed r.phase) v.rows row sound.rows.formed has_row)
+      (fits_joining (post_of row.phase master) row.term (v.handovers master row.tablet).term (v.written master).applied
+      (subst (λ (role : Role). Holds (bond_of (post_of row.phase master) role) row.term (v.handovers master row.tablet).term (v.written master).applied) may.may.receiving
+      (All-contains
+      (λ (r : Row). StillCounts (v.live master) (v.handovers master r.tablet).term r.term
+      → RoleFits r master (v.handovers master r.tablet) (v.written master).applied) v.rows row (sound.roles.fitting master) has_row (inl may.may.lives))))
+
+  -- what it copied is the source's
+  copied_in : (item : Held) → Contains (all_of pulling.sides) item → is_in row.range item ≡ true
+  copied_in item at =
+      let source : Member = second.source in
+      let target : Member = second.target in
+      let fit : MembersFit row v.written v.handovers v.pullings v.records v.handed (source ∷ target ∷ []) =
+      subst (MembersFit row v.written v.handovers v.pullings v.records v.handed) second.lineage_is
+      (All-contains (λ (r : Row). MembersFit r v.written v.handovers v.pullings v.records v.handed (lineage_of r.phase)) v.rows row sound.receives.targets has_row) in
+      let receiving : (v.handovers target.master row.tablet).role ≡ roles.Receiving =
+      ap (λ (n : ℕ). (v.handovers n row.tablet).role) second.here ∙ may.may.receiving in
+      let its = fit (ap is_granted receiving) in
+      let same : all_of (v.pullings target.master row.tablet).sides ≡ all_of pulling.sides =
+      ap (λ (n : ℕ). all_of (v.pullings n row.tablet).sides) second.here in
+      let truth : List Entry = member_truth v.written row.range source in
+      All-contains (IsIn row.range) (items_of truth) item (truth_in v.written row.range source)
+      (scanned truth item
+      (its.received.within item
+      (subst (λ (role : Role). Contains (copied_items role (v.pullings target.master row.tablet) (v.written target.master).sides) item) (sym receiving)
+      (subst (λ (list : List Held). Contains list item) (sym same) at))))
+
+  -- so it lies in rows
+  within : All (IsItemWithin v.rows) (all_of lists)
+  within =
+      subst (All (IsItemWithin v.rows)) (sym (sealed_all pulling.sides))
+      (all_by (IsItemWithin v.rows) (all_of pulling.sides)
+      (λ item at. by_table item (copied_in item at)))
+    where
+      by_table : (item : Held) → is_in row.range item ≡ true → IsItemWithin v.rows item
+      by_table item inside = covered_by v.rows row item.table (hash_of item.key) has_row inside
+
+  -- the side segments that are cut have it
+  copies : HaveCopies ((sides_cut v master lists).written master) pulling (range_with_len next (length lists))
+  copies =
+      let w : Written = v.written master in
+      let kept = sound.logs.each master in
+      let count : next ≡ FIRST_SIDE_SEGMENT + length w.sides =
+      ap (λ (n : ℕ). FIRST_SIDE_SEGMENT + n) (ap length kept.spelled ∙ length-map w.sides (λ (items : List Held). spelled_all (as_entries items))) in
+      subst (λ (x : Written). HaveCopies x pulling (range_with_len next (length lists)))
+      (sym (put_here v.written master (with_side_items w lists) master refl))
+      (ap items_of (next_have w.sides lists next count) ∙ items_all lists ∙ sealed_all pulling.sides)
+
+  pub view_sealed : SoundView (sealed v master row.tablet)
+  view_sealed =
+      view_sides_joined (sides_cut v master lists) row master (range_with_len next (length lists)) (view_sides_cut v master lists sound within may.there)
+      has_row may.may.lives may.may.receiving may.may.pulled copies
+
+-- ---- the world
+
+-- a master that cuts side segments, one after the other
+cut_folded : (m : Master) (lists : List (List Held)) → fold with_side_segment m lists ≡ record m { log = with_sides m.log lists; sides = m.sides ++ lists }
+cut_folded m [] = λ i. record m {
+  log = record m.log { sides = sym (append-nil m.log.sides) i };
+  sides = sym (append-nil m.sides) i;
+}
+cut_folded m (items ∷ lists) =
+    let bytes : List ℕ = spelled_all (as_entries items) in
+    cut_folded (with_side_segment m items) lists
+    ∙ (λ i. record m {
+      log = record m.log {
+        sides = append_assoc m.log.sides (bytes ∷ []) (map (λ (items : List Held). spelled_all (as_entries items)) lists) i;
+      };
+      sides = append_assoc m.sides (items ∷ []) lists i;
+    })
+
+pub sealed_is : (w : World) (master number : ℕ) → view (side_lists_sealed_in w master number) ≡ sealed (view w) master number
+sealed_is w master number =
+    let m : Master = master_at w master in
+    let kept : Tablet = tablet_in w master number in
+    let lists : List (List Held) = sealed_sides kept.pulling.sides in
+    let numbers : List ℕ = next_sides m (length lists) in
+    let cut : Master = record m { log = with_sides m.log lists; sides = m.sides ++ lists } in
+    let pulled : Tablet = with_pulling kept (as_sealed numbers kept.pulling) in
+    let joined : Tablet = with_handover pulled (as_joining kept.handover) in
+    let begun : Master = with_tablet (fold with_side_segment m lists) number pulled in
+    let same : with_tablet begun number (with_handover (tablet_at begun number) (as_joining kept.handover)) ≡ with_tablet (with_tablet cut number pulled) number joined =
+    ap (λ (t : Tablet). with_tablet begun number (with_handover t (as_joining kept.handover))) (tablet_here (fold with_side_segment m lists) number pulled)
+    ∙ ap (λ (now : Master). with_tablet (with_tablet now number pulled) number joined) (cut_folded m lists) in
+    ap (λ (now : Master). view (with_master w master now)) same
+    ∙ view_master w master (with_tablet (with_tablet cut number pulled) number joined) number joined refl
+    (tablet_here (with_tablet cut number pulled) number joined)
+    (λ r apart. tablet_apart (with_tablet cut number pulled) number joined r apart ∙ tablet_apart cut number pulled r apart)
+    ∙ (λ i. record (sealed (view w) master number) {
+      records = put_same (view w).records master i;
+      calls = put_same (view w).calls master i;
+      completions = put2_same (view w).completions master number i;
+      gathers = put2_same (view w).gathers master number i;
+      merged = put2_same (view w).merged master number i;
+    })
+
+-- the tablet is that of a row
+pub sound_sealed : (w : World) (master number : ℕ) → IsSound w → MaySealThere (view w) master number → IsSound (side_lists_sealed_in w master number)
+sound_sealed w master number sound may =
+    at (row_of (view w).rows number) refl (sound.roles.known master number may.may.lives (ap is_absent may.may.receiving))
+  where
+    at : (found : Option Row) → row_of (view w).rows number ≡ found → is_some found ≡ true → IsSound (side_lists_sealed_in w master number)
+    at None found some = absurd (cc)
+    at (Some row) found some =
+        let number_is : row.tablet ≡ number = number_of (view w).rows number row found in
+        subst (λ (n : ℕ). IsSound (side_lists_sealed_in w master n)) number_is
+        (subst SoundView (sym (sealed_is w master row.tablet))
+        (view_sealed (view w) row master sound (found_stands (view w).rows number row found)
+        (subst (λ (n : ℕ). MaySealThere (view w) master n) (sym number_is) may)))

@@ -1,0 +1,141 @@
+-- No Joined names a side segment that is not there, so with more side segments what counts is the same.
+use Rattle.std.proofs.Common.{◌≡◌, ℕ, suc, ◌+◌, ◌-◌, ◌<◌, ◌≤◌, true, false, cond, List, [], ◌∷◌, ◌++◌, filter, fold, length, Option, refl}
+use Rattle.std.proofs.Common.{sym, ap, ◌∙◌, ⊎_elim, arith, drop, nat_lt, All, flat_map, lt-ltb}
+use Rattle.rk_inv_base.proofs.Words.{cases_lt, cond-true, cond_both, false≢true, get_or_append_left, length-map, All-append, All-cons}
+use Rattle.rk_inv_base.proofs.Words.{All-drop, All-head, All-nil, All-push, All-tail, All-take, All-weaker, list_all, option_map_or, Held}
+use Rattle.rk_inv_base.proofs.Words.{Range, NumberedBytes, spelled_all, is_among, Entry, FIRST_SIDE_SEGMENT, is_in, is_whole, Log}
+use Rattle.rk_inv_base.proofs.Words.{is_side_stored, items_of, is_marked, unmarked, unmarked_from, as_entries, counting, log_material}
+use Rattle.rk_inv_base.proofs.Words.{named, named_by, side_entries, with_number, Written, applied_entries, Mark, IsLog, segments_in}
+use Rattle.rk_inv_base.proofs.Words.{applied_from, named_items}
+use Rattle.rk_entry.specs.declared.entry.Entry.TheVariants as entries
+use Rattle.rk_inv_base.proofs.logs.Segments.{numbered_past}
+use Rattle.rk_inv_tablets.specs.seal.Small.{with_side_items}
+
+-- these numbers are below that of the next side segment, where there are so many
+abbrev pub AreBelow : ℕ → List ℕ → Type 0
+AreBelow count numbers = All (λ number. number < FIRST_SIDE_SEGMENT + count) numbers
+
+-- ---- what is named is there
+
+-- a side segment that is stored is there
+stored_below : (log : Log) (number : ℕ) → is_side_stored log number ≡ true → number < FIRST_SIDE_SEGMENT + length log.sides
+stored_below log number stored =
+    ⊎_elim
+    (λ (below : number < FIRST_SIDE_SEGMENT + length log.sides). below)
+    (λ (past : FIRST_SIDE_SEGMENT + length log.sides ≤ number).
+    absurd (false≢true
+    (sym (ap (λ (found : Option NumberedBytes). option_map_or (λ segment. list_all (λ known. is_whole known segment) log.known) found false)
+    (numbered_past number FIRST_SIDE_SEGMENT log.sides past))
+    ∙ stored)))
+    (cases_lt number (FIRST_SIDE_SEGMENT + length log.sides))
+
+-- what holds of numbers, and of others, holds of all
+all_numbers : (P : ℕ → Type 0) (some others : List ℕ) → All P some → All P others → All P (fold with_number some others)
+all_numbers P some [] these those = these
+all_numbers P some (number ∷ others) these those =
+    all_numbers P (with_number some number) others
+    (cond_both (is_among number some) some (some ++ number ∷ []) (All P) (λ e. these)
+    (λ e. All-push P some number these (All-head P number others those)))
+    (All-tail P number others those)
+
+-- what holds of all that an entry names holds of what it names for a range
+named_fit : (P : ℕ → Type 0) (range : Range) (entry : Entry) → All P (segments_in entry) → All P (named_by range entry)
+named_fit P range (entries.Held held) all = all
+named_fit P range (entries.Refused refused) all = all
+named_fit P range (entries.Carried carried) all = all
+named_fit P range (entries.Joined joined) all = cond_both _ joined.segments [] (All P) (λ e. all) (λ e. All-nil P)
+
+all_named : (P : ℕ → Type 0) (range : Range) (list : List Entry) → All (λ entry. All P (segments_in entry)) list → All P (named range list)
+all_named P range list all = all_numbers P [] (flat_map (named_by range) list) (All-nil P) (each list all)
+  where
+    each : (list : List Entry) → All (λ entry. All P (segments_in entry)) list → All P (flat_map (named_by range) list)
+    each [] all = All-nil P
+    each (entry ∷ list) all =
+        All-append P (named_by range entry) (flat_map (named_by range) list)
+        (named_fit P range entry (All-head (λ e. All P (segments_in e)) entry list all))
+        (each list (All-tail (λ e. All P (segments_in e)) entry list all))
+
+-- what holds of entries holds of those without a mark
+pub unmarked_all : (P : Entry → Type 0) (marks : List Mark) (place : ℕ) (list : List Entry) → All P list → All P (unmarked marks place list)
+unmarked_all P marks place [] all = all
+unmarked_all P marks place (entry ∷ list) all =
+    let later = unmarked_all P marks (suc place) list (All-tail P entry list all) in
+    cond_both (is_marked marks place) (unmarked marks (suc place) list) (entry ∷ unmarked marks (suc place) list) (All P) (λ e. later)
+    (λ e. All-cons P entry (unmarked marks (suc place) list) (All-head P entry list all) later)
+
+-- ---- more side segments
+
+-- a side segment that is there has what it had
+side_kept : (sides lists : List (List Held)) (number : ℕ) → number < FIRST_SIDE_SEGMENT + length sides → side_entries (sides ++ lists) number ≡ side_entries sides number
+side_kept sides lists number there =
+    let k : ℕ = number - FIRST_SIDE_SEGMENT in
+    ⊎_elim
+    (λ (less : number < FIRST_SIDE_SEGMENT).
+    cond-true (nat_lt number FIRST_SIDE_SEGMENT) [] _ (lt-ltb number FIRST_SIDE_SEGMENT less)
+    ∙ sym (cond-true (nat_lt number FIRST_SIDE_SEGMENT) [] _ (lt-ltb number FIRST_SIDE_SEGMENT less)))
+    (λ (side : FIRST_SIDE_SEGMENT ≤ number).
+    ap (λ (items : List Held). cond (nat_lt number FIRST_SIDE_SEGMENT) [] (as_entries items))
+    (get_or_append_left sides lists [] k (omega (arith, there, side))))
+    (cases_lt number FIRST_SIDE_SEGMENT)
+
+-- so have several
+pub sides_kept : (sides lists : List (List Held)) (numbers : List ℕ) → AreBelow (length sides) numbers → flat_map (side_entries (sides ++ lists)) numbers ≡ flat_map (side_entries sides) numbers
+sides_kept sides lists [] there = refl
+sides_kept sides lists (number ∷ numbers) there =
+    let Below : ℕ → Type 0 = λ n. n < FIRST_SIDE_SEGMENT + length sides in
+    (λ i.
+    side_kept sides lists number (All-head Below number numbers there) i
+    ++ sides_kept sides lists numbers (All-tail Below number numbers there) i)
+
+module _ (log : Log) (w : Written) (stored : ℕ → ℕ → List ℕ) (kept : IsLog log w stored) (lists : List (List Held)) where
+  -- with the items of more side segments
+  abbrev more : Written
+  more = with_side_items w lists
+
+  -- each of these names segments that are stored
+  abbrev AreNamed : List Entry → Type 0
+  AreNamed list = All (λ entry. All (λ segment. is_side_stored log segment ≡ true) (segments_in entry)) list
+
+  -- so what they name has what it had
+  named_kept : (range : Range) (list : List Entry) → AreNamed list → flat_map (side_entries (w.sides ++ lists)) (named range list) ≡ flat_map (side_entries w.sides) (named range list)
+  named_kept range list all =
+      let same : length log.sides ≡ length w.sides =
+      ap length kept.spelled ∙ length-map w.sides (λ (items : List Held). spelled_all (as_entries items)) in
+      sides_kept w.sides lists (named range list)
+      (All-weaker (λ number. is_side_stored log number ≡ true) (λ number. number < FIRST_SIDE_SEGMENT + length w.sides)
+      (λ number its. let below = stored_below log number its in omega (arith, below, same))
+      (named range list) (all_named (λ number. is_side_stored log number ≡ true) range list all))
+
+  abbrev Names : Entry → Type 0
+  Names entry = All (λ segment. is_side_stored log segment ≡ true) (segments_in entry)
+
+  free_named : (marks : List Mark) (from : ℕ) (list : List Entry) → AreNamed list → AreNamed (unmarked_from marks from list)
+  free_named marks from list all = unmarked_all Names marks from (drop from list) (All-drop Names from list all)
+
+  first_named : AreNamed (applied_entries w)
+  first_named = All-take Names w.applied w.entries kept.named
+
+  -- what counts of all, and of what is applied
+  pub material_kept : (range : Range) (from : ℕ) → log_material range w.marks (w.sides ++ lists) from w.entries ≡ log_material range w.marks w.sides from w.entries
+  material_kept range from =
+      let free : List Entry = unmarked_from w.marks from w.entries in
+      ap (λ (list : List Entry). counting range free ++ counting range list)
+      (named_kept range free (free_named w.marks from w.entries kept.named))
+
+  pub truth_kept : (range : Range) (from : ℕ) → log_material range w.marks (w.sides ++ lists) from (applied_entries w) ≡ log_material range w.marks w.sides from (applied_entries w)
+  truth_kept range from =
+      let free : List Entry = unmarked_from w.marks from (applied_entries w) in
+      ap (λ (list : List Entry). counting range free ++ counting range list)
+      (named_kept range free (free_named w.marks from (applied_entries w) first_named))
+
+  pub applied_kept : (range : Range) (from : ℕ) → applied_from range from more ≡ applied_from range from w
+  applied_kept range from =
+      let own : List Entry = drop from (applied_entries w) in
+      ap (λ (list : List Entry). counting range own ++ counting range list)
+      (named_kept range own (All-drop Names from (applied_entries w) first_named))
+
+  -- and the items that are named
+  pub items_kept : (range : Range) (from : ℕ) → named_items range from more ≡ named_items range from w
+  items_kept range from =
+      ap (λ (list : List Entry). filter (is_in range) (items_of list))
+      (named_kept range (unmarked_from w.marks from w.entries) (free_named w.marks from w.entries kept.named))

@@ -1,0 +1,122 @@
+-- What targets have sealed stays there where a master takes a message that hands a tablet over.
+use Rattle.std.proofs.Common.{◌&&◌, ◌==◌, ℕ, true, false, cond, not, [], length, Option, None, Some}
+use Rattle.rk_inv_base.proofs.Words.{All-nil, meets, Range, completions_from, closed, frozen, granted, owned, prepared, released, Handover}
+use Rattle.rk_inv_base.proofs.Words.{Role, Grant, Prepare, Tenure, carried_entry, close_taken, closing, given_up, grant_taken, granting}
+use Rattle.rk_inv_base.proofs.Words.{is_greater, own_taken, owning, prepare_taken, preparing, ready, ready_again, release_taken, releasing}
+use Rattle.rk_inv_base.proofs.Words.{tablet_closed, tablet_prepared, transfer, transferring, with_move, with_others_given_up, Master}
+use Rattle.rk_inv_base.proofs.Words.{tablet_at, with_appended, without_items, is_frozen_at, Tablet, pulling_from, with_handover}
+use Rattle.rk_inv_base.proofs.Words.{without_merged, changed, sending}
+use Rattle.rk_transfer.specs.declared.role.Role.TheVariants as roles
+use Rattle.rk_inv_tablets.proofs.steady.Commits.{freezing_seals}
+use Rattle.rk_inv_tablets.proofs.steady.Sealed.{IsSealedUnder, Seals, each_under, either_works, sealed_at, seals_with_tablet}
+
+module _ (count : ℕ) where
+  -- ---- moves
+
+  given_up_sealed : (number : ℕ) (range : Range) (entry : ℕ × Tablet) → IsSealedUnder count entry.1
+      → IsSealedUnder count (cond (not (entry.0 == number) && meets entry.1.handover.range range) (given_up entry.1) entry.1)
+  given_up_sealed number range entry sealed =
+      elim (not (entry.0 == number) && meets entry.1.handover.range range) as (λ b. IsSealedUnder count (cond b (given_up entry.1) entry.1)) [
+        | true ↦ All-nil _
+        | false ↦ sealed
+      ]
+
+  pub others_given_up_seal : (master : Master) (number : ℕ) (range : Range) → Seals count master → Seals count (with_others_given_up master number range)
+  others_given_up_seal master number range seals = (
+    seals.0,
+    each_under count
+        (λ entry. cond (not (entry.0 == number) && meets entry.1.handover.range range) (given_up entry.1) entry.1)
+        master.tablets (given_up_sealed number range) seals.1,
+  )
+
+  move_seals : (master : Master) (number : ℕ) (handover : Option Handover) → Seals count master → Seals count (with_move master number handover)
+  move_seals master number None seals = seals
+  move_seals master number (Some handover) seals =
+      seals_with_tablet count master number (without_merged (with_handover (tablet_at master number) handover)) seals
+      (sealed_at count master number seals)
+
+  module _ (master : Master) (seals : Seals count master) where
+    -- ---- ready
+
+    prepared_seals : (prepare : Prepare) → Seals count (tablet_prepared master prepare)
+    prepared_seals prepare =
+        let number = prepare.tenure.tablet in
+        let now = with_others_given_up (without_items master prepare.range) number prepare.range in
+        move_seals now number (prepared (tablet_at now number).handover prepare.tenure.term prepare.range (length master.log.entries))
+        (others_given_up_seal (without_items master prepare.range) number prepare.range seals)
+
+    again_seals : (tenure : Tenure) (role : Role) (term : ℕ) → Seals count (ready_again master tenure role term).master
+    again_seals tenure (roles.Wanting from) term =
+        either_works count (term == tenure.term) (sending master (ready master tenure from)) (changed master) seals seals
+    again_seals tenure roles.Absent term = seals
+    again_seals tenure roles.Serving term = seals
+    again_seals tenure roles.Closing term = seals
+    again_seals tenure roles.Frozen term = seals
+    again_seals tenure roles.Receiving term = seals
+    again_seals tenure (roles.Joining entry) term = seals
+    again_seals tenure (roles.Rebuilding from entry) term = seals
+
+    pub prepare_seals : (prepare : Prepare) → Seals count (prepare_taken master prepare).master
+    prepare_seals prepare =
+        let handover = (tablet_at master prepare.tenure.tablet).handover in
+        either_works count (is_greater master prepare.tenure.tablet prepare.tenure.term prepare.range) (preparing master prepare)
+        (ready_again master prepare.tenure handover.role handover.term)
+        (prepared_seals prepare) (again_seals prepare.tenure handover.role handover.term)
+
+    -- ---- closed
+
+    closing_seals : (number : ℕ) (handover : Option Handover) → Seals count (closing master number handover)
+    closing_seals number None = seals
+    closing_seals number (Some handover) =
+        let now = tablet_closed master number handover in
+        let closed_seals : Seals count now = move_seals master number (Some handover) seals in
+        freezing_seals count now number (tablet_at now number) closed_seals (sealed_at count now number closed_seals)
+        (frozen handover handover.term)
+
+  transferring_seals : (master : Master) (tenure : Tenure) → Seals count master → Seals count (transferring master tenure).master
+  transferring_seals master tenure seals =
+      let tablet = tablet_at master tenure.tablet in
+      either_works count (is_frozen_at tablet tenure.term) (sending master (transfer master tenure tablet)) (changed master) seals seals
+
+  module _ (master : Master) (seals : Seals count master) where
+    pub close_seals : (tenure : Tenure) → Seals count (close_taken master tenure).master
+    close_seals tenure =
+        let handover = closed (tablet_at master tenure.tablet).handover tenure.term in
+        transferring_seals (closing master tenure.tablet handover) tenure (closing_seals master seals tenure.tablet handover)
+
+    -- ---- granted
+
+    granting_seals : (grant : Grant) (handover : Option Handover) → Seals count (granting master grant handover).master
+    granting_seals grant None = seals
+    granting_seals grant (Some handover) =
+        seals_with_tablet count (with_appended master (carried_entry handover grant)) grant.tenure.tablet
+        (record (without_merged (tablet_at master grant.tenure.tablet)) {
+          handover = handover;
+          completions = completions_from [] grant.ends;
+          pulling = pulling_from grant.source;
+        })
+        seals (All-nil _)
+
+    pub grant_seals : (grant : Grant) → Seals count (grant_taken master grant).master
+    grant_seals grant =
+        granting_seals grant (granted (tablet_at master grant.tenure.tablet).handover grant.tenure.term grant.floor)
+
+    -- ---- owned
+
+    owning_seals : (number : ℕ) (handover : Option Handover) → Seals count (owning master number handover).master
+    owning_seals number None = seals
+    owning_seals number (Some handover) =
+        seals_with_tablet count master number
+        (record (without_merged (tablet_at master number)) { handover = handover; pulling = pulling_from 0 }) seals (All-nil _)
+
+    pub own_seals : (tenure : Tenure) → Seals count (own_taken master tenure).master
+    own_seals tenure = owning_seals tenure.tablet (owned (tablet_at master tenure.tablet).handover tenure.term master.applied)
+
+    -- ---- released
+
+    releasing_seals : (number : ℕ) (handover : Option Handover) → Seals count (releasing master number handover).master
+    releasing_seals number None = seals
+    releasing_seals number (Some handover) = move_seals (without_items master handover.range) number (Some handover) seals
+
+    pub release_seals : (tenure : Tenure) → Seals count (release_taken master tenure).master
+    release_seals tenure = releasing_seals tenure.tablet (released (tablet_at master tenure.tablet).handover tenure.term)

@@ -1,0 +1,134 @@
+-- What targets have sealed is there where a target takes what it pulled, and also where it seals its side lists.
+use Rattle.std.proofs.Common.{◌<◌, ◌≤◌, ◌+◌, ◌&&◌, ℕ, Bool, true, false, cond, All, List, [], ◌∷◌, length, fold, Option, None, Some, sym}
+use Rattle.std.proofs.Common.{subst, arith, ◌%◌}
+use Rattle.rk_inv_base.proofs.Words.{All-weaker, range_with_len, Held, Token, Node, FIRST_SIDE_SEGMENT, found, is_newer, end, joined}
+use Rattle.rk_inv_base.proofs.Words.{Handover, got, is_batch, Got, Pull, Pulled, Want, items_of, Master, tablet_at, with_side_segment}
+use Rattle.rk_inv_base.proofs.Words.{batch_taken, got_taken, hashes_resolved, is_token, item_replayed, joining_at, joining_by, next_sides}
+use Rattle.rk_inv_base.proofs.Words.{pull_taken, pulled_all, pulled_taken, replay, replay_one, sealing, token_passed, want_taken}
+use Rattle.rk_inv_base.proofs.Words.{with_pulled, with_pulling, is_frozen_at, is_receiving_at, sealed_sides, Tablet, with_handover, changed}
+use Rattle.rk_priority.specs.Hashes.{no_hashes}
+use Rattle.rk_world.specs.Master.{with_item}
+use Rattle.rk_inv_wellformed.proofs.lanes.Ledgers.{kept_by_fold}
+use Rattle.rk_inv_wellformed.proofs.masters.Turns.{range_within}
+use Rattle.rk_inv_tablets.proofs.steady.Commits.{closing_entry_seals}
+use Rattle.rk_inv_tablets.proofs.steady.Sealed.{IsSealedUnder, Seals, SealsThere, either_seals, either_works, sealed_at, seals_there, seals_with_tablet, sides_added}
+
+module _ (count : ℕ) where
+  -- ---- a source
+
+  pub pull_seals : (master : Master) (sender : Node) (pull : Pull) → Seals count master → Seals count (pull_taken master sender pull).master
+  pull_seals master sender pull seals =
+      either_works count (is_frozen_at (tablet_at master pull.tenure.tablet) pull.tenure.term) _ (changed master) seals seals
+
+  pub want_seals : (master : Master) (sender : Node) (want : Want) → Seals count master → Seals count (want_taken master sender want).master
+  want_seals master sender want seals =
+      either_works count (is_frozen_at (tablet_at master want.tenure.tablet) want.tenure.term) _ (changed master) seals seals
+
+  -- ---- items
+
+  one_seals : (number worker : ℕ) (master : Master) (item : Held) → Seals count master → Seals count (replay_one number worker master item)
+  one_seals number worker master item seals =
+      either_seals count (is_newer item (found item.table item.key master.records)) (item_replayed number worker master item) master
+      (seals_with_tablet count (with_item master item) number
+      (with_pulling (tablet_at master number) (with_pulled (tablet_at master number).pulling worker item)) seals
+      (sealed_at count master number seals))
+      seals
+
+  replay_seals : (master : Master) (number worker : ℕ) (items : List Held) → Seals count master → Seals count (replay master number worker items)
+  replay_seals master number worker items seals =
+      kept_by_fold (Seals count) (replay_one number worker) (λ now item kept. one_seals number worker now item kept) items master seals
+
+  token_seals : (master : Master) (number : ℕ) (next : Token) → Seals count master → Seals count (token_passed master number next)
+  token_seals master number next seals =
+      let tablet = tablet_at master number in
+      seals_with_tablet count master number
+      (with_pulling tablet (record tablet.pulling { token = next; batches = tablet.pulling.batches + 1 })) seals
+      (sealed_at count master number seals)
+
+  resolved_seals : (master : Master) (number : ℕ) (hashes : List ℕ) → Seals count master → Seals count (hashes_resolved master number hashes)
+  resolved_seals master number hashes seals =
+      let tablet = tablet_at master number in
+      seals_with_tablet count master number
+      (with_pulling tablet (record tablet.pulling { hashes = got tablet.pulling.hashes hashes })) seals
+      (sealed_at count master number seals)
+
+  pub got_seals : (master : Master) (message : Got) → Seals count master → Seals count (got_taken master message).master
+  got_seals master message seals =
+      let tablet = tablet_at master message.tenure.tablet in
+      let now = replay master message.tenure.tablet 0 (items_of message.entries) in
+      either_works count
+      (is_receiving_at tablet message.tenure.term && is_batch tablet.pulling.hashes.outstanding message.hashes)
+      (changed (hashes_resolved now message.tenure.tablet message.hashes)) (changed master)
+      (resolved_seals now message.tenure.tablet message.hashes
+      (replay_seals master message.tenure.tablet 0 (items_of message.entries) seals))
+      seals
+
+  -- ---- side segments
+
+  -- the numbers of side segments that come next are below the count with them
+  next_under : (more : ℕ) → All (λ number. number < FIRST_SIDE_SEGMENT + (count + more)) (range_with_len (FIRST_SIDE_SEGMENT + count) more)
+  next_under more =
+      All-weaker (λ n. (FIRST_SIDE_SEGMENT + count ≤ n) × (n < FIRST_SIDE_SEGMENT + count + more))
+      (λ n. n < FIRST_SIDE_SEGMENT + (count + more)) (λ n within. omega (arith, within.1))
+      (range_with_len (FIRST_SIDE_SEGMENT + count) more) (range_within (FIRST_SIDE_SEGMENT + count) more)
+
+  sealing_seals : (master : Master) (number : ℕ) (tablet : Tablet) → Seals count master
+      → Seals (count + length (sealed_sides tablet.pulling.sides)) (sealing master number tablet)
+  sealing_seals master number tablet seals =
+      let sides = sealed_sides tablet.pulling.sides in
+      seals_with_tablet (count + length sides) (fold with_side_segment master sides) number
+      (with_pulling tablet (record tablet.pulling {
+        hashes = no_hashes;
+        sides = [] ∷ [] ∷ [] ∷ [] ∷ [];
+        sealed = next_sides master (length sides);
+      }))
+      (sides_added sides count master seals)
+      (subst (λ (n : ℕ). All (λ number. number < FIRST_SIDE_SEGMENT + (count + length sides)) (range_with_len (FIRST_SIDE_SEGMENT + n) (length sides)))
+      (sym seals.0) (next_under (length sides)))
+
+  module _ (master : Master) (number : ℕ) (tablet : Tablet) (seals : Seals count master) (sealed : IsSealedUnder count tablet) where
+    joining_at_seals : (handover : Option Handover) → Seals count (joining_at master number tablet handover)
+    joining_at_seals None = seals
+    joining_at_seals (Some handover) = seals_with_tablet count master number (with_handover tablet handover) seals sealed
+
+    pub joining_seals : (segments : List ℕ) → Seals count (joining_by master number tablet segments)
+    joining_seals [] =
+        closing_entry_seals count master number tablet seals sealed
+        (joined tablet.handover tablet.handover.term (Some (length master.log.entries)))
+    joining_seals (segment ∷ more) = joining_at_seals (joined tablet.handover tablet.handover.term None)
+
+-- ---- batches
+
+-- what is made where a test holds, and what where it does not
+either_there : (test : Bool) (one other : Master) → SealsThere one → SealsThere other → SealsThere (cond test one other)
+either_there true one other first second = first
+either_there false one other first second = second
+
+module _ (count : ℕ) (master : Master) (seals : Seals count master) where
+  all_there : (number : ℕ) → SealsThere (pulled_all master number)
+  all_there number =
+      let tablet = tablet_at master number in
+      let more = count + length (sealed_sides tablet.pulling.sides) in
+      let now = sealing master number tablet in
+      let now_seals : Seals more now = sealing_seals count master number tablet seals in
+      seals_there more (pulled_all master number)
+      (joining_seals more now number (tablet_at now number) now_seals (sealed_at more now number now_seals) (tablet_at now number).pulling.sealed)
+
+module _ (count : ℕ) (master : Master) (seals : Seals count master) where
+  batch_there : (number : ℕ) (pulled : Pulled) → SealsThere (batch_taken master number pulled)
+  batch_there number pulled =
+      let worker = (tablet_at master number).pulling.batches % 4 in
+      let replayed = replay master number worker (items_of pulled.entries) in
+      let now = token_passed replayed number pulled.next in
+      let now_seals : Seals count now =
+      token_seals count replayed number pulled.next (replay_seals count master number worker (items_of pulled.entries) seals) in
+      either_there (is_token pulled.next end) (pulled_all now number) now (all_there count now now_seals number)
+      (seals_there count now now_seals)
+
+  pub pulled_there : (pulled : Pulled) → SealsThere (pulled_taken master pulled).master
+  pulled_there pulled =
+      let tablet = tablet_at master pulled.tenure.tablet in
+      elim (is_receiving_at tablet pulled.tenure.term && is_token pulled.token tablet.pulling.token) as (λ b. SealsThere (cond b (changed (batch_taken master pulled.tenure.tablet pulled)) (changed master)).master) [
+        | true ↦ batch_there pulled.tenure.tablet pulled
+        | false ↦ seals_there count master seals
+      ]

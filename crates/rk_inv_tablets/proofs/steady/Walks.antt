@@ -1,0 +1,150 @@
+-- What each event and each client keeps of a lane's masters and backups, where each of the parts keeps it.
+use Rattle.std.proofs.Common.{◌+◌, ℕ, true, false, cond, Option, None, Some}
+use Rattle.rk_inv_base.proofs.Words.{NumberMap, get, insert, Call, Node, Range, Segments, row_of, Phase, Owned, Opening, Moving, Rebuilding}
+use Rattle.rk_inv_base.proofs.Words.{Row, Body, Message, Backed, Called, backup_step, stored_after, accept, accept_by, accepting, ask}
+use Rattle.rk_inv_base.proofs.Words.{ask_by, asking, asking_by, fits_with, is_asked_here, taking, untouched, ClientTurn, Session}
+use Rattle.rk_inv_base.proofs.Words.{session_turn, is_added, with_client, Master, master_step, master_turn, accept_refusal, ask_refusal}
+use Rattle.rk_inv_base.proofs.Words.{world_visited, owner_split, row_split, with_split, backed_at, client_added, delivered, delivered_to}
+use Rattle.rk_inv_base.proofs.Words.{happened, log_bytes_of, losing, quietly, seen_in, sent_again, to_backup, to_master, turned, with_added}
+use Rattle.rk_inv_base.proofs.Words.{with_sends, worked_at, World, has_crashed, is_backup, master_at, with_ledger, with_master}
+use Rattle.rk_inv_base.proofs.Words.{with_stored_by, StepError, Event}
+use Rattle.rk_types.specs.declared.node.Node.TheVariants as nodes
+use Rattle.rk_world.specs.declared.event.Event.TheVariants as events
+use Rattle.rk_world.specs.declared.event.Taken.TheVariants as takes
+
+-- something of a lane's masters and of how many backups there are and what they store
+abbrev pub Part : Type 1
+Part = NumberMap Master → ℕ → NumberMap Segments → Type 0
+
+-- a world has it
+abbrev pub Has : Part → World → Type 0
+Has P w = P w.masters w.backup_count w.backups
+
+-- each change of a master and of a backup keeps it
+pub record IsKept (P : Part) (w : World) : Type 0 where
+  pub now : Has P w
+  pub steps : (master : ℕ) (message : Message) → Has P (with_master w master (master_step (master_at w master) message).master)
+  pub turns : (master : ℕ) → Has P (with_master w master (master_turn (master_at w master)).master)
+  pub adds : (master tablet : ℕ) (range : Range) → Has P (with_master w master (with_added (master_at w master) tablet range))
+  pub splits : (master tablet at new term : ℕ) → Has P (with_master w master (with_split (master_at w master) tablet at new term))
+  pub stores : (backup : ℕ) (segments : Segments) → P w.masters w.backup_count (insert w.backups backup segments)
+
+-- ---- events
+
+module _ (P : Part) (w : World) (kept : IsKept P w) where
+  to_master_keeps : (master : ℕ) (message : Message) → Has P (to_master w master message).world
+  to_master_keeps master message =
+      elim (has_crashed w master) as (λ b. Has P (cond b (losing w) (worked_at w master (seen_in message.body) (master_step (master_at w master) message))).world) [
+        | true ↦ kept.now
+        | false ↦ kept.steps master message
+      ]
+
+  backed_keeps : (v : World) (answer : Backed) → Has P v → Has P (backed_at v answer).world
+  backed_keeps v answer has =
+      elim (answer.lost) as (λ b. Has P (cond b (losing v) (with_sends v answer.sends)).world) [ true ↦ has | false ↦ has ]
+
+  stored_keeps : (backup : ℕ) (store : Segments → Segments) (found : Option Segments) → Has P (with_stored_by w backup store found)
+  stored_keeps backup store None = kept.now
+  stored_keeps backup store (Some segments) = kept.stores backup (store segments)
+
+  to_backup_keeps : (backup : ℕ) (sender : Node) (body : Body) (called : Called) → Has P (to_backup w backup sender body called).world
+  to_backup_keeps backup sender body called =
+      let after = with_stored_by w backup (λ (s : Segments). stored_after s sender body called) (get w.backups backup) in
+      let answer = backup_step backup sender body (log_bytes_of w) called in
+      elim (is_backup w backup) as (λ b. Has P (cond b (backed_at after answer) (quietly w)).world) [
+        | true ↦ backed_keeps after answer (stored_keeps backup (λ (s : Segments). stored_after s sender body called) (get w.backups backup))
+        | false ↦ kept.now
+      ]
+
+  delivered_keeps : (found : Option Message) (called : Called) → Has P (delivered w found called).world
+  delivered_keeps None called = kept.now
+  delivered_keeps (Some message) called = go message.to
+    where
+      go : (to : Node) → Has P (delivered_to w message to called).world
+      go (nodes.Client client) = kept.now
+      go nodes.Coordinator = kept.now
+      go (nodes.Master master) = to_master_keeps master message
+      go (nodes.Backup backup) = to_backup_keeps backup message.from message.body called
+
+  turned_keeps : (node : Node) → Has P (turned w node).world
+  turned_keeps (nodes.Client client) = kept.now
+  turned_keeps nodes.Coordinator = kept.now
+  turned_keeps (nodes.Master master) = kept.turns master
+  turned_keeps (nodes.Backup backup) = kept.now
+
+  sent_keeps : (found : Option Message) → Has P (sent_again w found).world
+  sent_keeps None = kept.now
+  sent_keeps (Some message) = kept.now
+
+  client_keeps : (client : ℕ) → Has P (client_added w client)
+  client_keeps client =
+      elim (is_added w.ledger client) as (λ b. Has P (cond b w (with_ledger w (with_client w.ledger client)))) [
+        | true ↦ kept.now
+        | false ↦ kept.now
+      ]
+
+  owner_keeps : (tablet at new term : ℕ) (phase : Phase) → Has P (owner_split w tablet phase at new term)
+  owner_keeps tablet at new term (Owned master from) =
+      elim (has_crashed w master) as (λ b. Has P (cond b w (with_master w master (with_split (master_at w master) tablet at new term)))) [
+        | true ↦ kept.now
+        | false ↦ kept.splits master tablet at new term
+      ]
+  owner_keeps tablet at new term (Opening source sfrom target place) = kept.now
+  owner_keeps tablet at new term (Moving source sfrom target dfrom) = kept.now
+  owner_keeps tablet at new term (Rebuilding lineage to) = kept.now
+
+  split_keeps : (found : Option Row) (at new : ℕ) → Has P (row_split w found at new)
+  split_keeps None at new = kept.now
+  split_keeps (Some row) at new = owner_keeps row.tablet at new (row.term + 1) row.phase
+
+  -- each event keeps it
+  pub event_keeps : (event : Event) (called : Called) → Has P (happened w event called).world
+  event_keeps (events.AddTablet tablet range master) called = kept.adds master tablet range
+  event_keeps (events.AddClient client) called = client_keeps client
+  event_keeps (events.Deliver number) called = delivered_keeps (get w.wire.messages number) called
+  event_keeps (events.Forget number) called = kept.now
+  event_keeps (events.Turn node) called = turned_keeps node
+  event_keeps (events.Again client) called = sent_keeps (get w.ledger.requests client)
+  event_keeps (events.Migrate tablet to) called = kept.now
+  event_keeps (events.Split tablet at new) called = split_keeps (row_of w.coordinator.rows tablet) at new
+  event_keeps (events.Crash master) called = kept.now
+  event_keeps (events.Notice master) called = kept.now
+
+-- ---- clients
+
+module _ (P : Part) (w : World) (now : Has P w) where
+  asking_by_keeps : (session : Session) (call : Call) (turned : Option ClientTurn) → Has P (asking_by w session call turned).world
+  asking_by_keeps session call None = now
+  asking_by_keeps session call (Some turned) = now
+
+  asking_keeps : (session : Session) (call : Option Call) → Has P (asking w session call).world
+  asking_keeps session None = now
+  asking_keeps session (Some call) =
+      elim (fits_with w session call) as (λ b. Has P (cond b (asking_by w session call (session_turn session)) (untouched w session None)).world) [
+        | true ↦ asking_by_keeps session call (session_turn session)
+        | false ↦ now
+      ]
+
+  -- a client's turn keeps it
+  pub ask_keeps : (session : Session) → Has P (world_visited w (ask w session))
+  ask_keeps session = go (ask_refusal w session)
+    where
+      go : (refused : Option StepError) → Has P (world_visited w (ask_by w session refused))
+      go None = asking_keeps session session.outstanding
+      go (Some error) = now
+
+  accepting_keeps : (session : Session) (found : Option Message) → Has P (accepting w session found).world
+  accepting_keeps session None = now
+  accepting_keeps session (Some message) =
+      elim (is_asked_here w session) as (λ b. Has P (cond b (taking w session message.body) (untouched w session (Some takes.Ignored))).world) [
+        | true ↦ now
+        | false ↦ now
+      ]
+
+  -- and so does an answer
+  pub accept_keeps : (number : ℕ) (session : Session) → Has P (world_visited w (accept w number session))
+  accept_keeps number session = go (accept_refusal w number session.client (get w.wire.messages number))
+    where
+      go : (refused : Option StepError) → Has P (world_visited w (accept_by w number session refused))
+      go None = accepting_keeps session (get w.wire.messages number)
+      go (Some error) = now

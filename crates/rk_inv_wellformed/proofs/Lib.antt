@@ -1,0 +1,7 @@
+pub mod Words
+pub mod maps
+pub mod masters
+pub mod bytes
+pub mod room
+pub mod lanes
+pub mod coordinator

@@ -1,0 +1,12 @@
+pub mod Sizes
+pub mod Segments
+pub mod Bytes
+pub mod EntryBytes
+pub mod LogBytes
+pub mod TurnBytes
+pub mod PullBytes
+pub mod CopyBytes
+pub mod RebuildBytes
+pub mod StepBytes
+pub mod ByteEvents
+pub mod Spelled

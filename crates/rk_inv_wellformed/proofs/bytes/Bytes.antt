@@ -1,0 +1,234 @@
+-- What is spelled of lawful entries are bytes, and the entries that are read of a first part of a spelling are among those spelled.
+use Rattle.std.proofs.Common.{◌≡◌, ◌≤◌, ◌<◌, ◌+◌, ◌/◌, ◌||◌, ◌^◌, ℕ, zero, suc, Bool, false, true, cond, List, [], ◌∷◌, ◌++◌, All, length}
+use Rattle.std.proofs.Common.{Option, None, Some, IfSome, Result, Ok, Err, refl, ap, subst, sym, ◌∙◌, ⊎_elim, append_assoc, arith, lit<}
+use Rattle.std.proofs.Common.{mod-lt, w8, w16, w32, w64, position, option_map, nat_lt, not}
+use Rattle.std.specs.Int.{Width, byte_len, byte_at, bytes_high_first}
+use Rattle.std.specs.List.{position_or_len}
+use Rattle.std.proofs.lemmas.List.{get_or_past}
+use Rattle.std.proofs.lemmas.List.Elements.{All-get_or}
+use Rattle.rk_inv_wellformed.proofs.Words.{cases_lt, cond-true, cond_both, nat_tests, All-append, All-cons, All-head, All-nil, All-tail}
+use Rattle.rk_inv_wellformed.proofs.Words.{All-weaker, value_fault, Ended, Range, LONGEST_KEY, LONGEST_VALUE, kind_of, IsLawfulEntry, Entry}
+use Rattle.rk_types.specs.Text.{bad_byte, key_fault, text_fault}
+use Rattle.rk_types.specs.declared.call.End.{End}
+use Rattle.rk_types.specs.declared.call.End.TheVariants as ends
+use Rattle.rk_types.specs.declared.text.TextError.TheVariants.{Byte, Length}
+use Rattle.rk_types.specs.declared.text.TheConstants.{FIRST_TEXT_BYTE, LAST_TEXT_BYTE}
+use Rattle.rk_entry.proofs.EntryLaws.{entry_takes, one_spelled}
+use Rattle.rk_entry.proofs.StandLaws.{entries_of-cons, entries_of-none}
+use Rattle.rk_entry.proofs.Tools.{IsBytes}
+use Rattle.rk_entry.specs.Ends.{end_bytes, outcome_bytes, range_bytes}
+use Rattle.rk_entry.specs.Entries.{entries_of, entries_within, spelled_all}
+use Rattle.rk_entry.specs.Lists.{ends_bytes, segments_bytes}
+use Rattle.rk_entry.specs.Kinds.{is_marked}
+use Rattle.rk_entry.specs.declared.head.Head.{Head}
+use Rattle.rk_entry.specs.Numbers.{number_bytes}
+use Rattle.rk_entry.specs.Reading.{read_entry}
+use Rattle.rk_entry.specs.Spelling.{carried_bytes, fields_bytes, front_bytes, head_bytes, held_bytes, item_value_bytes, joined_bytes}
+use Rattle.rk_entry.specs.Spelling.{mark_bytes, mark_of, refused_bytes, spelled}
+use Rattle.rk_entry.specs.Texts.{key_bytes, value_bytes}
+use Rattle.rk_entry.specs.declared.entry.Entry.TheVariants as entries
+use Rattle.rk_entry.specs.declared.error.DecodeError.{DecodeError}
+use Rattle.rk_inv_wellformed.proofs.maps.Lists.{all_flat, all_front}
+
+-- each of these is a byte
+abbrev AreBytes : List ℕ → Type 0
+AreBytes list = All (λ byte. byte < 256) list
+
+both_bytes : (front back : List ℕ) → AreBytes front → AreBytes back → AreBytes (front ++ back)
+both_bytes front back a b = All-append (λ byte. byte < 256) front back a b
+
+-- ---- numbers and texts
+
+byte_is : (place n : ℕ) → byte_at place n < 256
+byte_is zero n = mod-lt n (lit< tt)
+byte_is (suc place) n = mod-lt (n / 256 ^ suc place) (lit< tt)
+
+digits_bytes : (count n : ℕ) → AreBytes (bytes_high_first count n)
+digits_bytes zero n = All-nil _
+digits_bytes (suc count) n =
+    All-cons (λ byte. byte < 256) (byte_at count n) (bytes_high_first count n) (byte_is count n) (digits_bytes count n)
+
+number_are : (w : Width) (n : ℕ) → AreBytes (number_bytes w n)
+unfolding number_bytes
+number_are w n = digits_bytes (byte_len w) n
+
+below_test : (a b : ℕ) → a < b → nat_lt a b ≡ true
+below_test a b below = grind (arith, nat_tests)
+
+-- where no place is found none passes
+none_passes : (p : ℕ → Bool) (xs : List ℕ) → (position_or_len p xs < length xs → ⊥) → All (λ x. p x ≡ false) xs
+none_passes p [] none = All-nil _
+none_passes p (x ∷ xs) none =
+    elim (p x) as (λ b. p x ≡ b → (cond (not b) (1 + position_or_len p xs) 0 < length (x ∷ xs) → ⊥) → All (λ x. p x ≡ false) (x ∷ xs)) [
+      | true ↦ λ is beyond. absurd (beyond (omega arith))
+      | false ↦ λ is beyond. All-cons (λ x. p x ≡ false) x xs is (none_passes p xs (λ below. beyond (omega arith)))
+    ] refl none
+
+none_found : (p : ℕ → Bool) (xs : List ℕ) → position p xs ≡ None → All (λ x. p x ≡ false) xs
+none_found p xs none =
+    none_passes p xs
+    (λ below.
+    let found : position p xs ≡ Some (position_or_len p xs) = cond-true _ _ _ (below_test (position_or_len p xs) (length xs) below) in
+    absurd (cc (sym found ∙ none)))
+
+-- a byte of a text
+text_byte : (byte : ℕ) → (nat_lt byte FIRST_TEXT_BYTE || nat_lt LAST_TEXT_BYTE byte) ≡ false → byte < 256
+text_byte byte is = grind (arith, nat_tests)
+
+-- where no byte is bad all are bytes
+none_bad : (bytes : List ℕ) → bad_byte bytes ≡ None → AreBytes bytes
+none_bad bytes none =
+    All-weaker (λ byte. (nat_lt byte FIRST_TEXT_BYTE || nat_lt LAST_TEXT_BYTE byte) ≡ false) (λ byte. byte < 256) text_byte bytes
+    (none_found (λ byte. nat_lt byte FIRST_TEXT_BYTE || nat_lt LAST_TEXT_BYTE byte) bytes none)
+
+text_bytes : (shortest longest : ℕ) (bytes : List ℕ) → text_fault shortest longest bytes ≡ None → AreBytes bytes
+text_bytes shortest longest bytes none =
+    go (nat_lt (length bytes) shortest || nat_lt longest (length bytes)) none
+  where
+    inner : (bad : Option ℕ) → option_map Byte bad ≡ None → bad ≡ None
+    inner None is = refl
+    inner (Some place) is = absurd (cc is)
+
+    go : (long : Bool) → cond long (Some (Length (length bytes))) (option_map Byte (bad_byte bytes)) ≡ None → AreBytes bytes
+    go true is = absurd (cc is)
+    go false is = none_bad bytes (inner (bad_byte bytes) is)
+
+-- ---- entries
+
+op_end : (end : End) → AreBytes (outcome_bytes end)
+unfolding outcome_bytes
+op_end (ends.Written version) = both_bytes _ _ (number_are w8 _) (number_are w64 version)
+op_end (ends.Deleted version) = both_bytes _ _ (number_are w8 _) (number_are w64 version)
+op_end ends.Absent = both_bytes _ _ (number_are w8 _) (number_are w64 0)
+op_end (ends.Mismatch version) = both_bytes _ _ (number_are w8 _) (number_are w64 version)
+
+end_are : (end : Ended) → AreBytes (end_bytes end)
+unfolding end_bytes
+end_are end = both_bytes _ _ (number_are w32 end.client) (both_bytes _ _ (number_are w64 end.seq) (op_end end.end))
+
+each_end : (list : List Ended) → All (λ end. AreBytes (end_bytes end)) list
+each_end [] = All-nil _
+each_end (end ∷ list) = All-cons (λ end. AreBytes (end_bytes end)) end list (end_are end) (each_end list)
+
+each_number : (list : List ℕ) → All (λ n. AreBytes (number_bytes w32 n)) list
+each_number [] = All-nil _
+each_number (n ∷ list) = All-cons (λ n. AreBytes (number_bytes w32 n)) n list (number_are w32 n) (each_number list)
+
+ends_are : (list : List Ended) → AreBytes (ends_bytes list)
+unfolding ends_bytes
+ends_are list = all_flat (λ byte. byte < 256) end_bytes list (each_end list)
+
+segments_are : (list : List ℕ) → AreBytes (segments_bytes list)
+unfolding segments_bytes
+segments_are list = all_flat (λ byte. byte < 256) (number_bytes w32) list (each_number list)
+
+range_are : (range : Range) → AreBytes (range_bytes range)
+unfolding range_bytes
+range_are range =
+    both_bytes _ _ (number_are w64 range.table) (both_bytes _ _ (number_are w64 range.first) (number_are w64 range.last))
+
+head_are : (head : Head) → AreBytes (head_bytes head)
+unfolding head_bytes
+head_are head =
+    both_bytes _ _ (number_are w64 head.table)
+    (both_bytes _ _ (number_are w64 head.version) (both_bytes _ _ (number_are w32 head.client) (number_are w64 head.seq)))
+
+key_are : (key : List ℕ) → key_fault key ≡ None → AreBytes (key_bytes key)
+unfolding key_bytes
+key_are key none = both_bytes _ _ (number_are w8 (length key)) (text_bytes 1 LONGEST_KEY key none)
+
+value_are : (value : Option (List ℕ)) → IfSome value (λ v. value_fault v ≡ None) → AreBytes (item_value_bytes value)
+unfolding value_bytes
+value_are None none = All-nil _
+value_are (Some value) none = both_bytes _ _ (number_are w32 (length value)) (text_bytes 0 LONGEST_VALUE value none)
+
+fields_are : (entry : Entry) → IsLawfulEntry entry → AreBytes (fields_bytes entry)
+unfolding held_bytes refused_bytes carried_bytes joined_bytes
+fields_are (entries.Held held) lawful =
+    both_bytes _ _ (head_are _) (both_bytes _ _ (key_are held.key lawful.key) (value_are held.value lawful.value))
+fields_are (entries.Refused refused) lawful =
+    both_bytes _ _ (head_are _) (both_bytes _ _ (number_are w8 _) (key_are refused.key lawful.key))
+fields_are (entries.Carried carried) lawful =
+    both_bytes _ _ (range_are carried.range)
+    (both_bytes _ _ (number_are w64 carried.term)
+    (both_bytes _ _ (number_are w64 carried.floor) (both_bytes _ _ (number_are w16 _) (ends_are carried.ends))))
+fields_are (entries.Joined joined) lawful =
+    both_bytes _ _ (range_are joined.range)
+    (both_bytes _ _ (number_are w64 joined.term) (both_bytes _ _ (number_are w32 _) (segments_are joined.segments)))
+
+mark_are : (entry : Entry) → AreBytes (mark_bytes (kind_of entry) (front_bytes entry))
+mark_are entry =
+    cond_both (is_marked (kind_of entry)) (number_bytes w8 (mark_of (front_bytes entry))) [] AreBytes
+    (λ marked. number_are w8 _) (λ bare. All-nil _)
+
+-- what is spelled of a lawful entry are bytes
+pub spelled_are : (entry : Entry) → IsLawfulEntry entry → AreBytes (spelled entry)
+unfolding spelled front_bytes
+spelled_are entry lawful =
+    both_bytes _ _
+    (both_bytes _ _ (number_are w8 _) (both_bytes _ _ (number_are w32 _) (fields_are entry lawful))) (mark_are entry)
+
+all_spelled_are : (list : List Entry) → All IsLawfulEntry list → AreBytes (spelled_all list)
+unfolding spelled_all
+all_spelled_are list lawful =
+    all_flat (λ byte. byte < 256) spelled list
+    (All-weaker IsLawfulEntry (λ entry. AreBytes (spelled entry)) (λ entry it. spelled_are entry it) list lawful)
+
+-- ---- what is read of a first part
+
+below_length : (list : List ℕ) → AreBytes list → IsBytes list
+below_length list all place =
+    ⊎_elim
+    (λ (within : place < length list). All-get_or (λ byte. byte < 256) list place 0 within all)
+    (λ (past : length list ≤ place). subst (λ (n : ℕ). n < 256) (sym (get_or_past list place 0 past)) (lit< tt))
+    (cases_lt place (length list))
+
+spelled_cons : (entry : Entry) (list : List Entry) → spelled_all (entry ∷ list) ≡ spelled entry ++ spelled_all list
+unfolding spelled_all
+spelled_cons entry list = refl
+
+spelled_nil : spelled_all [] ≡ []
+unfolding spelled_all
+spelled_nil = refl
+
+-- an entry that is read stands at the front
+record IsRead (front : List ℕ) (entry : Entry) (after : List ℕ) : Type 0 where
+  stands : front ≡ spelled entry ++ after
+  lawful : IsLawfulEntry entry
+
+what_is_read : (front : List ℕ) (entry : Entry) (after : List ℕ) → AreBytes front → read_entry front ≡ Ok (entry, after) → IsRead front entry after
+what_is_read front entry after bytes read =
+    let takes = entry_takes front (entry, after) read in
+    let spelt = takes.spelled (below_length front bytes) in
+    record { stands = takes.split ∙ ap (λ (l : List ℕ). l ++ after) spelt.0; lawful = spelt.2 }
+
+-- nothing is read of no bytes
+pub entries_nil : entries_of [] ≡ []
+unfolding entries_of entries_within
+entries_nil = refl
+
+none_read : (P : Entry → Type 0) (front rest : List ℕ) → [] ≡ front ++ rest → All P (entries_of front)
+none_read P [] rest is = subst (All P) (sym entries_nil) (All-nil P)
+none_read P (byte ∷ front) rest is = absurd (cc is)
+
+-- what is read of a first part of a spelling has what each spelled entry has
+pub read_front : (P : Entry → Type 0) (list : List Entry) (front rest : List ℕ) → All IsLawfulEntry list → All P list → spelled_all list ≡ front ++ rest → All P (entries_of front)
+read_front P [] front rest lawful all is = none_read P front rest (sym spelled_nil ∙ is)
+read_front P (first ∷ list) front rest lawful all is =
+    go (read_entry front) refl
+    (λ after same. read_front P list after rest (All-tail IsLawfulEntry first list lawful) (All-tail P first list all) same)
+  where
+    bytes : AreBytes front
+    bytes =
+        all_front (λ byte. byte < 256) front rest
+        (subst AreBytes is (all_spelled_are (first ∷ list) lawful))
+
+    go : (read : Result (Entry × List ℕ) DecodeError) → read_entry front ≡ read → ((after : List ℕ) → spelled_all list ≡ after ++ rest → All P (entries_of after)) → All P (entries_of front)
+    go (Err fault) read later = subst (All P) (sym (entries_of-none front fault read)) (All-nil P)
+    go (Ok (entry, after)) read later =
+        let stands = what_is_read front entry after bytes read in
+        let whole : spelled first ++ spelled_all list ≡ spelled entry ++ (after ++ rest) =
+        sym (spelled_cons first list) ∙ is ∙ ap (λ (l : List ℕ). l ++ rest) stands.stands ∙ append_assoc (spelled entry) after rest in
+        let same = one_spelled first entry (spelled_all list) (after ++ rest) (All-head IsLawfulEntry first list lawful) stands.lawful whole in
+        subst (All P) (sym (entries_of-cons front entry after read))
+        (All-cons P entry (entries_of after) (subst P same.0 (All-head P first list all)) (later after same.1))

@@ -1,0 +1,44 @@
+-- How great a log is: it has no more entries than bytes.
+use Rattle.std.proofs.Common.{◌≡◌, ◌≤◌, ◌<◌, ◌^◌, ℕ, List, [], ◌∷◌, ◌++◌, length, refl, ap, sym, ◌∙◌, arith, w64, flat_map, sum_by}
+use Rattle.std.specs.List.{concat}
+use Rattle.std.proofs.lemmas.List.Concat.{length-flat_map}
+use Rattle.rk_inv_wellformed.proofs.Words.{sum_by-cons, IsNumber, spelled, Entry, cut, Limits, Master, log_bytes}
+use Rattle.rk_entry.specs.Entries.{spelled_all}
+use Rattle.rk_log.proofs.CutLaws.{cut_whole}
+use Rattle.rk_log.proofs.Cuts.{spelled_some}
+use Rattle.rk_inv_wellformed.proofs.masters.Work.{HasRoomFor}
+
+-- lists one after the other
+joined : (segments : List (List ℕ)) → concat segments ≡ flat_map (λ (s : List ℕ). s) segments
+joined [] = refl
+joined (segment ∷ segments) = ap (λ (rest : List ℕ). segment ++ rest) (joined segments)
+
+-- the bytes of the main segments are those of the entries
+pub bytes_spelled : (entries : List Entry) → sum_by (λ (b : List ℕ). length b) (cut entries) ≡ sum_by (λ (e : Entry). length (spelled e)) entries
+unfolding spelled_all
+bytes_spelled entries =
+    sym (length-flat_map (λ (b : List ℕ). b) (cut entries))
+    ∙ ap (λ (b : List ℕ). length b) (sym (joined (cut entries)) ∙ cut_whole entries)
+    ∙ length-flat_map spelled entries
+
+-- each entry has a byte
+count_spelled : (entries : List Entry) → length entries ≤ sum_by (λ (e : Entry). length (spelled e)) entries
+count_spelled [] = omega arith
+count_spelled (entry ∷ entries) =
+    omega (arith, count_spelled entries, spelled_some entry, sum_by-cons (λ (e : Entry). length (spelled e)) entry entries)
+
+-- a master has no more entries than bytes
+pub entries_few : (master : Master) → length master.log.entries ≤ log_bytes master
+entries_few master = omega (arith, count_spelled master.log.entries, bytes_spelled master.log.entries)
+
+-- the side segments of a master have no more bytes than all
+pub side_bytes : (master : Master) → sum_by (λ (b : List ℕ). length b) master.log.sides ≤ log_bytes master
+side_bytes master = omega arith
+
+-- fewer than this can be spelled
+pub below_fits : (count bytes : ℕ) → count ≤ bytes → bytes < 2 ^ 30 → IsNumber w64 0 count
+below_fits count bytes few room = record { least_is = omega arith; fits = omega arith }
+
+-- so each place of its log can be spelled
+pub place_fits : (limits : Limits) (master : Master) → HasRoomFor limits master → IsNumber w64 0 (length master.log.entries)
+place_fits limits master room = below_fits (length master.log.entries) (log_bytes master) (entries_few master) room.bytes

@@ -1,0 +1,4 @@
+pub mod Rows
+pub mod Coordinators
+pub mod SplitLaws
+pub mod NoticeLaws

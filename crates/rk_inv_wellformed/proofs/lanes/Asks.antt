@@ -1,0 +1,294 @@
+-- A lane stays well formed when a client asks there and when it takes an answer, and the client's session may act then.
+use Rattle.std.proofs.Common.{◌≡◌, ◌≤◌, ◌++◌, ℕ, Bool, true, false, ◌||◌, ◌&&◌, cond, [], ◌∷◌, All, Option, None, Some, is_some, refl, sym}
+use Rattle.std.proofs.Common.{ap, subst, ◌∙◌, ⊎_elim, slice_get, IfSome, Ok, not, unwrap_or, ◌==◌, option_map, eqb-true}
+use Rattle.rk_inv_wellformed.proofs.Words.{and_parts, cases_eq, All-cons, All-nil, option_or, get_other, get_same, get, Call, Body, Message}
+use Rattle.rk_inv_wellformed.proofs.Words.{Visited, accept, ask, ClientTurn, Session, session_accept, IsFormedLedger, IsWellFormed, Ledger}
+use Rattle.rk_inv_wellformed.proofs.Words.{asked_by, is_added, seen_of, IsFormedMessage, Limits, limits_of, IsLawfulCall, MayAct}
+use Rattle.rk_inv_wellformed.proofs.Words.{where_true, worn, HasRoom, with_sends, World, with_all_sent, with_ledger, StepError, LastCall}
+use Rattle.rk_message.specs.declared.message.Body.TheVariants as bodies
+use Rattle.rk_world.specs.declared.error.StepError.TheVariants as errors
+use Rattle.rk_world.specs.declared.event.Taken.{Taken}
+use Rattle.rk_world.specs.declared.event.Taken.TheVariants as takes
+use Rattle.rk_world.specs.Calls.{accept_by, accepting, ask_by, asking, asking_by, fits_with, is_asked, is_asked_here, is_call, is_last}
+use Rattle.rk_world.specs.Calls.{is_next, ledger_asked, ledger_requested, ledger_taken, taking, untouched}
+use Rattle.rk_world.specs.Client.{call_lane, range_of, session_turn, turn_by, turn_of}
+use Rattle.rk_world.specs.Formed.{IsFormedLast}
+use Rattle.rk_world.specs.Journal.{is_accepted}
+use Rattle.rk_world.specs.Ledger.{with_accepted, with_asked}
+use Rattle.rk_world.specs.Premises.{IsAfterStart}
+use Rattle.rk_world.specs.Refusals.{accept_refusal, ask_refusal, worn_session}
+use Rattle.rk_inv_wellformed.proofs.maps.Bounds.{all_in_map}
+use Rattle.rk_inv_wellformed.proofs.lanes.Events.{does_not_hold, no_second}
+use Rattle.rk_inv_wellformed.proofs.lanes.Ledgers.{formed_accepted, formed_asked, formed_requested, last_stamp_accepted}
+use Rattle.rk_inv_wellformed.proofs.lanes.Sessions.{MayActWithin, acts_accepted, cached_of, formed_turn}
+use Rattle.rk_inv_wellformed.proofs.lanes.Works.{top_rises}
+use Rattle.rk_inv_wellformed.proofs.lanes.Worlds.{HasClientsOf, IsFormedWorld, added_is_client, formed_topped, formed_within, kept_with_all_sent, kept_with_ledger, more_limits, counters_in, seen_within, stamps_seen, terms_in, top_is_limit}
+
+-- what becomes of a lane and a session is well formed
+pub record IsFormedVisit (w : World) (visited : Visited) : Type 0 where
+  pub world : IsWellFormed visited.world
+  pub session : MayAct w.coordinator.masters visited.session
+
+-- ---- the ledger once a call was asked
+
+-- what a lane keeps of a call that a session asks
+abbrev pub now_asked : Session → Call → LastCall
+now_asked session call = record { call = call; seen = session.seen }
+
+-- the ledger stays where the call was asked, and else has it as its client's last
+pub asked_is : (P : Ledger → Type 0) (ledger : Ledger) (session : Session) (call : Call) → (is_asked ledger session call ≡ true → P ledger) → (is_asked ledger session call ≡ false → P (with_asked ledger session.client (now_asked session call))) → P (ledger_asked ledger session call)
+asked_is P ledger session call before now = go (is_asked ledger session call) refl
+  where
+    go : (b : Bool) → is_asked ledger session call ≡ b → P (cond b ledger (with_asked ledger session.client (now_asked session call)))
+    go true is = before is
+    go false is = now is
+
+-- the last call of a client, with what it had seen
+record HasSeen (ledger : Ledger) (client seen : ℕ) : Type 0 where
+  last : LastCall
+  found : get ledger.clients client ≡ Some (Some last)
+  seen_is : last.seen ≡ seen
+
+-- a client with a last call stands in the map
+found_asked : (clients : Option (Option LastCall)) (last : LastCall) → unwrap_or clients None ≡ Some last → clients ≡ Some (Some last)
+found_asked None last is = absurd (cc is)
+found_asked (Some asked) last is = ap Some is
+
+-- a call that was asked was asked with what its client had seen
+seen_where_asked : (ledger : Ledger) (session : Session) (call : Call) → is_asked ledger session call ≡ true → HasSeen ledger session.client session.seen
+seen_where_asked ledger session call asked =
+    go (asked_by ledger session.client) refl
+    (and_parts (is_last call session.seen (asked_by ledger session.client)) (not (is_accepted ledger.journal session.client call.seq)) asked).0
+  where
+    go : (last : Option LastCall) → asked_by ledger session.client ≡ last → is_last call session.seen last ≡ true → HasSeen ledger session.client session.seen
+    go None is it = absurd (cc it)
+    go (Some last) is it = record {
+      last = last;
+      found = found_asked (get ledger.clients session.client) last is;
+      seen_is = eqb-true last.seen session.seen (and_parts (is_call last.call call) (last.seen == session.seen) it).1;
+    }
+
+-- so it is once the call was asked
+seen_asked : (ledger : Ledger) (session : Session) (call : Call) → HasSeen (ledger_asked ledger session call) session.client session.seen
+seen_asked ledger session call =
+    asked_is (λ now. HasSeen now session.client session.seen) ledger session call
+    (λ asked. seen_where_asked ledger session call asked)
+    (λ new. record {
+      last = now_asked session call;
+      found = get_same ledger.clients session.client (Some (now_asked session call)) session.client refl;
+      seen_is = refl;
+    })
+
+-- who was added is added once the call was asked
+added_asked : (ledger : Ledger) (session : Session) (call : Call) → HasClientsOf (ledger_asked ledger session call) ledger
+added_asked ledger session call client added =
+    asked_is (λ now. is_added now client ≡ true) ledger session call
+    (λ asked. added)
+    (λ new. ⊎_elim
+    (λ (is : client ≡ session.client). ap is_some (get_same ledger.clients session.client (Some (now_asked session call)) client is))
+    (λ (apart : client ≡ session.client → ⊥).
+    ap is_some (get_other ledger.clients session.client (Some (now_asked session call)) client apart) ∙ added)
+    (cases_eq client session.client))
+
+-- the clients stay when a request is saved
+pub clients_requested : (ledger : Ledger) (client : ℕ) (message : Message) (body : Body) → (ledger_requested ledger client message body).clients ≡ ledger.clients
+clients_requested ledger client message (bodies.Request request) = refl
+clients_requested ledger client message body = refl
+
+-- the ledger stays well formed when a message is saved
+requested_is_formed : (limits : Limits) (w : World) (ledger : Ledger) (client : ℕ) (message : Message) (body : Body) → IsFormedMessage limits message → IsFormedLedger limits w.base w.lane ledger → IsFormedLedger limits w.base w.lane (ledger_requested ledger client message body)
+requested_is_formed limits w ledger client message (bodies.Request request) new formed =
+    formed_requested limits w.base w.lane ledger client message new formed
+requested_is_formed limits w ledger client message body new formed = formed
+
+-- ---- a client asks
+
+-- a new call of a session may be a lane's last of its client
+abbrev pub MayBeLast : World → Session → Call → Type 0
+MayBeLast w session call =
+    is_asked w.ledger session call ≡ false → IsFormedLast w.base w.lane session.client (now_asked session call)
+
+module _ (w : World) (session : Session) (call : Call) (turned : ClientTurn) where
+  abbrev pub asked_ledger : Ledger
+  asked_ledger =
+      ledger_requested (ledger_asked w.ledger session call) session.client turned.message turned.message.body
+
+  abbrev pub after_asking : World
+  after_asking = (with_sends (with_ledger w asked_ledger) (turned.message ∷ [])).world
+
+  asked_has : HasClientsOf asked_ledger w.ledger
+  asked_has client added =
+      subst (λ clients. is_some (get clients client) ≡ true)
+      (sym (clients_requested (ledger_asked w.ledger session call) session.client turned.message turned.message.body))
+      (added_asked w.ledger session call client added)
+
+  -- within the limits after it the session may act
+  acts_within : is_added w.ledger session.client ≡ true → MayAct w.coordinator.masters session → HasRoom after_asking → MayActWithin (limits_of after_asking) session
+  acts_within added may room = record {
+    may = may;
+    client = added_is_client after_asking after_asking.top session.client (asked_has session.client added);
+    seen =
+        let asked = seen_asked w.ledger session call in
+        subst (λ (n : ℕ). n ≤ after_asking.top) asked.seen_is
+        (all_in_map (λ (last : Option LastCall). seen_of last ≤ after_asking.top) asked_ledger.clients session.client (Some asked.last)
+        (ap (λ clients. get clients session.client)
+        (clients_requested (ledger_asked w.ledger session call) session.client turned.message turned.message.body)
+        ∙ asked.found)
+        (seen_within after_asking after_asking.top (top_is_limit (with_all_sent (with_ledger w asked_ledger) (turned.message ∷ [])))));
+    top = room.number;
+  }
+
+  -- the world after it is well formed
+  formed_after_asking : IsFormedMessage (limits_of after_asking) turned.message → is_added w.ledger session.client ≡ true → MayAct w.coordinator.masters session → MayBeLast w session call → IsWellFormed w → IsWellFormed after_asking
+  formed_after_asking message added may last formed =
+      formed_topped (with_all_sent (with_ledger w asked_ledger) (turned.message ∷ []))
+      (kept_with_all_sent limits (with_ledger w asked_ledger)
+      (kept_with_ledger limits w before asked_ledger
+      (requested_is_formed limits w (ledger_asked w.ledger session call) session.client turned.message turned.message.body message ledger))
+      (turned.message ∷ [])
+      (All-cons (IsFormedMessage limits) turned.message [] message (All-nil _)))
+    where
+      limits : Limits
+      limits = limits_of after_asking
+
+      before : IsFormedWorld limits w
+      before =
+          formed_within w limits
+          (more_limits w w.coordinator asked_ledger after_asking.top refl asked_has (top_rises (with_all_sent (with_ledger w asked_ledger) (turned.message ∷ []))))
+          formed
+
+      ledger : IsFormedLedger limits w.base w.lane (ledger_asked w.ledger session call)
+      ledger =
+          asked_is (IsFormedLedger limits w.base w.lane) w.ledger session call
+          (λ asked. before.ledger)
+          (λ new.
+          formed_asked limits w.base w.lane w.ledger session.client (now_asked session call) may.client added (last new) before.ledger)
+
+-- where one of two holds and not the first, the second does
+or_second : (a b : Bool) → (a || b) ≡ true → a ≡ false → b ≡ true
+or_second true b either first = absurd (cc first)
+or_second false b either first = either
+
+-- the client of a turn that is not refused was added
+asker_is_added : (w : World) (session : Session) → ask_refusal w session ≡ None → is_added w.ledger session.client ≡ true
+asker_is_added w session none =
+    added (is_added w.ledger session.client)
+    (does_not_hold (not (is_added w.ledger session.client)) (errors.Stranger session.client)
+    (no_second
+    (option_map errors.Worn (option_or (worn w) (worn_session session session.outstanding)))
+    (where_true (not (is_added w.ledger session.client)) (errors.Stranger session.client)) none))
+  where
+    added : (b : Bool) → not b ≡ false → b ≡ true
+    added true is = refl
+    added false is = absurd (cc is)
+
+-- a lane stays well formed when a client asks there, and its session may act
+pub formed_asking : (w : World) (session : Session) → MayAct w.coordinator.masters session → IfSome session.outstanding (IsAfterStart w.base) → ask_refusal w session ≡ None → HasRoom (asking w session session.outstanding).world → IsWellFormed w → IsFormedVisit w (asking w session session.outstanding)
+formed_asking w session may start none room formed =
+    go session.outstanding refl room
+  where
+    nothing : IsFormedVisit w (untouched w session None)
+    nothing = record { world = formed; session = may }
+
+    last : (call : Call) → session.outstanding ≡ Some call → fits_with w session call ≡ true → MayBeLast w session call
+    last call is fitting new = record {
+      lawful = subst (λ o. IfSome o IsLawfulCall) is may.call;
+      own = (subst (λ o. IfSome o (λ call. (call.client ≡ session.client) × (call.seq ≡ session.last))) is may.own).0;
+      here =
+          eqb-true (call_lane call) w.lane
+          (and_parts (call_lane call == w.lane) (is_next w.ledger session call (asked_by w.ledger session.client))
+          (or_second (is_asked w.ledger session call) (call_lane call == w.lane && is_next w.ledger session call (asked_by w.ledger session.client)) fitting new)).0;
+      after = subst (λ o. IfSome o (IsAfterStart w.base)) is start;
+    }
+
+    asks : (call : Call) → session.outstanding ≡ Some call → fits_with w session call ≡ true → HasRoom (asking_by w session call (Some (turn_by session call (range_of session call)))).world → IsFormedVisit w (asking_by w session call (Some (turn_by session call (range_of session call))))
+    asks call is fitting room_left =
+        let turned = turn_by session call (range_of session call) in
+        let added = asker_is_added w session none in
+        let within = acts_within w session call turned added may room_left in
+        let turn = formed_turn (limits_of (after_asking w session call turned)) session within call (subst (λ o. IfSome o IsLawfulCall) is may.call) (range_of session call) (cached_of w.coordinator.masters session may call) in
+        record {
+          world = formed_after_asking w session call turned turn.message added may (last call is fitting) formed;
+          session = turn.session;
+        }
+
+    go : (outstanding : Option Call) → session.outstanding ≡ outstanding → HasRoom (asking w session outstanding).world → IsFormedVisit w (asking w session outstanding)
+    go None is room_left = nothing
+    go (Some call) is room_left =
+        elim (fits_with w session call) as (λ b. fits_with w session call ≡ b → HasRoom (cond b (asking_by w session call (session_turn session)) (untouched w session None)).world → IsFormedVisit w (cond b (asking_by w session call (session_turn session)) (untouched w session None))) [
+          | true ↦ λ fitting room_there.
+              subst (λ o. HasRoom (asking_by w session call (turn_of session o)).world → IsFormedVisit w (asking_by w session call (turn_of session o))) (sym is)
+              (asks call is fitting) room_there
+          | false ↦ λ fitting room_there. nothing
+        ] refl room_left
+
+-- so it is where the client's turn is not refused
+pub formed_ask : (w : World) (session : Session) (visited : Visited) → ask w session ≡ Ok visited → MayAct w.coordinator.masters session → IfSome session.outstanding (IsAfterStart w.base) → HasRoom visited.world → IsWellFormed w → IsFormedVisit w visited
+formed_ask w session visited asked may start room formed = go (ask_refusal w session) refl asked
+  where
+    go : (refused : Option StepError) → ask_refusal w session ≡ refused → ask_by w session refused ≡ Ok visited → IsFormedVisit w visited
+    go None none is =
+        let visited_is : asking w session session.outstanding ≡ visited = cc is in
+        subst (IsFormedVisit w) visited_is
+        (formed_asking w session may start none (subst (λ (v : Visited). HasRoom v.world) (sym visited_is) room) formed)
+    go (Some error) none is = absurd (cc is)
+
+-- ---- a client takes an answer
+
+-- a lane stays well formed when a record is accepted
+formed_with_accepted : (w : World) (place : ℕ) → IsWellFormed w → IsWellFormed (with_ledger w (with_accepted w.ledger place))
+formed_with_accepted w place formed = record {
+  masters_are = formed.masters_are;
+  few_masters = formed.few_masters;
+  backed = formed.backed;
+  few_backups = formed.few_backups;
+  masters = formed.masters;
+  coordinator = formed.coordinator;
+  ledger = formed_accepted (limits_of w) w.base w.lane w.ledger place formed.ledger;
+  wire = formed.wire;
+  crashed = formed.crashed;
+  left = λ master dead.
+      let some = formed.left master dead in
+      record { master = some.master; there = some.there; lives = some.lives };
+  noticed = formed.noticed;
+  base = formed.base;
+  few_base_clients = formed.few_base_clients;
+  standing =
+      subst (λ (stamp : ℕ). All (λ n. n ≤ w.top) (w.wire.sent ∷ stamp ∷ ((stamps_seen w ++ terms_in w) ++ counters_in w)))
+      (sym (last_stamp_accepted w.ledger.journal place (slice_get w.ledger.journal place) refl)) formed.standing;
+}
+
+formed_taken : (w : World) (body : Body) (taken : Taken) → IsWellFormed w → IsWellFormed (with_ledger w (ledger_taken w.ledger body taken))
+formed_taken w (bodies.Reply reply) takes.Done formed = formed_with_accepted w reply.place formed
+formed_taken w (bodies.Reply reply) taken formed = formed
+formed_taken w body taken formed = formed
+
+-- a lane stays well formed when a client takes a message of its wire, and its session may act
+pub formed_accepting : (w : World) (number : ℕ) (session : Session) → MayAct w.coordinator.masters session → IsWellFormed w → IsFormedVisit w (accepting w session (get w.wire.messages number))
+formed_accepting w number session may formed =
+    go (get w.wire.messages number) refl
+  where
+    takes_it : (message : Message) → IsFormedMessage (limits_of w) message → IsFormedVisit w (taking w session message.body)
+    takes_it message it = record {
+      world = formed_taken w message.body (session_accept session message.body).taken formed;
+      session = acts_accepted (limits_of w) session may message.from message.body it.lawful it.says;
+    }
+
+    go : (found : Option Message) → get w.wire.messages number ≡ found → IsFormedVisit w (accepting w session found)
+    go None is = record { world = formed; session = may }
+    go (Some message) is =
+        elim (is_asked_here w session) as (λ b. IsFormedVisit w (cond b (taking w session message.body) (untouched w session (Some takes.Ignored)))) [
+          | true ↦ takes_it message (formed.wire.each number message is)
+          | false ↦ record { world = formed; session = may }
+        ]
+
+-- so it is where the client's message is not refused
+pub formed_accept : (w : World) (number : ℕ) (session : Session) (visited : Visited) → accept w number session ≡ Ok visited → MayAct w.coordinator.masters session → IsWellFormed w → IsFormedVisit w visited
+formed_accept w number session visited taken may formed =
+    go (accept_refusal w number session.client (get w.wire.messages number)) taken
+  where
+    go : (refused : Option StepError) → accept_by w number session refused ≡ Ok visited → IsFormedVisit w visited
+    go None is =
+        let visited_is : accepting w session (get w.wire.messages number) ≡ visited = cc is in
+        subst (IsFormedVisit w) visited_is (formed_accepting w number session may formed)
+    go (Some error) is = absurd (cc is)

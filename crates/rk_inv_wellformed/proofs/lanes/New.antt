@@ -1,0 +1,159 @@
+-- A new lane is well formed and has room, and a new session may act, also once it asked its next call.
+use Rattle.std.proofs.Common.{◌≡◌, ◌≤◌, ℕ, zero, suc, List, [], ◌∷◌, length, map, replicate, sum, All, Option, None, Some, refl, ap, subst}
+use Rattle.std.proofs.Common.{arith, w32, flat_map}
+use Rattle.std.specs.List.Sorted.{IsStrictlySortedBy}
+use Rattle.std.proofs.lemmas.List.Elements.{All-replicate}
+use Rattle.rk_inv_wellformed.proofs.Words.{All-cons, All-map, All-nil, sum_by-cons, range_with_len, EachIn, IsInOrder, IsNumber}
+use Rattle.rk_inv_wellformed.proofs.Words.{IsInScanOrder, MOST_BACKUPS, Session, IsFormedMaster, IsWellFormed, Limits, limits_of, Master}
+use Rattle.rk_inv_wellformed.proofs.Words.{log_bytes, new_master, IsLawfulCall, MOST_MASTERS, MayAct, HasRoom, counters_of}
+use Rattle.rk_types.specs.declared.call.Op.{Op}
+use Rattle.rk_types.specs.declared.hashing.TheConstants.{LANES}
+use Rattle.rk_log.specs.Known.{Known, nothing}
+use Rattle.rk_world.specs.Client.{busy, new_session, next_call, session_calling}
+use Rattle.rk_world.specs.Premises.{IsCached}
+use Rattle.rk_world.specs.Room.{HasRoomIn}
+use Rattle.rk_world.specs.World.{new_masters, new_world}
+use Rattle.rk_inv_wellformed.proofs.maps.Lists.{all_flat}
+use Rattle.rk_inv_wellformed.proofs.maps.Numbered.{found_numbered, numbers_are, with_numbers}
+
+-- ---- a lane
+
+-- nothing stands in an empty map
+nothing_in_it : {X : Type 0} (Fits : ℕ → X → Type 0) → EachIn Fits []
+nothing_in_it Fits number thing found = absurd (cc found)
+
+length_replicated : {X : Type 0} (count : ℕ) (thing : X) → length (replicate count thing) ≡ count
+length_replicated zero thing = refl
+length_replicated (suc count) thing = ap suc (length_replicated count thing)
+
+-- no items are in order
+none_in_order : IsInScanOrder []
+unfolding IsStrictlySortedBy
+none_in_order = tt
+
+-- what holds of each thing holds of all elements
+all_of_each : {X : Type 0} (P : X → Type 0) (each : (x : X) → P x) (list : List X) → All P list
+all_of_each P each list place other within = each _
+
+-- new masters have no bytes
+no_bytes_in : (known : List Known) (list : List ℕ) → sum (map (λ entry. log_bytes entry.1) (with_numbers (λ number. new_master number known) list)) ≡ 0
+no_bytes_in known [] = refl
+no_bytes_in known (number ∷ list) =
+    let rest = no_bytes_in known list in
+    let whole = sum_by-cons (λ (n : ℕ). n) (log_bytes (new_master number known)) (map (λ entry. log_bytes entry.1) (with_numbers (λ number. new_master number known) list)) in
+    let first = none known number in
+    omega arith
+  where
+    none : (known : List Known) (number : ℕ) → log_bytes (new_master number known) ≡ 0
+    none known number = refl
+
+-- a new master is well formed
+pub new_is_formed : (limits : Limits) (number : ℕ) → IsFormedMaster limits number (new_master number (replicate limits.backups nothing))
+new_is_formed limits number = record {
+  number_is = refl;
+  known = length_replicated limits.backups nothing;
+  lengths = All-replicate IsInOrder limits.backups nothing tt;
+  written = All-nil _;
+  spelled = refl;
+  sides = All-nil _;
+  items = All-nil _;
+  records = All-nil _;
+  scanned = none_in_order;
+  applied = omega arith;
+  calls_order = tt;
+  calls = nothing_in_it _;
+  tablets_order = tt;
+  tablets = nothing_in_it _;
+  waited = omega arith;
+}
+
+module _ (lane masters backups : ℕ) where
+  -- a new lane is well formed, with at most eight masters and four backups
+  pub new_is_well_formed : masters ≤ MOST_MASTERS → 1 ≤ backups → backups ≤ MOST_BACKUPS → IsWellFormed (new_world lane masters backups)
+  new_is_well_formed few some few_backups = record {
+    masters_are = numbers_are made (range_with_len 1 masters);
+    few_masters = few;
+    backed = some;
+    few_backups = few_backups;
+    masters = λ number master found.
+        subst (IsFormedMaster limits number) (found_numbered made (range_with_len 1 masters) number master found) (new_is_formed limits number);
+    coordinator = record {
+      map = tt;
+      rows = All-nil _;
+      noticed = All-nil _;
+      handed_order = tt;
+      handed = nothing_in_it _;
+    };
+    ledger = record {
+      clients_order = tt;
+      clients = nothing_in_it _;
+      few = omega arith;
+      requests_order = tt;
+      requests = nothing_in_it _;
+      stamps = All-nil _;
+      records = omega arith;
+    };
+    wire = record { order = tt; numbered = nothing_in_it _; each = nothing_in_it _ };
+    crashed = All-nil _;
+    left = λ master dead. absurd (cc dead);
+    noticed = All-nil _;
+    base = All-nil _;
+    few_base_clients = omega arith;
+    standing =
+        All-cons (λ n. n ≤ 0) 0 (0 ∷ counters) (omega arith)
+        (All-cons (λ n. n ≤ 0) 0 counters (omega arith)
+        (all_flat (λ n. n ≤ 0) (λ entry. counters_of entry.1) (new_masters masters backups)
+        (All-map (λ (entry : ℕ × Master). All (λ n. n ≤ 0) (counters_of entry.1)) (λ number. (number, made number)) (range_with_len 1 masters)
+        (all_of_each (λ number. All (λ n. n ≤ 0) (counters_of (made number))) (λ number. All-nil _) (range_with_len 1 masters)))));
+  }
+    where
+      limits : Limits
+      limits = limits_of (new_world lane masters backups)
+
+      made : ℕ → Master
+      made number = new_master number (replicate backups nothing)
+
+      counters : List ℕ
+      counters = flat_map (λ entry. counters_of entry.1) (new_masters masters backups)
+
+  -- and it has room
+  pub new_has_room : HasRoom (new_world lane masters backups)
+  new_has_room = record {
+    number = omega arith;
+    bytes = omega (arith, no_bytes_in (replicate backups nothing) (range_with_len 1 masters));
+    masters = λ number master found.
+        subst HasRoomIn (found_numbered made (range_with_len 1 masters) number master found)
+        (record { records = omega arith; fits = All-nil _ });
+  }
+    where
+      made : ℕ → Master
+      made number = new_master number (replicate backups nothing)
+
+-- ---- a session
+
+no_ranges : (count : ℕ) → All (All (IsCached count)) (replicate LANES [])
+no_ranges count = All-replicate (All (IsCached count)) LANES [] (All-nil _)
+
+-- a new session may act
+pub new_may_act : (count client : ℕ) → IsNumber w32 1 client → MayAct count (new_session client)
+new_may_act count client number = record {
+  client = number;
+  call = tt;
+  own = tt;
+  seen = All-nil _;
+  cached = no_ranges count;
+}
+
+-- and so may one that asks a lawful call, unless one is outstanding
+pub may_act_calling : (count : ℕ) (session : Session) (table : ℕ) (key : List ℕ) (op : Op) → IsLawfulCall (next_call session table key op) → MayAct count session → MayAct count (session_calling session table key op (busy session))
+may_act_calling count session table key op lawful may = go (busy session)
+  where
+    go : (outstanding : Option ℕ) → MayAct count (session_calling session table key op outstanding)
+    go None = record {
+      client = may.client;
+      call = lawful;
+      own = (refl, refl);
+      seen = may.seen;
+      cached = may.cached;
+    }
+    go (Some seq) = may

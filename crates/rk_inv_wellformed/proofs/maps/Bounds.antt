@@ -1,0 +1,67 @@
+-- What holds of all numbers of lists and of maps by number holds of each: none is above the greatest, and none above the sum.
+use Rattle.std.proofs.Common.{◌≡◌, ◌≤◌, ℕ, max, true, false, cond, List, [], ◌∷◌, map, fold, sum, All, Some, sym, ap, subst, arith, sum_by}
+use Rattle.std.proofs.Common.{nat_cmp}
+use Rattle.rk_inv_wellformed.proofs.Words.{All-cons, All-head, All-nil, All-tail, sum-map, sum_by-cons, eq_by_cmp, NumberMap, get}
+use Rattle.rk_world.specs.World.{greatest}
+
+-- ---- the greatest of numbers
+
+start_below : (start : ℕ) (numbers : List ℕ) → start ≤ fold max start numbers
+start_below start [] = omega arith
+start_below start (first ∷ rest) =
+    let next = start_below (max start first) rest in
+    omega arith
+
+each_below : (start : ℕ) (numbers : List ℕ) → All (λ n. n ≤ fold max start numbers) numbers
+each_below start [] = All-nil _
+each_below start (first ∷ rest) =
+    let next = start_below (max start first) rest in
+    let it : first ≤ fold max (max start first) rest = omega arith in
+    All-cons (λ n. n ≤ fold max (max start first) rest) first rest it (each_below (max start first) rest)
+
+-- no number is above the greatest
+pub below_greatest : (numbers : List ℕ) → All (λ n. n ≤ greatest numbers) numbers
+below_greatest numbers = each_below 0 numbers
+
+greatest_from : (limit start : ℕ) (numbers : List ℕ) → start ≤ limit → All (λ n. n ≤ limit) numbers → fold max start numbers ≤ limit
+greatest_from limit start [] low all = low
+greatest_from limit start (first ∷ rest) low all =
+    let it = All-head (λ (n : ℕ). n ≤ limit) first rest all in
+    greatest_from limit (max start first) rest (omega arith) (All-tail (λ n. n ≤ limit) first rest all)
+
+-- and the greatest is not above what none is above
+pub greatest_within : (limit : ℕ) (numbers : List ℕ) → All (λ n. n ≤ limit) numbers → greatest numbers ≤ limit
+greatest_within limit numbers all = greatest_from limit 0 numbers (omega arith) all
+
+-- ---- maps by number
+
+-- what holds of each thing of a map holds of the one that is found
+pub all_in_map : {X : Type 0} (P : X → Type 0) (things : NumberMap X) (number : ℕ) (thing : X) → get things number ≡ Some thing → All (λ entry. P entry.1) things → P thing
+all_in_map P [] number thing found all = absurd (cc found)
+all_in_map P (first ∷ rest) number thing found all =
+    elim (eq_by_cmp nat_cmp number first.0) as (λ b. cond b (Some first.1) (get rest number) ≡ Some thing → P thing) [
+      | true ↦ λ same.
+          let is : first.1 ≡ thing = cc same in
+          subst P is (All-head (λ entry. P entry.1) first rest all)
+      | false ↦ λ later. all_in_map P rest number thing later (All-tail (λ entry. P entry.1) first rest all)
+    ] found
+
+-- what is found counts in the sum
+pub within_sum : {X : Type 0} (size : X → ℕ) (things : NumberMap X) (number : ℕ) (thing : X) → get things number ≡ Some thing → size thing ≤ sum_by (λ entry. size entry.1) things
+within_sum size [] number thing found = absurd (cc found)
+within_sum size (first ∷ rest) number thing found =
+    let whole = sum_by-cons (λ entry. size entry.1) first rest in
+    elim (eq_by_cmp nat_cmp number first.0) as (λ b. cond b (Some first.1) (get rest number) ≡ Some thing → size thing ≤ sum_by (λ entry. size entry.1) (first ∷ rest)) [
+      | true ↦ λ same.
+          let is : first.1 ≡ thing = cc same in
+          let it : size first.1 ≡ size thing = ap size is in
+          omega (arith, whole, it)
+      | false ↦ λ later.
+          let it = within_sum size rest number thing later in
+          omega (arith, whole, it)
+    ] found
+
+pub within_sum_of : {X : Type 0} (size : X → ℕ) (things : NumberMap X) (number : ℕ) (thing : X) → get things number ≡ Some thing → size thing ≤ sum (map (λ entry. size entry.1) things)
+within_sum_of size things number thing found =
+    subst (λ (whole : ℕ). size thing ≤ whole) (sym (sum-map (λ entry. size entry.1) things))
+    (within_sum size things number thing found)

@@ -1,0 +1,90 @@
+-- Lists: what holds of each element of a list stays so where the list is joined, parted, changed, found in or folded over.
+use Rattle.std.proofs.Common.{◌≡◌, ℕ, zero, suc, Bool, true, false, cond, List, [], ◌∷◌, ◌++◌, map, fold, All, Some, flat_map, refl, subst}
+use Rattle.std.proofs.Common.{find, slice_get, slice_index_or}
+use Rattle.rk_inv_wellformed.proofs.Words.{All-append, All-cons, All-head, All-nil, All-tail}
+
+-- what holds of all elements of two lists holds of those of the first
+pub all_front : {X : Type 0} (P : X → Type 0) (front back : List X) → All P (front ++ back) → All P front
+all_front P [] back all = All-nil P
+all_front P (first ∷ rest) back all =
+    All-cons P first rest (All-head P first (rest ++ back) all)
+    (all_front P rest back (All-tail P first (rest ++ back) all))
+
+-- and of those of the second
+pub all_back : {X : Type 0} (P : X → Type 0) (front back : List X) → All P (front ++ back) → All P back
+all_back P [] back all = all
+all_back P (first ∷ rest) back all = all_back P rest back (All-tail P first (rest ++ back) all)
+
+-- what holds of all elements of what each gives holds of all that is given
+pub all_flat : {X Y : Type 0} (P : Y → Type 0) (give : X → List Y) (list : List X) → All (λ x. All P (give x)) list → All P (flat_map give list)
+all_flat P give [] all = All-nil P
+all_flat P give (first ∷ rest) all =
+    All-append P (give first) (flat_map give rest) (All-head (λ x. All P (give x)) first rest all)
+    (all_flat P give rest (All-tail (λ x. All P (give x)) first rest all))
+
+-- and the other way round
+pub all_given : {X Y : Type 0} (P : Y → Type 0) (give : X → List Y) (list : List X) → All P (flat_map give list) → All (λ x. All P (give x)) list
+all_given P give [] all = All-nil _
+all_given P give (first ∷ rest) all =
+    All-cons (λ x. All P (give x)) first rest (all_front P (give first) (flat_map give rest) all)
+    (all_given P give rest (all_back P (give first) (flat_map give rest) all))
+
+-- what holds of all that a list was changed into
+pub all_before : {X Y : Type 0} (P : Y → Type 0) (change : X → Y) (list : List X) → All P (map change list) → All (λ x. P (change x)) list
+all_before P change [] all = All-nil _
+all_before P change (first ∷ rest) all =
+    All-cons (λ x. P (change x)) first rest (All-head P (change first) (map change rest) all)
+    (all_before P change rest (All-tail P (change first) (map change rest) all))
+
+-- what holds of all elements holds of the one at a place
+pub all_got : {X : Type 0} (P : X → Type 0) (list : List X) (place : ℕ) (x : X) → slice_get list place ≡ Some x → All P list → P x
+all_got P [] place x found all = absurd (cc found)
+all_got P (first ∷ rest) zero x found all =
+    let is : first ≡ x = cc found in
+    subst P is (All-head P first rest all)
+all_got P (first ∷ rest) (suc place) x found all = all_got P rest place x found (All-tail P first rest all)
+
+-- what holds of all elements holds of the last
+pub all_last : {X : Type 0} (P : X → Type 0) (list : List X) (last : X) → All P (list ++ last ∷ []) → P last
+all_last P list last all = All-head P last [] (all_back P list (last ∷ []) all)
+
+-- what a test finds has what each element has
+pub all_find : {X : Type 0} (P : X → Type 0) (p : X → Bool) (xs : List X) (x : X) → All P xs → find p xs ≡ Some x → P x
+all_find P p [] x each found = absurd (cc found)
+all_find P p (y ∷ ys) x each found =
+    elim (p y) as (λ b. cond b (Some y) (find p ys) ≡ Some x → P x) [
+      | true ↦ λ e. let same : y ≡ x = cc e in subst P same (All-head P y ys each)
+      | false ↦ λ e. all_find P p ys x (All-tail P y ys each) e
+    ] found
+
+-- it passes the test
+pub find_passes : {X : Type 0} (p : X → Bool) (xs : List X) (x : X) → find p xs ≡ Some x → p x ≡ true
+find_passes p [] x found = absurd (cc found)
+find_passes {X} p (y ∷ ys) x found =
+    elim (p y) as (λ b. p y ≡ b → cond b (Some y) (find p ys) ≡ Some x → p x ≡ true) [
+      | true ↦ λ is e. let same : y ≡ x = cc e in subst (λ (z : X). p z ≡ true) same is
+      | false ↦ λ is e. find_passes p ys x e
+    ] refl found
+
+-- what each step of a fold keeps, the fold keeps
+pub fold_keeps : {A B : Type 0} (P : B → Type 0) (f : B → A → B) (xs : List A) (b : B) → P b → ((b : B) (a : A) → P b → P (f b a)) → P (fold f b xs)
+fold_keeps P f [] b now step = now
+fold_keeps P f (x ∷ xs) b now step = fold_keeps P f xs (f b x) (step b x now) step
+
+-- and so does one whose elements have something
+pub fold_keeps_all : {A B : Type 0} (P : B → Type 0) (Q : A → Type 0) (f : B → A → B) (xs : List A) (b : B) → P b → All Q xs
+    → ((b : B) (a : A) → P b → Q a → P (f b a)) → P (fold f b xs)
+fold_keeps_all P Q f [] b now each step = now
+fold_keeps_all P Q f (x ∷ xs) b now each step =
+    fold_keeps_all P Q f xs (f b x) (step b x now (All-head Q x xs each)) (All-tail Q x xs each) step
+
+-- what each thing has, each of a list has
+pub all_each : {X : Type 0} (P : X → Type 0) (xs : List X) → ((x : X) → P x) → All P xs
+all_each P [] holds = All-nil P
+all_each P (x ∷ xs) holds = All-cons P x xs (holds x) (all_each P xs holds)
+
+-- what all have, and what stands in for none, the one at a place has
+pub all_at : {X : Type 0} (P : X → Type 0) (xs : List X) (place : ℕ) (none : X) → P none → All P xs → P (slice_index_or xs place none)
+all_at P [] place none it all = it
+all_at P (x ∷ xs) zero none it all = All-head P x xs all
+all_at P (x ∷ xs) (suc place) none it all = all_at P xs place none it (All-tail P x xs all)

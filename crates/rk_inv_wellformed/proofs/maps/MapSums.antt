@@ -1,0 +1,64 @@
+-- Sums over a map by number: what they are where one thing more is put there.
+use Rattle.std.proofs.Common.{◌≡◌, ◌≤◌, ◌+◌, ℕ, cond, T, [], ◌∷◌, map, sum, Option, None, Some, refl, sym, arith, sum_by, is_eq, nat_cmp}
+use Rattle.std.specs.Cmp.{ranked}
+use Rattle.std.specs.declared.cmp.Ordering.TheVariants.{Equal}
+use Rattle.rk_inv_wellformed.proofs.Words.{sum-map, sum_by-cons, below_all, by_order, Less, Greater, IsInOrder, NumberMap, get, insert}
+use Rattle.rk_inv_wellformed.proofs.maps.Maps.{above_all, first, second}
+
+-- the size of what is under a number, 0 where nothing is
+abbrev pub size_found : {X : Type 0} → (X → ℕ) → Option X → ℕ
+size_found size None = 0
+size_found size (Some thing) = size thing
+
+-- nothing is under a number that is below all
+none_below : {X : Type 0} (size : X → ℕ) (n : ℕ) (things : NumberMap X) → T (below_all nat_cmp n things) → (q : ℕ) → q ≤ n → (found : Option X)
+    → get things q ≡ found → size_found size found ≡ 0
+none_below size n things below q up None is = refl
+none_below size n things below q up (Some thing) is =
+    let above = above_all n things q thing below is in
+    absurd (omega arith)
+
+-- a thing under a number counts in place of what was there
+pub sum_inserted : {X : Type 0} (size : X → ℕ) (things : NumberMap X) (number : ℕ) (thing : X) → IsInOrder things
+    → sum_by (λ entry. size entry.1) (insert things number thing) + size_found size (get things number) ≡ sum_by (λ entry. size entry.1) things + size thing
+sum_inserted {X} size [] number thing order =
+    omega (arith, sum_by-cons (λ (entry : ℕ × X). size entry.1) (number, thing) [])
+sum_inserted {X} size (here ∷ things) number thing order =
+    let whole = sum_by-cons (λ (entry : ℕ × X). size entry.1) here things in
+    let rest = sum_inserted size things number thing (second (below_all nat_cmp here.0 things) _ order) in
+    elim (nat_cmp number here.0) as (λ o. nat_cmp number here.0 ≡ o → sum_by (λ (entry : ℕ × X). size entry.1) (by_order o ((number, thing) ∷ here ∷ things) ((here.0, thing) ∷ things) (here ∷ insert things number thing)) + size_found size (cond (is_eq o) (Some here.1) (get things number)) ≡ sum_by (λ (entry : ℕ × X). size entry.1) (here ∷ things) + size thing) [
+      | Less ↦ λ is.
+          let less = ranked number here.0 Less (sym is) in
+          omega (
+            arith,
+            sum_by-cons (λ (entry : ℕ × X). size entry.1) (number, thing) (here ∷ things),
+            none_below size here.0 things (first (below_all nat_cmp here.0 things) _ order) number (omega arith) (get things number) refl,
+          )
+      | Equal ↦ λ is. omega (arith, whole, sum_by-cons (λ (entry : ℕ × X). size entry.1) (here.0, thing) things)
+      | Greater ↦ λ is. omega (arith, whole, rest, sum_by-cons (λ (entry : ℕ × X). size entry.1) here (insert things number thing))
+    ]
+    refl
+
+-- and in any map no more than beside all that is there
+sum_inserted_most : {X : Type 0} (size : X → ℕ) (things : NumberMap X) (number : ℕ) (thing : X)
+    → sum_by (λ entry. size entry.1) (insert things number thing) ≤ sum_by (λ entry. size entry.1) things + size thing
+sum_inserted_most {X} size [] number thing =
+    omega (arith, sum_by-cons (λ (entry : ℕ × X). size entry.1) (number, thing) [])
+sum_inserted_most {X} size (here ∷ things) number thing =
+    let whole = sum_by-cons (λ (entry : ℕ × X). size entry.1) here things in
+    let rest = sum_inserted_most size things number thing in
+    elim (nat_cmp number here.0) as (λ o. sum_by (λ (entry : ℕ × X). size entry.1) (by_order o ((number, thing) ∷ here ∷ things) ((here.0, thing) ∷ things) (here ∷ insert things number thing)) ≤ sum_by (λ (entry : ℕ × X). size entry.1) (here ∷ things) + size thing) [
+      | Less ↦ omega (arith, sum_by-cons (λ (entry : ℕ × X). size entry.1) (number, thing) (here ∷ things))
+      | Equal ↦ omega (arith, whole, sum_by-cons (λ (entry : ℕ × X). size entry.1) (here.0, thing) things)
+      | Greater ↦ omega (arith, whole, rest, sum_by-cons (λ (entry : ℕ × X). size entry.1) here (insert things number thing))
+    ]
+
+pub inserted_most : {X : Type 0} (size : X → ℕ) (things : NumberMap X) (number : ℕ) (thing : X)
+    → sum (map (λ entry. size entry.1) (insert things number thing)) ≤ sum (map (λ entry. size entry.1) things) + size thing
+inserted_most size things number thing =
+    omega (
+      arith,
+      sum_inserted_most size things number thing,
+      sum-map (λ entry. size entry.1) things,
+      sum-map (λ entry. size entry.1) (insert things number thing),
+    )

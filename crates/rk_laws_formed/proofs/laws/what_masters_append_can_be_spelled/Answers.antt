@@ -1,9 +1,0 @@
-use Rattle.rk_laws_formed.proofs.Spelled.{copies_spell, grants_spell, rebuilds_spell}
-use Rattle.rk_laws_formed.proofs.laws.what_masters_append_can_be_spelled.Goals as goal
-
-pub returns : goal.returns
-returns c = record {
-  grants = grants_spell;
-  rebuilds = rebuilds_spell;
-  copies = copies_spell;
-}

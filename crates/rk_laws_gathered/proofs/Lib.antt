@@ -1,0 +1,15 @@
+pub mod Accepted
+pub mod AllTold
+pub mod Answered
+pub mod Counted
+pub mod Counting
+pub mod Examples
+pub mod History
+pub mod Lanes
+pub mod Merged
+pub mod OpenCalls
+pub mod Orderly
+pub mod Pairs
+pub mod Pigeonhole
+pub mod Sessions
+pub mod Stored

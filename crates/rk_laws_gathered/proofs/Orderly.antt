@@ -1,0 +1,234 @@
+-- A session stays orderly when its client asks a call, takes its turn, and takes an answer with a stamp above all that it has seen.
+use Rattle.std.proofs.Common.{◌≡◌, ◌==◌, ℕ, ◌+◌, ◌<◌, ◌≤◌, Bool, true, false, cond, List, [], ◌∷◌, Option, Some, None, length, length-append, refl, sym, ap, ◌∙◌, subst, arith}
+use Rattle.std.specs.Prelude.{IfSome, max}
+use Rattle.std.specs.Option.{option_map}
+use Rattle.std.specs.List.{All}
+use Rattle.std.proofs.lemmas.Bool.{eqb-true}
+use Rattle.std.proofs.lemmas.List.Elements.{All-contains, All-nil, All-push, All-weaker}
+use Rattle.rk_types.specs.NumberMap.{get}
+use Rattle.rk_types.specs.declared.call.Answer.{Answer}
+use Rattle.rk_types.specs.declared.call.Answer.TheVariants as answers
+use Rattle.rk_types.specs.declared.call.Call.{Call}
+use Rattle.rk_types.specs.declared.call.Op.{Op}
+use Rattle.rk_types.specs.declared.call.Outcome.{Outcome}
+use Rattle.rk_types.specs.declared.history.Placed.{Placed}
+use Rattle.rk_types.specs.declared.history.Receipt.{Receipt}
+use Rattle.rk_types.specs.declared.node.Node.{Node}
+use Rattle.rk_types.specs.declared.node.Node.TheVariants as nodes
+use Rattle.rk_message.specs.declared.calls.Located.{Located}
+use Rattle.rk_message.specs.declared.calls.Reply.{Reply}
+use Rattle.rk_message.specs.declared.message.Body.{Body}
+use Rattle.rk_message.specs.declared.message.Body.TheVariants as bodies
+use Rattle.rk_message.specs.declared.message.Message.{Message}
+use Rattle.rk_world.specs.Calls.{accepting, asked_by_session, asking, asking_by, fits_with, is_asked, taking, untouched}
+use Rattle.rk_world.specs.Client.{ClientTurn, MOST_REQUESTS, Session, accepted_by, accepted_of, answer_accepted, busy, call_lane, done, has_call, ignoring, looking_up, new_session, range_of, receipt_of, session_calling, session_turn, turn_by, turn_of, turn_to, with_next_call, with_range, without_range}
+use Rattle.rk_world.specs.Ledger.{asked_by}
+use Rattle.rk_world.specs.Premises.{MayAct}
+use Rattle.rk_world.specs.Refusals.{is_for}
+use Rattle.rk_world.specs.World.{World}
+use Rattle.rk_world.specs.declared.event.Taken.TheVariants as takes
+use Rattle.rk_world.specs.declared.ledger.LastCall.{LastCall}
+use Rattle.rk_sound.specs.Changes.{MayAccept}
+use Rattle.rk_sound.specs.Messages.{AnswerFits, IsRecordAt, Says}
+use Rattle.rk_sound.specs.Truth.{IsAfterSeen}
+use Rattle.rk_sound.specs.View.{view}
+use Rattle.rk_sound.specs.Whole.{IsSound}
+use Rattle.rk_inv_base.proofs.calls.Accepted.{stands_there}
+use Rattle.rk_inv_events.proofs.events.Clients.{for_client, is_last_there, may_accept}
+use Rattle.rk_runs.specs.history.Agreement.{AreRisingAbove, waiting}
+use Rattle.rk_runs.proofs.history.Receipts.{numbered_push, rising_push}
+use Rattle.rk_laws_gathered.specs.Answers.{AreOwn}
+use Rattle.rk_laws_gathered.specs.Gathered.{IsOrderly}
+
+pub new_orderly : (client : ℕ) → IsOrderly client (new_session client)
+new_orderly client = record {
+  client_is = refl;
+  receipts = record { numbered = tt; calls = All-nil _ };
+  last = refl;
+  outstanding = tt;
+  rising = tt;
+  seen = All-nil _;
+}
+
+module _ (client : ℕ) (session : Session) (orderly : IsOrderly client session) where
+  -- ---- a call
+
+  -- a session that has no call outstanding asks its next one
+  next_orderly : (table : ℕ) (key : List ℕ) (op : Op) → session.outstanding ≡ None → IsOrderly client (with_next_call session table key op)
+  next_orderly table key op none =
+      let last = orderly.last in
+      let is = ap waiting none in
+      record {
+        client_is = orderly.client_is;
+        receipts = orderly.receipts;
+        last = omega (arith, last, is);
+        outstanding = (orderly.client_is, refl);
+        rising = orderly.rising;
+        seen = orderly.seen;
+      }
+
+  pub calling_orderly : (table : ℕ) (key : List ℕ) (op : Op) → IsOrderly client (session_calling session table key op (busy session))
+  calling_orderly table key op = by_out session.outstanding refl
+    where
+      by_out : (out : Option Call) → session.outstanding ≡ out
+          → IsOrderly client (session_calling session table key op (option_map (λ (call : Call). call.seq) out))
+      by_out None is = next_orderly table key op is
+      by_out (Some call) is = orderly
+
+  -- ---- a turn
+
+  -- what is kept of a session whose ranges or requests change
+  pub ranged : (now : Session) → now.client ≡ session.client → now.receipts ≡ session.receipts → now.last ≡ session.last
+      → now.outstanding ≡ session.outstanding → now.seen ≡ session.seen → IsOrderly client now
+  ranged now client_is receipts_are last_is out_is seen_is = record {
+    client_is = client_is ∙ orderly.client_is;
+    receipts = subst (AreOwn client) (sym receipts_are) orderly.receipts;
+    last = last_is ∙ orderly.last ∙ (λ i. length (sym receipts_are i) + waiting (sym out_is i));
+    outstanding =
+        subst (λ (last : ℕ). IfSome now.outstanding (λ (call : Call). (call.client ≡ client) × (call.seq ≡ last))) (sym last_is)
+        (subst (λ (out : Option Call). IfSome out (λ (call : Call). (call.client ≡ client) × (call.seq ≡ session.last)))
+        (sym out_is) orderly.outstanding);
+    rising = subst (AreRisingAbove 0) (sym receipts_are) orderly.rising;
+    seen =
+        subst (λ (seen : ℕ). All (λ (receipt : Receipt). receipt.stamp ≤ seen) now.receipts) (sym seen_is)
+        (subst (All (λ (receipt : Receipt). receipt.stamp ≤ session.seen)) (sym receipts_are) orderly.seen);
+  }
+
+  turned_orderly : (call : Call) (found : Option Located) → IsOrderly client (turn_by session call found).session
+  turned_orderly call None = ranged (looking_up session call).session refl refl refl refl refl
+  turned_orderly call (Some located) = by_count (session.requests == MOST_REQUESTS)
+    where
+      looked_up : IsOrderly client (looking_up session call).session
+      looked_up = ranged (looking_up session call).session refl refl refl refl refl
+
+      by_owner : (owner : Option ℕ) → IsOrderly client (turn_to session call located.tablet owner).session
+      by_owner None = looked_up
+      by_owner (Some master) = ranged (turn_to session call located.tablet (Some master)).session refl refl refl refl refl
+
+      by_count : (most : Bool)
+          → IsOrderly client (cond most (looking_up session call) (turn_to session call located.tablet located.owner)).session
+      by_count true = looked_up
+      by_count false = by_owner located.owner
+
+  turn_orderly : (out : Option Call) (turned : ClientTurn) → turn_of session out ≡ Some turned → IsOrderly client turned.session
+  turn_orderly None turned is = absurd (cc is)
+  turn_orderly (Some call) turned is =
+      let same : turn_by session call (range_of session call) ≡ turned = cc is in
+      subst (λ (turned : ClientTurn). IsOrderly client turned.session) same (turned_orderly call (range_of session call))
+
+  pub asking_orderly : (w : World) (out : Option Call) → IsOrderly client (asking w session out).session
+  asking_orderly w None = orderly
+  asking_orderly w (Some call) = by_fit (fits_with w session call)
+    where
+      by_turn : (turn : Option ClientTurn) → session_turn session ≡ turn → IsOrderly client (asking_by w session call turn).session
+      by_turn None is = orderly
+      by_turn (Some turned) is = turn_orderly session.outstanding turned is
+
+      by_fit : (fits : Bool)
+          → IsOrderly client (cond fits (asking_by w session call (session_turn session)) (untouched w session None)).session
+      by_fit true = by_turn (session_turn session) refl
+      by_fit false = orderly
+
+  -- ---- an answer
+
+  pub done_orderly : (call : Call) (reply : Reply) (outcome : Outcome) → session.outstanding ≡ Some call → session.seen < reply.stamp
+      → IsOrderly client (done session call reply outcome)
+  done_orderly call reply outcome out later =
+      let receipt : Receipt = receipt_of call reply outcome in
+      let its : (call.client ≡ client) × (call.seq ≡ session.last) =
+      subst (λ (o : Option Call). IfSome o (λ call. (call.client ≡ client) × (call.seq ≡ session.last))) out orderly.outstanding in
+      let last = orderly.last in
+      let one = ap waiting out in
+      let seq = its.1 in
+      let joined = length-append session.receipts (receipt ∷ []) in
+      let below : All (λ other. other.stamp < receipt.stamp) session.receipts =
+      All-weaker (λ (r : Receipt). r.stamp ≤ session.seen) (λ (r : Receipt). r.stamp < receipt.stamp)
+      (λ r seen. omega (arith, seen, later)) session.receipts orderly.seen in
+      record {
+        client_is = orderly.client_is;
+        receipts = record {
+          numbered = numbered_push 1 session.receipts receipt orderly.receipts.numbered (omega (arith, seq, last, one));
+          calls = All-push (λ (r : Receipt). r.call.client ≡ client) session.receipts receipt orderly.receipts.calls its.0;
+        };
+        last = omega (arith, last, one, joined);
+        outstanding = tt;
+        rising = rising_push 0 session.receipts receipt orderly.rising (omega (arith, later)) below;
+        seen =
+            All-push (λ (r : Receipt). r.stamp ≤ max session.seen reply.stamp) session.receipts receipt
+            (All-weaker (λ (r : Receipt). r.stamp ≤ session.seen) (λ (r : Receipt). r.stamp ≤ max session.seen reply.stamp)
+            (λ r seen. omega (arith, seen)) session.receipts orderly.seen)
+            (omega arith);
+      }
+
+-- what a client takes of a message of a sound lane
+module _ (client : ℕ) (w : World) (number : ℕ) (session : Session) (sound : IsSound w) (may : MayAct w.coordinator.masters session) (orderly : IsOrderly client session) where
+  module _ (call : Call) (out : session.outstanding ≡ Some call) (asked : is_asked w.ledger session call ≡ true) (own : call.client ≡ session.client) where
+    -- an answer has a stamp above all that its client had seen
+    stamped : (reply : Reply) (outcome : Outcome) → reply.seq ≡ call.seq → IsRecordAt w.ledger.journal session.client reply outcome
+        → session.seen < reply.stamp
+    stamped reply outcome seq_is at =
+        let last : LastCall = record { call = call; seen = session.seen } in
+        let accepts : MayAccept (view w) reply.place = may_accept w number session call sound asked own reply outcome seq_is at in
+        let both : Some accepts.placed ≡ Some at.placed = sym accepts.stands ∙ at.stands in
+        let same : accepts.placed ≡ at.placed = cc both in
+        let asked_last : asked_by w.ledger at.placed.call.client ≡ Some last =
+        ap (asked_by w.ledger) at.client_is ∙ is_last_there w number session call sound asked own in
+        let is : call ≡ at.placed.call =
+        subst (λ (o : Option LastCall). IfSome o (λ (l : LastCall). l.call ≡ at.placed.call)) asked_last
+        (subst (λ (placed : Placed). IfSome (asked_by w.ledger placed.call.client)
+        (λ (l : LastCall). l.call ≡ placed.call)) same accepts.last) in
+        let after =
+        All-contains (λ (placed : Placed). IsAfterSeen
+        (asked_by w.ledger placed.call.client) placed) w.ledger.journal at.placed sound.truth.seen
+        (stands_there w.ledger.journal reply.place at.placed at.stands) in
+        let above : session.seen < at.placed.stamp = subst (λ (o : Option LastCall). IsAfterSeen o at.placed) asked_last after is in
+        let stamp = at.stamp_is in
+        omega (arith, above, stamp)
+
+    by_answer : (reply : Reply) (answer : Answer) → reply.answer ≡ answer
+        → Says w.ledger.journal (nodes.Client session.client) (bodies.Reply reply) → (same : Bool) → (reply.seq == call.seq) ≡ same
+        → IsOrderly client (cond same (answer_accepted session call reply answer) (ignoring session)).session
+    by_answer reply answer is says false differs = orderly
+    by_answer reply (answers.Done outcome) is says true seq_is =
+        done_orderly client session orderly call reply outcome out
+        (stamped reply outcome (eqb-true reply.seq call.seq seq_is) (subst (AnswerFits w.ledger.journal session.client reply) is says))
+    by_answer reply (answers.Moved tablet) is says true seq_is =
+        ranged client session orderly (record (without_range session call) { requests = 0 }) refl refl refl refl refl
+    by_answer reply (answers.NotYet key) is says true seq_is = orderly
+
+    by_range : (located : Located) (has : Bool)
+        → IsOrderly client (cond has (record { session = with_range session (call_lane call) located; taken = takes.Located })
+        (ignoring session)).session
+    by_range located true = ranged client session orderly (with_range session (call_lane call) located) refl refl refl refl refl
+    by_range located false = orderly
+
+    took : (body : Body) → Says w.ledger.journal (nodes.Client session.client) body
+        → IsOrderly client (accepted_by session call body).session
+    took (bodies.Reply reply) says = by_answer reply reply.answer refl says (reply.seq == call.seq) refl
+    took (bodies.Located located) says = by_range located (has_call call located)
+    took body says = orderly
+
+  pub accepting_orderly : (message : Message) → get w.wire.messages number ≡ Some message → is_for session.client message.to ≡ true
+      → IsOrderly client (accepting w session (Some message)).session
+  accepting_orderly message on to = by_out session.outstanding refl
+    where
+      says : Says w.ledger.journal (nodes.Client session.client) message.body
+      says =
+          subst (λ (to : Node). Says w.ledger.journal to message.body) (for_client w number session sound may message.to to)
+          (sound.messages.others number message on)
+
+      by_out : (out : Option Call) → session.outstanding ≡ out
+          → IsOrderly client (cond (asked_by_session w session out) (taking w session message.body)
+          (untouched w session (Some takes.Ignored))).session
+      by_out None none = orderly
+      by_out (Some call) some = by_asked (is_asked w.ledger session call) refl
+        where
+          own : call.client ≡ session.client
+          own = (subst (λ (o : Option Call). IfSome o (λ (c : Call). (c.client ≡ session.client) × (c.seq ≡ session.last))) some may.own).0
+
+          by_asked : (asked : Bool) → is_asked w.ledger session call ≡ asked
+              → IsOrderly client (cond asked (taking w session message.body) (untouched w session (Some takes.Ignored))).session
+          by_asked false is = orderly
+          by_asked true is =
+              subst (λ (o : Option Call). IsOrderly client (accepted_of session o message.body).session) (sym some)
+              (took call some is own message.body says)

@@ -1,0 +1,5 @@
+pub mod Answers
+pub mod Gathered
+pub mod OpenCalls
+pub mod Sessions
+pub mod StoredHistory

@@ -1,9 +1,0 @@
-use Rattle.rk_laws_ready.proofs.Begun.{sound_begun}
-use Rattle.rk_laws_ready.proofs.Prepared.{sound_prepared}
-use Rattle.rk_laws_ready.proofs.laws.taking_orders_keeps_lanes_sound.Goals as goal
-
-pub returns-clause-prepared : goal.returns-clause-prepared
-returns-clause-prepared c = sound_prepared
-
-pub returns-clause-begun : goal.returns-clause-begun
-returns-clause-begun c = sound_begun

@@ -1,0 +1,113 @@
+-- The outstanding call of a client fits its lane: it was asked there last, or it comes next.
+use Rattle.std.proofs.Common.{◌≡◌, ◌==◌, ◌&&◌, ◌+◌, ◌<◌, ℕ, Bool, true, false, not, List, Option, Some, None, length, refl, sym, ap, subst}
+use Rattle.std.proofs.Common.{◌∙◌, ⊎_elim, arith, Contains, IfSome, bytes_eq, nat_lt, eq-eqb, lt-ltb}
+use Rattle.rk_inv_base.proofs.Words.{and_from, or_left, or_right, All-contains, bytes_eq-Decides, Call, Op, Placed, Answered, fits_with}
+use Rattle.rk_inv_base.proofs.Words.{is_asked, is_call, is_last, Session, call_lane, Cluster, lane_at, session_at, is_accepted, asked_by}
+use Rattle.rk_inv_base.proofs.Words.{World, LastCall, IsAccepted, IsLastCall}
+use Rattle.rk_types.specs.declared.call.Op.TheVariants as ops
+use Rattle.rk_world.specs.Calls.{is_next, is_op}
+use Rattle.rk_inv_events.proofs.events.SameCalls.{accepted_found, found_accepted}
+use Rattle.rk_runs.specs.history.Agreement.{Agrees, IsLastKnown, IsOutstanding, IsToldBy, waiting}
+use Rattle.rk_runs.proofs.history.Clusters.{IsGood, IsGoodLane, ledgers_of}
+use Rattle.rk_runs.proofs.history.Receipts.{seqs_within}
+
+-- ---- a call is tested to be itself
+
+bytes_same : (bytes : List ℕ) → bytes_eq bytes bytes ≡ true
+bytes_same bytes = (bytes_eq-Decides bytes bytes).1 refl
+
+op_same : (op : Op) → is_op op op ≡ true
+op_same ops.Get = refl
+op_same (ops.Put value) = bytes_same value
+op_same (ops.CondPut expected value) = and_from (expected == expected) _ (eq-eqb expected expected refl) (bytes_same value)
+op_same ops.Delete = refl
+
+call_same : (call : Call) → is_call call call ≡ true
+call_same call =
+    and_from (call.client == call.client && (call.seq == call.seq) && (call.table == call.table) && bytes_eq call.key call.key) _
+    (and_from (call.client == call.client && (call.seq == call.seq) && (call.table == call.table)) _
+    (and_from (call.client == call.client && (call.seq == call.seq)) _
+    (and_from (call.client == call.client) _ (eq-eqb call.client call.client refl) (eq-eqb call.seq call.seq refl))
+    (eq-eqb call.table call.table refl))
+    (bytes_same call.key))
+    (op_same call.op)
+
+-- the last call is one that is this
+last_same : (call : Call) (session : Session) (last : LastCall) → IsOutstanding session last → session.outstanding ≡ Some call
+    → is_last call session.seen (Some last) ≡ true
+last_same call session last is out =
+    let both : Some last.call ≡ Some call = sym is.call_is ∙ out in
+    let same : last.call ≡ call = cc both in
+    and_from (is_call last.call call) _ (subst (λ (c : Call). is_call c call ≡ true) (sym same) (call_same call))
+    (eq-eqb last.seen session.seen is.seen_is)
+
+module _ (Steady : World → Type 0) (masters : ℕ) (cluster : Cluster) (good : IsGood Steady masters cluster) (lane client : ℕ) (within : lane < length cluster.lanes) (call : Call) (out : (session_at cluster client).outstanding ≡ Some call) (here : call_lane call ≡ lane) where
+  abbrev w : World
+  w = lane_at cluster lane
+
+  abbrev session : Session
+  session = session_at cluster client
+
+  agrees : Agrees (ledgers_of cluster) client session
+  agrees = good.agree client
+
+  lane_good : IsGoodLane Steady masters lane w
+  lane_good = good.lanes lane within
+
+  -- the call comes after all that were answered
+  seq_is : call.seq ≡ length session.receipts + 1
+  seq_is =
+      (subst (λ (o : Option Call). IfSome o (λ c. (c.client ≡ client) × (c.seq ≡ session.last))) out agrees.outstanding).1
+      ∙ agrees.last ∙ ap (λ (o : Option Call). length session.receipts + waiting o) out
+
+  -- so it comes after each call of its client whose record is accepted
+  accepted_before : (placed : Placed) → Contains w.ledger.journal placed → placed.accepted ≡ true → placed.call.client ≡ client → placed.call.seq < call.seq
+  accepted_before placed stands accepted own =
+      let told : IsToldBy session.receipts lane placed =
+      All-contains (λ (p : Placed). p.accepted ≡ true → p.call.client ≡ client → IsToldBy session.receipts lane p) w.ledger.journal placed
+      (agrees.told lane) stands accepted own in
+      let seqs = seqs_within 1 session.receipts agrees.numbered told.receipt told.stands in
+      let same : told.receipt.call.seq ≡ placed.call.seq = ap (λ (answered : Answered). answered.call.seq) told.tells in
+      omega (arith, seqs.1, same, seq_is)
+
+  -- and has no accepted record itself
+  not_accepted : not (is_accepted w.ledger.journal session.client call.seq) ≡ true
+  not_accepted = go (is_accepted w.ledger.journal session.client call.seq) refl
+    where
+      go : (found : Bool) → is_accepted w.ledger.journal session.client call.seq ≡ found → not found ≡ true
+      go false is = refl
+      go true is =
+          let it = found_accepted w.ledger.journal session.client call.seq is in
+          absurd (omega (arith, accepted_before it.placed it.stands it.accepted (it.client_is ∙ agrees.own), it.seq_is))
+
+  -- a lane whose last call of the client is accepted takes the call
+  next_after : (last : LastCall) → IsLastCall w.base w.lane session.client last → IsAccepted w.ledger.journal last.call → is_next w.ledger session call (Some last) ≡ true
+  next_after last is accepted =
+      let own : accepted.placed.call.client ≡ client = ap (λ (c : Call). c.client) accepted.call_is ∙ is.own ∙ agrees.own in
+      let seq : accepted.placed.call.seq ≡ last.call.seq = ap (λ (c : Call). c.seq) accepted.call_is in
+      let before : last.call.seq < call.seq = omega (arith, accepted_before accepted.placed accepted.stands accepted.accepted own, seq) in
+      and_from (nat_lt last.call.seq call.seq) _ (lt-ltb last.call.seq call.seq before)
+      (subst (λ (c : ℕ). is_accepted w.ledger.journal c last.call.seq ≡ true) is.own (accepted_found w.ledger.journal last.call accepted))
+
+  comes_next : (last : Option LastCall) → asked_by w.ledger session.client ≡ last → is_next w.ledger session call last ≡ true → fits_with w session call ≡ true
+  comes_next last is next =
+      or_right (is_asked w.ledger session call) (call_lane call == w.lane && is_next w.ledger session call (asked_by w.ledger session.client))
+      (and_from (call_lane call == w.lane) _ (eq-eqb (call_lane call) w.lane (here ∙ sym lane_good.lane_is))
+      (ap (is_next w.ledger session call) is ∙ next))
+
+  fits_last : (last : Option LastCall) → asked_by w.ledger session.client ≡ last → IsLastKnown w.ledger.journal session last → IfSome last (IsLastCall w.base w.lane session.client)
+      → fits_with w session call ≡ true
+  fits_last None is known own = comes_next None is refl
+  fits_last (Some last) is known own =
+      ⊎_elim (λ (accepted : IsAccepted w.ledger.journal last.call). comes_next (Some last) is (next_after last own accepted))
+      (λ (asked : IsOutstanding session last).
+      or_left (is_asked w.ledger session call) (call_lane call == w.lane && is_next w.ledger session call (asked_by w.ledger session.client))
+      (and_from (is_last call session.seen (asked_by w.ledger session.client)) _
+      (ap (is_last call session.seen) is ∙ last_same call session last asked out) not_accepted))
+      known
+
+  pub fits : fits_with w session call ≡ true
+  fits =
+      fits_last (asked_by w.ledger session.client) refl
+      (subst (λ (c : ℕ). IsLastKnown w.ledger.journal session (asked_by w.ledger c)) (sym agrees.own) (agrees.asked lane))
+      (lane_good.sound.asked.last session.client)

@@ -1,0 +1,184 @@
+-- Once one crash is noticed, each master that has crashed was noticed, until the next one crashes.
+use Rattle.std.proofs.Common.{◌≡◌, ◌==◌, ◌&&◌, ◌≤◌, ◌<◌, ◌+◌, ℕ, zero, suc, Bool, true, false, List, [], ◌∷◌, ◌++◌, fold, Option, Some}
+use Rattle.std.proofs.Common.{None, refl, sym, ap, subst, ◌∙◌, ⊎_elim, append-nil, append_assoc, arith, All, filter, not, eq-eqb, eqb-true}
+use Rattle.rk_inv_base.proofs.Words.{and_from, cases_eq, cond_both, false≢true, or_cases, or_left, or_right, All-contains}
+use Rattle.rk_inv_base.proofs.Words.{Any-from_list_any, list_any-append, list_any, range_with_len, row_of, Phase, Owned, Opening, Moving}
+use Rattle.rk_inv_base.proofs.Words.{Rebuilding, Row, Called, accept, ask, Session, Coordinator, is_noticed, told_coordinator, IsWellFormed}
+use Rattle.rk_inv_base.proofs.Words.{migrating, row_migrated, tablet_migrated, coordinator_notice, notice_one, notice_order, IsMaster}
+use Rattle.rk_inv_base.proofs.Words.{refusal, world_stepped, world_visited, rows_split, rows_split_of, happened, step, stepped_by, World}
+use Rattle.rk_inv_base.proofs.Words.{crashed_masters, has_crashed, new_world, StepError, Event}
+use Rattle.rk_types.specs.NumberMap.{numbers}
+use Rattle.rk_world.specs.declared.event.Event.TheVariants as events
+use Rattle.rk_world.specs.Notices.{is_named}
+use Rattle.rk_runs.specs.duties.Owners.{AllNoticed, is_crash}
+use Rattle.rk_runs.proofs.duties.Reports.{told_same}
+use Rattle.rk_runs.proofs.duties.Walks.{EventKeeps, IsKept, Part, accept_keeps, ask_keeps, event_keeps}
+
+-- ---- lists of masters
+
+-- whether a master is among these
+abbrev is_in : List ℕ → ℕ → Bool
+is_in list master = list_any (λ other. other == master) list
+
+in_left : (xs ys : List ℕ) (master : ℕ) → is_in xs master ≡ true → is_in (xs ++ ys) master ≡ true
+in_left xs ys master inside = list_any-append (λ (other : ℕ). other == master) xs ys ∙ or_left (is_in xs master) (is_in ys master) inside
+
+in_right : (xs ys : List ℕ) (master : ℕ) → is_in ys master ≡ true → is_in (xs ++ ys) master ≡ true
+in_right xs ys master inside = list_any-append (λ (other : ℕ). other == master) xs ys ∙ or_right (is_in xs master) (is_in ys master) inside
+
+-- it is among those that pass a test that it passes
+in_filter : (test : ℕ → Bool) (list : List ℕ) (master : ℕ) → test master ≡ true → is_in list master ≡ true → is_in (filter test list) master ≡ true
+in_filter test [] master passes inside = inside
+in_filter test (first ∷ rest) master passes inside =
+    cond_both (test first) (first ∷ filter test rest) (filter test rest) (λ (list : List ℕ). is_in list master ≡ true)
+    (λ e.
+    ⊎_elim (λ (here : (first == master) ≡ true). or_left (first == master) (is_in (filter test rest) master) here)
+    (λ (later : is_in rest master ≡ true). or_right (first == master) (is_in (filter test rest) master) (in_filter test rest master passes later))
+    (or_cases (first == master) (is_in rest master) inside))
+    (λ e.
+    ⊎_elim (λ (here : (first == master) ≡ true). absurd (false≢true (sym e ∙ ap test (eqb-true first master here) ∙ passes)))
+    (λ (later : is_in rest master ≡ true). in_filter test rest master passes later)
+    (or_cases (first == master) (is_in rest master) inside))
+
+in_range : (start count master : ℕ) → start ≤ master → master < start + count → is_in (range_with_len start count) master ≡ true
+in_range start zero master from to = absurd (omega (arith, from, to))
+in_range start (suc count) master from to =
+    ⊎_elim
+    (λ (is : start ≡ master). or_left (start == master) (is_in (range_with_len (start + 1) count) master) (eq-eqb start master is))
+    (λ (apart : start ≡ master → ⊥).
+    or_right (start == master) (is_in (range_with_len (start + 1) count) master)
+    (in_range (start + 1) count master (omega (arith, from, apart)) (omega (arith, to)))) (cases_eq start master)
+
+-- what all have, it has
+of_all : (P : ℕ → Type 0) (list : List ℕ) (master : ℕ) → All P list → is_in list master ≡ true → P master
+of_all P list master all inside =
+    let found = Any-from_list_any (λ (other : ℕ). other == master) list inside in
+    subst P (eqb-true found.1 master found.4) (All-contains P list found.1 all (found.0, found.2, found.3))
+
+-- ---- notices
+
+-- all that are noticed in some order are added to those that were
+noticed_after : (coordinator : Coordinator) (order : List ℕ) → (fold notice_one coordinator order).noticed ≡ coordinator.noticed ++ order
+noticed_after coordinator [] = sym (append-nil coordinator.noticed)
+noticed_after coordinator (dead ∷ order) =
+    noticed_after (notice_one coordinator dead) order ∙ append_assoc coordinator.noticed (dead ∷ []) order
+
+-- the order of the notices leaves nobody out
+in_order : (rows : List Row) (dead : ℕ) (crashed : List ℕ) (master : ℕ) → is_in crashed master ≡ true → is_in (notice_order rows dead crashed) master ≡ true
+in_order rows dead crashed master inside = go (is_named rows master) (master == dead) refl refl
+  where
+    free : List ℕ
+    free = filter (λ m. not (is_named rows m)) crashed
+
+    others : List ℕ
+    others = filter (λ m. is_named rows m && not (m == dead)) crashed
+
+    itself : List ℕ
+    itself = filter (λ m. is_named rows m && (m == dead)) crashed
+
+    go : (named same : Bool) → is_named rows master ≡ named → (master == dead) ≡ same → is_in (free ++ (others ++ itself)) master ≡ true
+    go false same is e = in_left free (others ++ itself) master (in_filter (λ m. not (is_named rows m)) crashed master (ap not is) inside)
+    go true false is e =
+        in_right free (others ++ itself) master
+        (in_left others itself master
+        (in_filter (λ m. is_named rows m && not (m == dead)) crashed master (and_from (is_named rows master) _ is (ap not e)) inside))
+    go true true is e =
+        in_right free (others ++ itself) master
+        (in_right others itself master
+        (in_filter (λ m. is_named rows m && (m == dead)) crashed master (and_from (is_named rows master) _ is e) inside))
+
+module _ (w : World) where
+  abbrev order : ℕ → List ℕ
+  order dead = notice_order w.coordinator.rows dead (filter (λ other. not (is_noticed w.coordinator other)) (crashed_masters w))
+
+  -- who was noticed before is noticed then
+  noticed_still : (dead master : ℕ) → is_noticed w.coordinator master ≡ true → is_noticed (coordinator_notice w.coordinator dead (crashed_masters w)) master ≡ true
+  noticed_still dead master was =
+      subst (λ (list : List ℕ). is_in list master ≡ true) (sym (noticed_after w.coordinator (order dead)))
+      (in_left w.coordinator.noticed (order dead) master was)
+
+  module _ (formed : IsWellFormed w) where
+    -- a master that has crashed is one of the lane's
+    crashed_there : (master : ℕ) → has_crashed w master ≡ true → is_in (crashed_masters w) master ≡ true
+    crashed_there master crashed =
+        let there : IsMaster w.coordinator.masters master = of_all (IsMaster w.coordinator.masters) w.crashed master formed.crashed crashed in
+        in_filter (has_crashed w) (numbers w.masters) master crashed
+        (subst (λ (list : List ℕ). is_in list master ≡ true) (sym formed.masters_are)
+        (in_range 1 w.coordinator.masters master there.first (omega (arith, there.last))))
+
+    -- so each of them is noticed then
+    pub all_noticed : (dead : ℕ) (called : Called) → AllNoticed (happened w (events.Notice dead) called).world
+    all_noticed dead called master crashed = go (is_noticed w.coordinator master) refl
+      where
+        go : (b : Bool) → is_noticed w.coordinator master ≡ b → is_noticed (coordinator_notice w.coordinator dead (crashed_masters w)) master ≡ true
+        go true was = noticed_still dead master was
+        go false was =
+            subst (λ (list : List ℕ). is_in list master ≡ true) (sym (noticed_after w.coordinator (order dead)))
+            (in_right w.coordinator.noticed (order dead) master
+            (in_order w.coordinator.rows dead (filter (λ other. not (is_noticed w.coordinator other)) (crashed_masters w)) master
+            (in_filter (λ other. not (is_noticed w.coordinator other)) (crashed_masters w) master (ap not was) (crashed_there master crashed))))
+
+-- ---- until the next crash
+
+migrated_same : (coordinator : Coordinator) (found : Option Row) (to : ℕ) → (row_migrated coordinator found to).noticed ≡ coordinator.noticed
+migrated_same coordinator None to = refl
+migrated_same coordinator (Some row) to = go row.phase
+  where
+    go : (phase : Phase) → (migrating coordinator row phase to).noticed ≡ coordinator.noticed
+    go (Owned master from) = refl
+    go (Opening source sfrom target dfrom) = refl
+    go (Moving source sfrom target dfrom) = refl
+    go (Rebuilding lineage at) = refl
+
+split_same : (coordinator : Coordinator) (found : Option Row) (at new : ℕ) → (rows_split_of coordinator found at new).noticed ≡ coordinator.noticed
+split_same coordinator None at new = refl
+split_same coordinator (Some row) at new = refl
+
+-- each of these was noticed
+abbrev AreNoticed : Part
+AreNoticed crashed coordinator = (master : ℕ) → is_in crashed master ≡ true → is_noticed coordinator master ≡ true
+
+module _ (w : World) (all : AllNoticed w) where
+  same : (coordinator : Coordinator) → coordinator.noticed ≡ w.coordinator.noticed → AreNoticed w.crashed coordinator
+  same coordinator is master crashed = ap (λ (list : List ℕ). is_in list master) is ∙ all master crashed
+
+  kept : IsKept AreNoticed w
+  kept = record {
+    now = all;
+    hears = λ sender body. same (told_coordinator w.coordinator sender body).coordinator (told_same w.coordinator sender body);
+    moves = λ tablet to. same (tablet_migrated w.coordinator tablet to) (migrated_same w.coordinator (row_of w.coordinator.rows tablet) to);
+    splits = λ tablet at new. same (rows_split w.coordinator tablet at new) (split_same w.coordinator (row_of w.coordinator.rows tablet) at new);
+    notices = λ dead master crashed. noticed_still w dead master (all master crashed);
+  }
+
+  comes : (event : Event) → is_crash event ≡ false → EventKeeps AreNoticed w event
+  comes (events.AddTablet tablet range master) calm = all
+  comes (events.AddClient client) calm = tt
+  comes (events.Deliver number) calm = tt
+  comes (events.Forget number) calm = tt
+  comes (events.Turn node) calm = tt
+  comes (events.Again client) calm = tt
+  comes (events.Migrate tablet to) calm = tt
+  comes (events.Split tablet at new) calm = tt
+  comes (events.Crash master) calm = absurd (cc calm)
+  comes (events.Notice master) calm = tt
+
+  -- an event
+  pub stepped_noticed : (event : Event) (called : Called) → is_crash event ≡ false → AllNoticed (world_stepped w (step w event called))
+  stepped_noticed event called calm = go (refusal w event)
+    where
+      go : (refused : Option StepError) → AllNoticed (world_stepped w (stepped_by w event called refused))
+      go None = event_keeps AreNoticed w kept event called (comes event calm)
+      go (Some error) = all
+
+  -- a client's turn
+  pub asked_noticed : (session : Session) → AllNoticed (world_visited w (ask w session))
+  asked_noticed session = ask_keeps AreNoticed w all session
+
+  -- an answer
+  pub accepted_noticed : (number : ℕ) (session : Session) → AllNoticed (world_visited w (accept w number session))
+  accepted_noticed number session = accept_keeps AreNoticed w all number session
+
+-- in a lane where nothing happened nobody has crashed
+pub new_noticed : (lane masters backups : ℕ) → AllNoticed (new_world lane masters backups)
+new_noticed lane masters backups master crashed = absurd (false≢true crashed)

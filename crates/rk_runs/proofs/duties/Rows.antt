@@ -1,0 +1,166 @@
+-- No event gives a row to a master that was noticed dead.
+use Rattle.std.proofs.Common.{◌≡◌, ◌==◌, ◌||◌, ℕ, Bool, true, false, List, [], ◌∷◌, ◌++◌, fold, Option, Some, None, refl, sym, ap, subst}
+use Rattle.std.proofs.Common.{◌∙◌, All, filter, not, option_map, ne_eqb}
+use Rattle.std.proofs.lemmas.Bool.{eqb-false}
+use Rattle.rk_inv_base.proofs.Words.{cond_both, false≢true, All-contains, All-map, All-nil, All-weaker, list_any-append, list_any_none}
+use Rattle.rk_inv_base.proofs.Words.{list_any, Range, add_fault, changed_rows, divided, lower_part, replaced, row_of, upper_part, Phase}
+use Rattle.rk_inv_base.proofs.Words.{Owned, Opening, Moving, Rebuilding, Row, Called, accept, ask, Session, Coordinator, is_noticed}
+use Rattle.rk_inv_base.proofs.Words.{new_row, migrating, row_migrated, notice_one, notice_order, phase_noticed, row_noticed, refusal}
+use Rattle.rk_inv_base.proofs.Words.{where_true, world_stepped, world_visited, rows_split_of, step, stepped_by, World, crashed_masters}
+use Rattle.rk_inv_base.proofs.Words.{has_crashed, new_world, StepError, Event}
+use Rattle.rk_tablet_map.specs.Rows.{split_rows}
+use Rattle.rk_world.specs.declared.error.StepError.TheVariants as errors
+use Rattle.rk_world.specs.declared.event.Event.TheVariants as events
+use Rattle.rk_inv_wellformed.proofs.lanes.Events.{does_not_hold, has_no_fault, no_first}
+use Rattle.rk_inv_wellformed.proofs.coordinator.Rows.{all_found, all_placed, all_replaced}
+use Rattle.rk_inv_base.proofs.views.Lists.{all_by}
+use Rattle.rk_runs.specs.duties.Owners.{IsNotOwnedBy, NoDeadOwner}
+use Rattle.rk_runs.proofs.duties.Reports.{AreNotOwnedBy, changed_free, told_free}
+use Rattle.rk_runs.proofs.duties.Walks.{EventKeeps, IsKept, Part, accept_keeps, ask_keeps, event_keeps}
+
+-- ---- a crash is noticed
+
+module _ (coordinator : Coordinator) (dead : ℕ) where
+  abbrev marked : Coordinator
+  marked = record coordinator { noticed = coordinator.noticed ++ dead ∷ [] }
+
+  -- another master that was not noticed is not noticed then
+  still_heard : (master : ℕ) → is_noticed coordinator master ≡ false → (master == dead) ≡ false → is_noticed marked master ≡ false
+  still_heard master heard apart =
+      let other : (dead == master) ≡ false = ne_eqb dead master (λ is. eqb-false master dead apart (sym is)) in
+      list_any-append (λ (noticed : ℕ). noticed == master) coordinator.noticed (dead ∷ [])
+      ∙ ap (λ (b : Bool). b || list_any (λ (noticed : ℕ). noticed == master) (dead ∷ [])) heard
+      ∙ ap (λ (b : Bool). b || false) other
+
+  -- each row is rebuilt, or stays as it is
+  row_free : (row : Row) (phase : Phase) → row.phase ≡ phase → IsNotOwnedBy coordinator.noticed phase → IsNotOwnedBy marked.noticed (row_noticed row (phase_noticed marked dead phase)).phase
+  row_free row (Owned master from) is heard =
+      cond_both (master == dead) _ None (λ (new : Option Phase). IsNotOwnedBy marked.noticed (row_noticed row new).phase) (λ e. tt)
+      (λ e. subst (IsNotOwnedBy marked.noticed) (sym is) (still_heard master heard e))
+  row_free row (Opening source sfrom target dfrom) is heard =
+      cond_both (source == dead) _ _ (λ (new : Option Phase). IsNotOwnedBy marked.noticed (row_noticed row new).phase) (λ e. tt)
+      (λ e. cond_both (target == dead) _ None (λ (new : Option Phase). IsNotOwnedBy marked.noticed (row_noticed row new).phase) (λ f. tt)
+      (λ f. subst (IsNotOwnedBy marked.noticed) (sym is) tt))
+  row_free row (Moving source sfrom target dfrom) is heard =
+      cond_both (source == dead) _ _ (λ (new : Option Phase). IsNotOwnedBy marked.noticed (row_noticed row new).phase) (λ e. tt)
+      (λ e. cond_both (target == dead) _ None (λ (new : Option Phase). IsNotOwnedBy marked.noticed (row_noticed row new).phase) (λ f. tt)
+      (λ f. subst (IsNotOwnedBy marked.noticed) (sym is) tt))
+  row_free row (Rebuilding lineage to) is heard =
+      cond_both (to == dead) _ None (λ (new : Option Phase). IsNotOwnedBy marked.noticed (row_noticed row new).phase) (λ e. tt)
+      (λ e. subst (IsNotOwnedBy marked.noticed) (sym is) tt)
+
+  notice_free : NoDeadOwner coordinator → NoDeadOwner (notice_one coordinator dead)
+  notice_free free =
+      All-map (λ (row : Row). IsNotOwnedBy marked.noticed row.phase) (λ (row : Row). row_noticed row (phase_noticed marked dead row.phase)) coordinator.rows
+      (all_by (λ (row : Row). IsNotOwnedBy marked.noticed (row_noticed row (phase_noticed marked dead row.phase)).phase) coordinator.rows
+      (λ row stands.
+      row_free row row.phase refl (All-contains (λ (r : Row). IsNotOwnedBy coordinator.noticed r.phase) coordinator.rows row free stands)))
+
+notices_free : (order : List ℕ) (coordinator : Coordinator) → NoDeadOwner coordinator → NoDeadOwner (fold notice_one coordinator order)
+notices_free [] coordinator free = free
+notices_free (dead ∷ order) coordinator free = notices_free order (notice_one coordinator dead) (notice_free coordinator dead free)
+
+-- ---- a tablet moves, or is split
+
+module _ (coordinator : Coordinator) (free : NoDeadOwner coordinator) where
+  migrated_free : (found : Option Row) (to : ℕ) → NoDeadOwner (row_migrated coordinator found to)
+  migrated_free None to = free
+  migrated_free (Some row) to = go row.phase
+    where
+      go : (phase : Phase) → NoDeadOwner (migrating coordinator row phase to)
+      go (Owned master from) =
+          changed_free coordinator.noticed coordinator.rows row.tablet _ (Opening master from to None) tt free
+      go (Opening source sfrom target dfrom) = free
+      go (Moving source sfrom target dfrom) = free
+      go (Rebuilding lineage at) = free
+
+  abbrev HasNone : Row → Type 0
+  HasNone row = IsNotOwnedBy coordinator.noticed row.phase
+
+  divided_free : (tablet at new : ℕ) (found : Option Row) → row_of coordinator.rows tablet ≡ found → AreNotOwnedBy coordinator.noticed (divided found coordinator.rows tablet at new)
+  divided_free tablet at new None is = free
+  divided_free tablet at new (Some row) is =
+      let none : HasNone row = all_found HasNone row tablet coordinator.rows is free in
+      all_placed HasNone (upper_part row at new) (replaced tablet (lower_part row at) coordinator.rows) none
+      (all_replaced HasNone (lower_part row at) tablet coordinator.rows none free)
+
+  split_free : (tablet at new : ℕ) (found : Option Row) → row_of coordinator.rows tablet ≡ found → NoDeadOwner (rows_split_of coordinator found at new)
+  split_free tablet at new None is = free
+  split_free tablet at new (Some row) is =
+      let none : HasNone row = all_found HasNone row tablet coordinator.rows is free in
+      let parts = divided_free row.tablet at new (row_of coordinator.rows row.tablet) refl in
+      changed_free coordinator.noticed (changed_rows (split_rows coordinator.rows row.tablet at new) row.tablet _ row.phase) new _ row.phase none
+      (changed_free coordinator.noticed (split_rows coordinator.rows row.tablet at new) row.tablet _ row.phase none parts)
+
+-- ---- lanes
+
+-- no row of a lane is owned by a master that was noticed dead
+abbrev pub IsFree : World → Type 0
+IsFree w = NoDeadOwner w.coordinator
+
+abbrev HasFreeRows : Part
+HasFreeRows crashed coordinator = NoDeadOwner coordinator
+
+module _ (w : World) (free : IsFree w) where
+  kept : IsKept HasFreeRows w
+  kept = record {
+    now = free;
+    hears = λ sender body. told_free w.coordinator free sender body;
+    moves = λ tablet to. migrated_free w.coordinator free (row_of w.coordinator.rows tablet) to;
+    splits = λ tablet at new. split_free w.coordinator free tablet at new (row_of w.coordinator.rows tablet) refl;
+    notices = λ master.
+        notices_free
+        (notice_order w.coordinator.rows master (filter (λ other. not (is_noticed w.coordinator other)) (crashed_masters w)))
+        w.coordinator free;
+  }
+
+  -- a client's turn
+  pub asked_free : (session : Session) → IsFree (world_visited w (ask w session))
+  asked_free session = ask_keeps HasFreeRows w free session
+
+  -- an answer
+  pub accepted_free : (number : ℕ) (session : Session) → IsFree (world_visited w (accept w number session))
+  accepted_free number session = accept_keeps HasFreeRows w free number session
+
+  module _ (gone : All (λ dead. has_crashed w dead ≡ true) w.coordinator.noticed) where
+    -- a master that lives was not noticed, where each one that was noticed has crashed
+    lives_heard : (master : ℕ) → has_crashed w master ≡ false → is_noticed w.coordinator master ≡ false
+    lives_heard master lives =
+        list_any_none (λ (noticed : ℕ). noticed == master) w.coordinator.noticed
+        (All-weaker (λ (dead : ℕ). has_crashed w dead ≡ true) (λ (noticed : ℕ). (noticed == master) ≡ false)
+        (λ noticed crashed. ne_eqb noticed master (λ same. false≢true (sym lives ∙ ap (has_crashed w) (sym same) ∙ crashed)))
+        w.coordinator.noticed gone)
+
+    added_heard : (tablet : ℕ) (range : Range) (master : ℕ) → refusal w (events.AddTablet tablet range master) ≡ None → is_noticed w.coordinator master ≡ false
+    added_heard tablet range master none =
+        lives_heard master
+        (does_not_hold (has_crashed w master) (errors.Dead master)
+        (no_first (where_true (has_crashed w master) (errors.Dead master)) (option_map errors.Map (add_fault w.coordinator.rows (new_row tablet range master)))
+        (has_no_fault w (events.AddTablet tablet range master) none)))
+
+    -- so a new tablet is that of a master that was not noticed
+    comes : (event : Event) → refusal w event ≡ None → EventKeeps HasFreeRows w event
+    comes (events.AddTablet tablet range master) none =
+        all_placed (λ (row : Row). IsNotOwnedBy w.coordinator.noticed row.phase) (new_row tablet range master) w.coordinator.rows
+        (added_heard tablet range master none) free
+    comes (events.AddClient client) none = tt
+    comes (events.Deliver number) none = tt
+    comes (events.Forget number) none = tt
+    comes (events.Turn node) none = tt
+    comes (events.Again client) none = tt
+    comes (events.Migrate tablet to) none = tt
+    comes (events.Split tablet at new) none = tt
+    comes (events.Crash master) none = free
+    comes (events.Notice master) none = tt
+
+    -- an event
+    pub stepped_free : (event : Event) (called : Called) → IsFree (world_stepped w (step w event called))
+    stepped_free event called = go (refusal w event) refl
+      where
+        go : (refused : Option StepError) → refusal w event ≡ refused → IsFree (world_stepped w (stepped_by w event called refused))
+        go None none = event_keeps HasFreeRows w kept event called (comes event none)
+        go (Some error) none = free
+
+-- a lane where nothing happened has no rows
+pub new_free : (lane masters backups : ℕ) → IsFree (new_world lane masters backups)
+new_free lane masters backups = All-nil _

@@ -1,0 +1,371 @@
+-- A session and the ledgers of the lanes agree still, whatever happens to one of them.
+use Rattle.std.proofs.Common.{◌≡◌, ℕ, zero, suc, ◌+◌, ◌<◌, ◌≤◌, max, true, false, List, [], ◌∷◌, ◌++◌, Option, Some, None, length, refl}
+use Rattle.std.proofs.Common.{sym, ap, subst, ◌∙◌, ⊎_elim, arith, inl, inr, IfSome, slice_get, slice_set}
+use Rattle.std.proofs.lemmas.List.{length_push}
+use Rattle.rk_inv_base.proofs.Words.{cases_eq, false≢true, All-append, All-contains, All-push, All-weaker, Contains-append_left}
+use Rattle.rk_inv_base.proofs.Words.{Contains-push, none-some, Call, Op, Outcome, Placed, Receipt, slice_get_front, Located, Reply, Message}
+use Rattle.rk_inv_base.proofs.Words.{Session, call_lane, as_accepted, Ledger, asked_by, LastCall, IsAccepted}
+use Rattle.rk_model.proofs.Places.{all_from_places}
+use Rattle.rk_world.specs.Client.{done, receipt_of, with_next_call}
+use Rattle.rk_inv_base.proofs.calls.SameRecords.{IsSameRecord, accepted_cases, accepted_same, record_after}
+use Rattle.rk_runs.specs.history.Agreement.{Agrees, AreTold, IsLastKnown, IsOutstanding, IsRecordedIn, IsToldBy, waiting}
+use Rattle.rk_runs.proofs.history.GoesOn.{Grows}
+use Rattle.rk_runs.proofs.history.Receipts.{numbered_push, place_of, rising_push, stands_at}
+
+-- ---- one ledger is another
+
+-- the ledger of one lane is this, and each other one is as it was
+pub record ChangesAt (before after : ℕ → Ledger) (lane : ℕ) (new : Ledger) : Type 0 where
+  pub here : after lane ≡ new
+  pub others : (q : ℕ) → (q ≡ lane → ⊥) → after q ≡ before q
+
+pub at_lane : (before after : ℕ → Ledger) (lane : ℕ) (new : Ledger) → ChangesAt before after lane new → (P : Ledger → Type 0) (q : ℕ) → (q ≡ lane → P new) → ((q ≡ lane → ⊥) → P (before q)) → P (after q)
+at_lane before after lane new changes P q here other =
+    ⊎_elim (λ (is : q ≡ lane). subst P (sym (ap after is ∙ changes.here)) (here is))
+    (λ (apart : q ≡ lane → ⊥). subst P (sym (changes.others q apart)) (other apart)) (cases_eq q lane)
+
+-- a record that stands in the first part of a journal stands in the whole
+still_accepted : (some more : List Placed) (call : Call) → IsAccepted some call → IsAccepted (some ++ more) call
+still_accepted some more call accepted = record {
+  placed = accepted.placed;
+  stands = Contains-append_left some more accepted.placed accepted.stands;
+  call_is = accepted.call_is;
+  accepted = accepted.accepted;
+}
+
+-- what was known of a last call is known where the records that are accepted are so still
+known_on : (before after : List Placed) (session : Session) (last : Option LastCall) → ((call : Call) → IsAccepted before call → IsAccepted after call) → IsLastKnown before session last → IsLastKnown after session last
+known_on before after session None on known = tt
+known_on before after session (Some last) on known =
+    ⊎_elim (λ (accepted : IsAccepted before last.call). inl (on last.call accepted)) (λ (out : IsOutstanding session last). inr out) known
+
+module _ (before after : ℕ → Ledger) (lane : ℕ) (new : Ledger) (changes : ChangesAt before after lane new) (client : ℕ) (session : Session) (agrees : Agrees before client session) where
+  -- a journal that grows
+  pub agrees_grown : Grows client (before lane) new → Agrees after client session
+  agrees_grown grows = record {
+    own = agrees.own;
+    numbered = agrees.numbered;
+    own_calls = agrees.own_calls;
+    last = agrees.last;
+    outstanding = agrees.outstanding;
+    rising = agrees.rising;
+    seen = agrees.seen;
+    recorded =
+        All-weaker (IsRecordedIn before) (IsRecordedIn after)
+        (λ (receipt : Receipt) at.
+        let placed : Placed = record { call = receipt.call; outcome = receipt.outcome; stamp = receipt.stamp; accepted = true } in
+        at_lane before after lane new changes (λ ledger. slice_get ledger.journal receipt.place ≡ Some placed) receipt.lane
+        (λ is.
+        ap (λ (list : List Placed). slice_get list receipt.place) grows.journal_is
+        ∙ slice_get_front (before lane).journal grows.more receipt.place placed
+        (subst (λ (q : ℕ). slice_get (before q).journal receipt.place ≡ Some placed) is at))
+        (λ apart. at)) session.receipts agrees.recorded;
+    told = λ q.
+        at_lane before after lane new changes (λ ledger. AreTold session.receipts client q ledger.journal) q
+        (λ is.
+        subst (λ (list : List Placed). AreTold session.receipts client q list) (sym grows.journal_is)
+        (All-append (λ (placed : Placed). placed.accepted ≡ true → placed.call.client ≡ client → IsToldBy session.receipts q placed)
+        (before lane).journal grows.more
+        (subst (λ (l : ℕ). AreTold session.receipts client q (before l).journal) is (agrees.told q))
+        (All-weaker (λ (placed : Placed). placed.accepted ≡ false)
+        (λ (placed : Placed). placed.accepted ≡ true → placed.call.client ≡ client → IsToldBy session.receipts q placed)
+        (λ placed none accepted own. absurd (false≢true (sym none ∙ accepted))) grows.more grows.unaccepted)))
+        (λ apart. agrees.told q);
+    asked = λ q.
+        at_lane before after lane new changes (λ ledger. IsLastKnown ledger.journal session (asked_by ledger client)) q
+        (λ is.
+        subst (λ (last : Option LastCall). IsLastKnown new.journal session last) (sym grows.asked)
+        (subst (λ (list : List Placed). IsLastKnown list session (asked_by (before lane) client)) (sym grows.journal_is)
+        (known_on (before lane).journal ((before lane).journal ++ grows.more) session (asked_by (before lane) client)
+        (still_accepted (before lane).journal grows.more)
+        (subst (λ (l : ℕ). IsLastKnown (before l).journal session (asked_by (before l) client)) is (agrees.asked q)))))
+        (λ apart. agrees.asked q);
+  }
+
+  -- a client asks its outstanding call there
+  pub agrees_asked : (call : Call) → session.outstanding ≡ Some call → new.journal ≡ (before lane).journal → asked_by new client ≡ Some (record { call = call; seen = session.seen }) → Agrees after client session
+  agrees_asked call is_out same last_is = record {
+    own = agrees.own;
+    numbered = agrees.numbered;
+    own_calls = agrees.own_calls;
+    last = agrees.last;
+    outstanding = agrees.outstanding;
+    rising = agrees.rising;
+    seen = agrees.seen;
+    recorded =
+        All-weaker (IsRecordedIn before) (IsRecordedIn after)
+        (λ (receipt : Receipt) at.
+        let placed : Placed = record { call = receipt.call; outcome = receipt.outcome; stamp = receipt.stamp; accepted = true } in
+        at_lane before after lane new changes (λ ledger. slice_get ledger.journal receipt.place ≡ Some placed) receipt.lane
+        (λ is.
+        ap (λ (list : List Placed). slice_get list receipt.place) same
+        ∙ subst (λ (q : ℕ). slice_get (before q).journal receipt.place ≡ Some placed) is at)
+        (λ apart. at)) session.receipts agrees.recorded;
+    told = λ q.
+        at_lane before after lane new changes (λ ledger. AreTold session.receipts client q ledger.journal) q
+        (λ is.
+        subst (λ (list : List Placed). AreTold session.receipts client q list) (sym same)
+        (subst (λ (l : ℕ). AreTold session.receipts client q (before l).journal) is (agrees.told q)))
+        (λ apart. agrees.told q);
+    asked = λ q.
+        at_lane before after lane new changes (λ ledger. IsLastKnown ledger.journal session (asked_by ledger client)) q
+        (λ is. subst (λ (last : Option LastCall). IsLastKnown new.journal session last) (sym last_is) (inr (record { call_is = is_out; seen_is = refl })))
+        (λ apart. agrees.asked q);
+  }
+
+-- ---- the session goes on
+
+module _ (ledgers : ℕ → Ledger) (client : ℕ) (session : Session) (agrees : Agrees ledgers client session) where
+  -- with other ranges that it cached, and requests
+  pub agrees_looking : (ranges : List (List Located)) (requests : ℕ) (request : Option Message) → Agrees ledgers client (record session { ranges = ranges; requests = requests; request = request })
+  agrees_looking ranges requests request = record {
+    own = agrees.own;
+    numbered = agrees.numbered;
+    own_calls = agrees.own_calls;
+    last = agrees.last;
+    outstanding = agrees.outstanding;
+    rising = agrees.rising;
+    seen = agrees.seen;
+    recorded = agrees.recorded;
+    told = agrees.told;
+    asked = λ q. still (ledgers q).journal (asked_by (ledgers q) client) (agrees.asked q);
+  }
+    where
+      still : (journal : List Placed) (last : Option LastCall) → IsLastKnown journal session last → IsLastKnown journal (record session { ranges = ranges; requests = requests; request = request }) last
+      still journal None known = tt
+      still journal (Some last) known =
+          ⊎_elim (λ (accepted : IsAccepted journal last.call). inl accepted)
+          (λ (out : IsOutstanding session last). inr (record { call_is = out.call_is; seen_is = out.seen_is })) known
+
+  -- a client that has no call outstanding asks its next one
+  pub agrees_calling : (table : ℕ) (key : List ℕ) (op : Op) → session.outstanding ≡ None → Agrees ledgers client (with_next_call session table key op)
+  agrees_calling table key op idle = record {
+    own = agrees.own;
+    numbered = agrees.numbered;
+    own_calls = agrees.own_calls;
+    last =
+        let none : session.last ≡ length session.receipts + 0 = agrees.last ∙ ap (λ (o : Option Call). length session.receipts + waiting o) idle in
+        omega (arith, none);
+    outstanding = (agrees.own, refl);
+    rising = agrees.rising;
+    seen = agrees.seen;
+    recorded = agrees.recorded;
+    told = agrees.told;
+    asked = λ q. still (ledgers q).journal (asked_by (ledgers q) client) (agrees.asked q);
+  }
+    where
+      still : (journal : List Placed) (last : Option LastCall) → IsLastKnown journal session last → IsLastKnown journal (with_next_call session table key op) last
+      still journal None known = tt
+      still journal (Some last) known =
+          ⊎_elim (λ (accepted : IsAccepted journal last.call). inl accepted)
+          (λ (out : IsOutstanding session last). absurd (let both : None ≡ Some last.call = sym idle ∙ out.call_is in cc both)) known
+
+-- ---- a record is accepted
+
+-- a record that another one is but for whether it is accepted, and which was accepted, is that one
+same_accepted : (call : Call) (placed new : Placed) → IsSameRecord placed new → placed.accepted ≡ true → new ≡ placed
+same_accepted call placed new same accepted i = record {
+  call = same.call i;
+  outcome = same.outcome i;
+  stamp = same.stamp i;
+  accepted = (same.kept accepted ∙ sym accepted) i;
+}
+
+-- what is accepted stays so
+accepted_on : (journal : List Placed) (place : ℕ) (placed : Placed) → slice_get journal place ≡ Some placed → (call : Call) → IsAccepted journal call → IsAccepted (slice_set journal place (as_accepted placed)) call
+accepted_on journal place placed at call accepted =
+    let old = place_of journal accepted.placed accepted.stands in
+    let new = record_after journal (slice_set journal place (as_accepted placed)) old.0 accepted.placed (accepted_same journal place placed at) old.1 in
+    record {
+      placed = new.0;
+      stands = stands_at (slice_set journal place (as_accepted placed)) old.0 new.0 new.1;
+      call_is = new.2.call ∙ accepted.call_is;
+      accepted = new.2.kept accepted.accepted;
+    }
+
+-- an element that is put at a place stands there
+set_here : {X : Type 0} (xs : List X) (place : ℕ) (old new : X) → slice_get xs place ≡ Some old → slice_get (slice_set xs place new) place ≡ Some new
+set_here [] place old new at = absurd (none-some old at)
+set_here (x ∷ xs) zero old new at = refl
+set_here (x ∷ xs) (suc place) old new at = set_here xs place old new at
+
+-- a reply tells a client that its outstanding call, which it asked last in a lane, was carried out: the record stands at this place,
+-- with a stamp above all that the client has seen
+pub record IsAnswer (ledgers : ℕ → Ledger) (lane client : ℕ) (session : Session) (place : ℕ) (placed : Placed) (call : Call) (reply : Reply) (outcome : Outcome) : Type 0 where
+  pub outstanding : session.outstanding ≡ Some call
+  pub here : call_lane call ≡ lane
+  pub last_is : asked_by (ledgers lane) client ≡ Some (record { call = call; seen = session.seen })
+  pub lanes : (q : ℕ) → IfSome (asked_by (ledgers q) client) (λ last. call_lane last.call ≡ q)
+  pub call_is : call ≡ placed.call
+  pub outcome_is : outcome ≡ placed.outcome
+  pub place_is : reply.place ≡ place
+  pub stamp_is : reply.stamp ≡ placed.stamp
+  pub later : session.seen < placed.stamp
+
+module _ (before after : ℕ → Ledger) (lane : ℕ) (new : Ledger) (changes : ChangesAt before after lane new) (place : ℕ) (placed : Placed) (at : slice_get (before lane).journal place ≡ Some placed) (journal_is : new.journal ≡ slice_set (before lane).journal place (as_accepted placed)) (asked_same : (client : ℕ) → asked_by new client ≡ asked_by (before lane) client) where
+  abbrev accepted_now : List Placed
+  accepted_now = slice_set (before lane).journal place (as_accepted placed)
+
+  -- what a receipt told is recorded still
+  recorded_on : (receipt : Receipt) → IsRecordedIn before receipt → IsRecordedIn after receipt
+  recorded_on receipt was =
+      let old : Placed = record { call = receipt.call; outcome = receipt.outcome; stamp = receipt.stamp; accepted = true } in
+      at_lane before after lane new changes (λ ledger. slice_get ledger.journal receipt.place ≡ Some old) receipt.lane
+      (λ is.
+      let here : slice_get (before lane).journal receipt.place ≡ Some old =
+      subst (λ (q : ℕ). slice_get (before q).journal receipt.place ≡ Some old) is was in
+      let its = record_after (before lane).journal accepted_now receipt.place old (accepted_same (before lane).journal place placed at) here in
+      ap (λ (list : List Placed). slice_get list receipt.place) journal_is ∙ its.1 ∙ ap Some (same_accepted receipt.call old its.0 its.2 refl))
+      (λ apart. was)
+
+  -- and so is what was known of a last call
+  asked_on : (client : ℕ) (session : Session) → ((q : ℕ) → IsLastKnown (before q).journal session (asked_by (before q) client)) → (q : ℕ) → IsLastKnown (after q).journal session (asked_by (after q) client)
+  asked_on client session known q =
+      at_lane before after lane new changes (λ ledger. IsLastKnown ledger.journal session (asked_by ledger client)) q
+      (λ is.
+      subst (λ (last : Option LastCall). IsLastKnown new.journal session last) (sym (asked_same client))
+      (subst (λ (list : List Placed). IsLastKnown list session (asked_by (before lane) client)) (sym journal_is)
+      (known_on (before lane).journal accepted_now session (asked_by (before lane) client)
+      (accepted_on (before lane).journal place placed at)
+      (subst (λ (l : ℕ). IsLastKnown (before l).journal session (asked_by (before l) client)) is (known q)))))
+      (λ apart. known q)
+
+  -- the accepted records of a client are told by these receipts, where the one that is accepted now is, if it is the client's
+  told_on : (client : ℕ) (receipts : List Receipt) → (placed.call.client ≡ client → IsToldBy receipts lane (as_accepted placed)) → ((q : ℕ) → AreTold receipts client q (before q).journal) → (q : ℕ) → AreTold receipts client q (after q).journal
+  told_on client receipts tells told q =
+      at_lane before after lane new changes (λ ledger. AreTold receipts client q ledger.journal) q
+      (λ is.
+      subst (λ (list : List Placed). AreTold receipts client q list) (sym journal_is)
+      (all_from_places
+      (λ (p : Placed). p.accepted ≡ true → p.call.client ≡ client → IsToldBy receipts q p) accepted_now
+      (λ i found there accepted own.
+      ⊎_elim
+      (λ (here : (i ≡ place) × (as_accepted placed ≡ found)).
+      subst (IsToldBy receipts q) here.1
+      (subst (λ (l : ℕ). IsToldBy receipts l (as_accepted placed)) (sym is)
+      (tells (ap (λ (p : Placed). p.call.client) here.1 ∙ own))))
+      (λ (stood : slice_get (before lane).journal i ≡ Some found).
+      All-contains (λ (p : Placed). p.accepted ≡ true → p.call.client ≡ client → IsToldBy receipts q p) (before lane).journal found
+      (subst (λ (l : ℕ). AreTold receipts client q (before l).journal) is (told q)) (stands_at (before lane).journal i found stood) accepted own)
+      (accepted_cases (before lane).journal place placed i found there))))
+      (λ apart. told q)
+
+  -- another client
+  pub agrees_beside : (client : ℕ) (session : Session) → (placed.call.client ≡ client → ⊥) → Agrees before client session → Agrees after client session
+  agrees_beside client session apart agrees = record {
+    own = agrees.own;
+    numbered = agrees.numbered;
+    own_calls = agrees.own_calls;
+    last = agrees.last;
+    outstanding = agrees.outstanding;
+    rising = agrees.rising;
+    seen = agrees.seen;
+    recorded = All-weaker (IsRecordedIn before) (IsRecordedIn after) recorded_on session.receipts agrees.recorded;
+    told = told_on client session.receipts (λ own. absurd (apart own)) agrees.told;
+    asked = asked_on client session agrees.asked;
+  }
+
+  -- the client of the call, which takes the answer and keeps the receipt
+  module _ (client : ℕ) (session : Session) (agrees : Agrees before client session) (call : Call) (reply : Reply) (outcome : Outcome) (taken : IsAnswer before lane client session place placed call reply outcome) where
+    abbrev receipt : Receipt
+    receipt = receipt_of call reply outcome
+
+    abbrev receipts : List Receipt
+    receipts = session.receipts ++ receipt ∷ []
+
+    mine : (call.client ≡ client) × (call.seq ≡ session.last)
+    mine = subst (λ (o : Option Call). IfSome o (λ c. (c.client ≡ client) × (c.seq ≡ session.last))) taken.outstanding agrees.outstanding
+
+    next : session.last ≡ length session.receipts + 1
+    next = agrees.last ∙ ap (λ (o : Option Call). length session.receipts + waiting o) taken.outstanding
+
+    -- the accepted record is the one that the receipt tells
+    record_is : as_accepted placed ≡ record { call = call; outcome = outcome; stamp = reply.stamp; accepted = true }
+    record_is = sym (λ i. record { call = taken.call_is i; outcome = taken.outcome_is i; stamp = taken.stamp_is i; accepted = true })
+
+    stands_now : slice_get accepted_now place ≡ Some (as_accepted placed)
+    stands_now = set_here (before lane).journal place placed (as_accepted placed) at
+
+    recorded_now : IsRecordedIn after receipt
+    recorded_now =
+        at_lane before after lane new changes
+        (λ ledger. slice_get ledger.journal reply.place ≡ Some (record { call = call; outcome = outcome; stamp = reply.stamp; accepted = true }))
+        (call_lane call)
+        (λ is.
+        ap (λ (list : List Placed). slice_get list reply.place) journal_is
+        ∙ ap (slice_get accepted_now) taken.place_is ∙ stands_now ∙ ap Some record_is)
+        (λ apart. absurd (apart taken.here))
+
+    tells_now : IsToldBy receipts lane (as_accepted placed)
+    tells_now = record {
+      receipt = receipt;
+      stands = Contains-push session.receipts receipt;
+      tells = λ i. record {
+        lane = taken.here i;
+        call = taken.call_is i;
+        outcome = taken.outcome_is i;
+        stamp = taken.stamp_is i;
+      };
+    }
+
+    more_told : (q : ℕ) → AreTold receipts client q (before q).journal
+    more_told q =
+        All-weaker (λ (p : Placed). p.accepted ≡ true → p.call.client ≡ client → IsToldBy session.receipts q p)
+        (λ (p : Placed). p.accepted ≡ true → p.call.client ≡ client → IsToldBy receipts q p)
+        (λ p told accepted own.
+        let its : IsToldBy session.receipts q p = told accepted own in
+        record {
+          receipt = its.receipt;
+          stands = Contains-append_left session.receipts (receipt ∷ []) its.receipt its.stands;
+          tells = its.tells;
+        }) (before q).journal (agrees.told q)
+
+    -- in another lane nothing was outstanding
+    elsewhere : (q : ℕ) → (q ≡ lane → ⊥) → (last : Option LastCall) → IfSome last (λ l. call_lane l.call ≡ q) → IsLastKnown (before q).journal session last → IsLastKnown (before q).journal (done session call reply outcome) last
+    elsewhere q apart None here known = tt
+    elsewhere q apart (Some last) here known =
+        ⊎_elim (λ (accepted : IsAccepted (before q).journal last.call). inl accepted)
+        (λ (out : IsOutstanding session last).
+        let both : Some call ≡ Some last.call = sym taken.outstanding ∙ out.call_is in
+        let is : call ≡ last.call = cc both in
+        absurd (apart (sym here ∙ sym (ap call_lane is) ∙ taken.here))) known
+
+    pub agrees_answered : Agrees after client (done session call reply outcome)
+    agrees_answered = record {
+      own = agrees.own;
+      numbered = numbered_push 1 session.receipts receipt agrees.numbered (mine.1 ∙ (let n = next in omega (arith, n)));
+      own_calls = All-push (λ (r : Receipt). r.call.client ≡ client) session.receipts receipt agrees.own_calls mine.0;
+      last =
+          let n = next in
+          let m = length_push session.receipts receipt in
+          omega (arith, n, m);
+      outstanding = tt;
+      rising =
+          rising_push 0 session.receipts receipt agrees.rising
+          (let above = taken.later in let is = taken.stamp_is in omega (arith, above, is))
+          (All-weaker (λ (r : Receipt). r.stamp ≤ session.seen) (λ (r : Receipt). r.stamp < reply.stamp)
+          (λ r seen. let above = taken.later in let is = taken.stamp_is in omega (arith, above, is, seen)) session.receipts agrees.seen);
+      seen =
+          All-push (λ (r : Receipt). r.stamp ≤ max session.seen reply.stamp) session.receipts receipt
+          (All-weaker (λ (r : Receipt). r.stamp ≤ session.seen) (λ (r : Receipt). r.stamp ≤ max session.seen reply.stamp)
+          (λ r seen. omega (arith, seen)) session.receipts agrees.seen) (omega arith);
+      recorded =
+          All-push (IsRecordedIn after) session.receipts receipt
+          (All-weaker (IsRecordedIn before) (IsRecordedIn after) recorded_on session.receipts agrees.recorded) recorded_now;
+      told = told_on client receipts (λ own. tells_now) more_told;
+      asked = λ q.
+          at_lane before after lane new changes
+          (λ ledger. IsLastKnown ledger.journal (done session call reply outcome) (asked_by ledger client)) q
+          (λ is.
+          subst (λ (last : Option LastCall). IsLastKnown new.journal (done session call reply outcome) last)
+          (sym (asked_same client ∙ taken.last_is))
+          (subst (λ (list : List Placed). IsLastKnown list (done session call reply outcome) (Some (record { call = call; seen = session.seen })))
+          (sym journal_is)
+          (inl (record {
+            placed = as_accepted placed;
+            stands = stands_at accepted_now place (as_accepted placed) stands_now;
+            call_is = sym taken.call_is;
+            accepted = refl;
+          }))))
+          (λ apart. elsewhere q apart (asked_by (before q) client) (taken.lanes q) (agrees.asked q));
+    }

@@ -1,0 +1,38 @@
+-- The lines of a merged history are the records of the journals that stand in it.
+use Rattle.std.proofs.Common.{◌≡◌, ℕ, Bool, true, List, [], ◌∷◌, refl, sym, subst, ⊎_elim, arith, ◌==◌, map, filter, Contains, eq-eqb}
+use Rattle.std.proofs.Common.{eqb-true}
+use Rattle.rk_inv_base.proofs.Words.{Placed, journal_of, Line}
+use Rattle.rk_model.specs.Merged.{IsMergedFrom, is_kept}
+use Rattle.rk_inv_base.proofs.rows.Apart.{contains_cases}
+use Rattle.rk_inv_base.proofs.pulls.Joining.{kept_stands, stands_kept}
+use Rattle.rk_inv_logs.proofs.apply.MergedEnds.{mapped}
+use Rattle.rk_runs.proofs.history.Answers.{at_first, behind}
+
+-- what stands in a mapped list is of one that stands in the list
+pub unmapped : {X Y : Type 0} (f : X → Y) (xs : List X) (y : Y) → Contains (map f xs) y → (x : X) × Contains xs x × (f x ≡ y)
+unmapped f [] y stands = absurd (omega (arith, stands.1))
+unmapped f (x ∷ xs) y stands =
+    ⊎_elim (λ (is : f x ≡ y). (x, at_first x xs, is))
+    (λ (later : Contains (map f xs) y). let found = unmapped f xs y later in (found.0, behind x xs found.0 found.1, found.2))
+    (contains_cases (f x) (map f xs) y stands)
+
+module _ (journals : List (List Placed)) (history : List Line) (from : IsMergedFrom journals history) where
+  -- a line is of a record that stands in the journal of its lane, and in the history
+  pub line_stands : (line : Line) → Contains history line → Contains (journal_of journals line.lane) line.placed × (is_kept line.placed ≡ true)
+  line_stands line stands =
+      let here : Line → Bool = λ (l : Line). l.lane == line.lane in
+      let kept = stands_kept here history line stands (eq-eqb line.lane line.lane refl) in
+      kept_stands is_kept (journal_of journals line.lane) line.placed
+      (subst (λ (records : List Placed). Contains records line.placed) (from.complete line.lane)
+      (mapped (λ (l : Line). l.placed) (filter here history) line kept))
+
+  -- a record that stands in a journal, and is one that the history has, has its line
+  pub stands_line : (lane : ℕ) (placed : Placed) → Contains (journal_of journals lane) placed → is_kept placed ≡ true → Contains history (record { lane = lane; placed = placed })
+  stands_line lane placed stands kept =
+      let here : Line → Bool = λ (l : Line). l.lane == lane in
+      let found = unmapped (λ (l : Line). l.placed) (filter here history) placed
+      (subst (λ (records : List Placed). Contains records placed) (sym (from.complete lane))
+      (stands_kept is_kept (journal_of journals lane) placed stands kept)) in
+      let its = kept_stands here history found.0 found.1 in
+      let at_lane : found.0.lane ≡ lane = eqb-true found.0.lane lane its.1 in
+      subst (Contains history) (λ i. record { lane = at_lane i; placed = found.2 i }) its.0

@@ -1,0 +1,192 @@
+-- A record of a journal stays for ever: whatever occurs in a cluster, it stands at its place, but that it may be accepted.
+use Rattle.std.proofs.Common.{◌≡◌, ℕ, ◌<◌, ◌≤◌, true, false, cond, List, [], ◌∷◌, ◌++◌, Option, Some, None, length, refl, sym, subst, ◌∙◌}
+use Rattle.std.proofs.Common.{⊎_elim, arith, slice_get, get_or-set_other, length-set}
+use Rattle.rk_inv_base.proofs.Words.{cases_eq, cases_lt, get_or_past, none-some, get, Call, Placed, slice_get_front, Body, Message, Called}
+use Rattle.rk_inv_base.proofs.Words.{accept_by, accepting, ask_by, asking, asking_by, fits_with, is_asked, is_asked_here, ledger_asked}
+use Rattle.rk_inv_base.proofs.Words.{ledger_requested, ledger_taken, taking, untouched, ClientTurn, Session, session_turn, Accepts, Asks}
+use Rattle.rk_inv_base.proofs.Words.{Calls, Cluster, Happens, Joins, Occurrence, called_by_client, cluster_after, cluster_run}
+use Rattle.rk_inv_base.proofs.Words.{cluster_stepped, cluster_visited, joined_by, lane_at, session_at, with_lane, accepted_at, Ledger}
+use Rattle.rk_inv_base.proofs.Words.{with_asked, accept_refusal, ask_refusal, refusal, happened, stepped_by, World, new_world, StepError}
+use Rattle.rk_inv_base.proofs.Words.{Event}
+use Rattle.rk_message.specs.declared.message.Body.TheVariants as bodies
+use Rattle.rk_world.specs.Client.{session_accept}
+use Rattle.rk_world.specs.declared.event.Taken.{Taken}
+use Rattle.rk_world.specs.declared.event.Taken.TheVariants as takes
+use Rattle.rk_inv_base.proofs.calls.SameRecords.{accepted_same, record_after}
+use Rattle.rk_runs.specs.history.Runs.{RecordsStay, StandsStill}
+use Rattle.rk_runs.proofs.history.Clusters.{lane_here}
+use Rattle.rk_runs.proofs.history.GoesOn.{event_goes_on}
+
+-- ---- journals
+
+pub still_itself : (journal : List Placed) → StandsStill journal journal
+still_itself journal place placed at = record { now = placed; stands = at; call = refl; outcome = refl; stamp = refl; kept = λ accepted. accepted }
+
+pub still_then : (a b c : List Placed) → StandsStill a b → StandsStill b c → StandsStill a c
+still_then a b c first second place placed at =
+    let one = first place placed at in
+    let two = second place one.now one.stands in
+    record {
+      now = two.now;
+      stands = two.stands;
+      call = two.call ∙ one.call;
+      outcome = two.outcome ∙ one.outcome;
+      stamp = two.stamp ∙ one.stamp;
+      kept = λ accepted. two.kept (one.kept accepted);
+    }
+
+still_grown : (journal more : List Placed) → StandsStill journal (journal ++ more)
+still_grown journal more place placed at =
+    record { now = placed; stands = slice_get_front journal more place placed at; call = refl; outcome = refl; stamp = refl; kept = λ accepted. accepted }
+
+still_accepted : (journal : List Placed) (where_at : ℕ) (found : Option Placed) → slice_get journal where_at ≡ found → StandsStill journal (accepted_at journal where_at found)
+still_accepted journal where_at None is = still_itself journal
+still_accepted journal where_at (Some it) is = λ place placed at.
+    let new = record_after journal (accepted_at journal where_at (Some it)) place placed (accepted_same journal where_at it is) at in
+    record { now = new.0; stands = new.1; call = new.2.call; outcome = new.2.outcome; stamp = new.2.stamp; kept = new.2.kept }
+
+-- ---- lanes
+
+event_stays : (w : World) (event : Event) (called : Called) → StandsStill w.ledger.journal (happened w event called).world.ledger.journal
+event_stays w event called =
+    let grows = (event_goes_on w event called).ledger 0 in
+    subst (StandsStill w.ledger.journal) (sym grows.journal_is) (still_grown w.ledger.journal grows.more)
+
+taken_stays : (ledger : Ledger) (body : Body) (taken : Taken) → StandsStill ledger.journal (ledger_taken ledger body taken).journal
+taken_stays ledger (bodies.Reply reply) takes.Done = still_accepted ledger.journal reply.place (slice_get ledger.journal reply.place) refl
+taken_stays ledger body taken = still_itself ledger.journal
+
+requested_stays : (ledger : Ledger) (client : ℕ) (message : Message) (body : Body) → StandsStill ledger.journal (ledger_requested ledger client message body).journal
+requested_stays ledger client message (bodies.Request request) = still_itself ledger.journal
+requested_stays ledger client message body = still_itself ledger.journal
+
+asked_stays : (ledger : Ledger) (session : Session) (call : Call) → StandsStill ledger.journal (ledger_asked ledger session call).journal
+asked_stays ledger session call =
+    elim (is_asked ledger session call) as (λ b. StandsStill ledger.journal (cond b ledger (with_asked ledger session.client (record { call = call; seen = session.seen }))).journal) [
+      | true ↦ still_itself ledger.journal
+      | false ↦ still_itself ledger.journal
+    ]
+
+module _ (w : World) (session : Session) where
+  asking_stays : (out : Option Call) → StandsStill w.ledger.journal (asking w session out).world.ledger.journal
+  asking_stays None = still_itself w.ledger.journal
+  asking_stays (Some call) =
+      elim (fits_with w session call) as (λ b. StandsStill w.ledger.journal (cond b (asking_by w session call (session_turn session)) (untouched w session None)).world.ledger.journal) [
+        | true ↦ turned (session_turn session)
+        | false ↦ still_itself w.ledger.journal
+      ]
+    where
+      turned : (turn : Option ClientTurn) → StandsStill w.ledger.journal (asking_by w session call turn).world.ledger.journal
+      turned None = still_itself w.ledger.journal
+      turned (Some turn) =
+          still_then w.ledger.journal (ledger_asked w.ledger session call).journal
+          (ledger_requested (ledger_asked w.ledger session call) session.client turn.message turn.message.body).journal
+          (asked_stays w.ledger session call)
+          (requested_stays (ledger_asked w.ledger session call) session.client turn.message turn.message.body)
+
+  accepting_stays : (found : Option Message) → StandsStill w.ledger.journal (accepting w session found).world.ledger.journal
+  accepting_stays None = still_itself w.ledger.journal
+  accepting_stays (Some message) =
+      elim (is_asked_here w session) as (λ b. StandsStill w.ledger.journal (cond b (taking w session message.body) (untouched w session (Some takes.Ignored))).world.ledger.journal) [
+        | true ↦ taken_stays w.ledger message.body (session_accept session message.body).taken
+        | false ↦ still_itself w.ledger.journal
+      ]
+
+-- ---- clusters
+
+-- one lane is another
+lane_stays : (cluster : Cluster) (lane : ℕ) (w : World) → StandsStill (lane_at cluster lane).ledger.journal w.ledger.journal → RecordsStay cluster (with_lane cluster lane w)
+lane_stays cluster lane w stays q =
+    ⊎_elim
+    (λ (is : q ≡ lane).
+    ⊎_elim
+    (λ (within : lane < length cluster.lanes).
+    subst (λ (l : ℕ). StandsStill (lane_at cluster l).ledger.journal (lane_at (with_lane cluster lane w) l).ledger.journal) (sym is)
+    (subst (λ (v : World). StandsStill (lane_at cluster lane).ledger.journal v.ledger.journal) (sym (lane_here cluster lane w within)) stays))
+    (λ (past : length cluster.lanes ≤ lane).
+    subst (λ (v : World). StandsStill v.ledger.journal (lane_at (with_lane cluster lane w) q).ledger.journal)
+    (sym (get_or_past cluster.lanes q (new_world q 0 0) (omega (arith, past, is)))) (λ place placed at. absurd (none-some placed at)))
+    (cases_lt lane (length cluster.lanes)))
+    (λ (apart : q ≡ lane → ⊥).
+    subst (λ (v : World). StandsStill (lane_at cluster q).ledger.journal v.ledger.journal)
+    (sym (get_or-set_other cluster.lanes lane q w (new_world q 0 0) apart)) (still_itself (lane_at cluster q).ledger.journal))
+    (cases_eq q lane)
+
+all_stay : (cluster : Cluster) → RecordsStay cluster cluster
+all_stay cluster lane = still_itself (lane_at cluster lane).ledger.journal
+
+occurrence_stays : (cluster : Cluster) (occurrence : Occurrence) → RecordsStay cluster (cluster_after cluster occurrence)
+occurrence_stays cluster (Happens lane event called) = go (refusal (lane_at cluster lane) event)
+  where
+    go : (refused : Option StepError) → RecordsStay cluster (cluster_stepped cluster lane (stepped_by (lane_at cluster lane) event called refused))
+    go None = lane_stays cluster lane (happened (lane_at cluster lane) event called).world (event_stays (lane_at cluster lane) event called)
+    go (Some error) = all_stay cluster
+occurrence_stays cluster (Joins client) = go (get cluster.sessions client)
+  where
+    go : (found : Option Session) → RecordsStay cluster (joined_by cluster client found)
+    go None = all_stay cluster
+    go (Some session) = all_stay cluster
+occurrence_stays cluster (Calls client table key op) = go (get cluster.sessions client)
+  where
+    go : (found : Option Session) → RecordsStay cluster (called_by_client cluster client table key op found)
+    go None = all_stay cluster
+    go (Some session) = all_stay cluster
+occurrence_stays cluster (Asks lane client) = go (ask_refusal (lane_at cluster lane) (session_at cluster client))
+  where
+    go : (refused : Option StepError) → RecordsStay cluster (cluster_visited cluster lane client (ask_by (lane_at cluster lane) (session_at cluster client) refused))
+    go None =
+        lane_stays cluster lane (asking (lane_at cluster lane) (session_at cluster client) (session_at cluster client).outstanding).world
+        (asking_stays (lane_at cluster lane) (session_at cluster client) (session_at cluster client).outstanding)
+    go (Some error) = all_stay cluster
+occurrence_stays cluster (Accepts lane number client) =
+    go (accept_refusal (lane_at cluster lane) number (session_at cluster client).client (get (lane_at cluster lane).wire.messages number))
+  where
+    go : (refused : Option StepError) → RecordsStay cluster (cluster_visited cluster lane client (accept_by (lane_at cluster lane) number (session_at cluster client) refused))
+    go None =
+        lane_stays cluster lane (accepting (lane_at cluster lane) (session_at cluster client) (get (lane_at cluster lane).wire.messages number)).world
+        (accepting_stays (lane_at cluster lane) (session_at cluster client) (get (lane_at cluster lane).wire.messages number))
+    go (Some error) = all_stay cluster
+
+pub records_stay : (cluster : Cluster) (list : List Occurrence) → RecordsStay cluster (cluster_run cluster list)
+records_stay cluster [] lane = still_itself (lane_at cluster lane).ledger.journal
+records_stay cluster (occurrence ∷ later) lane =
+    still_then (lane_at cluster lane).ledger.journal (lane_at (cluster_after cluster occurrence) lane).ledger.journal
+    (lane_at (cluster_run (cluster_after cluster occurrence) later) lane).ledger.journal
+    (occurrence_stays cluster occurrence lane) (records_stay (cluster_after cluster occurrence) later lane)
+
+-- ---- how many lanes there are
+
+-- a cluster has as many lanes as before
+one_stays : (cluster : Cluster) (occurrence : Occurrence) → length (cluster_after cluster occurrence).lanes ≡ length cluster.lanes
+one_stays cluster (Happens lane event called) = go (refusal (lane_at cluster lane) event)
+  where
+    go : (refused : Option StepError) → length (cluster_stepped cluster lane (stepped_by (lane_at cluster lane) event called refused)).lanes ≡ length cluster.lanes
+    go None = length-set cluster.lanes lane (happened (lane_at cluster lane) event called).world
+    go (Some error) = refl
+one_stays cluster (Joins client) = go (get cluster.sessions client)
+  where
+    go : (found : Option Session) → length (joined_by cluster client found).lanes ≡ length cluster.lanes
+    go None = refl
+    go (Some session) = refl
+one_stays cluster (Calls client table key op) = go (get cluster.sessions client)
+  where
+    go : (found : Option Session) → length (called_by_client cluster client table key op found).lanes ≡ length cluster.lanes
+    go None = refl
+    go (Some session) = refl
+one_stays cluster (Asks lane client) = go (ask_refusal (lane_at cluster lane) (session_at cluster client))
+  where
+    go : (refused : Option StepError) → length (cluster_visited cluster lane client (ask_by (lane_at cluster lane) (session_at cluster client) refused)).lanes ≡ length cluster.lanes
+    go None = length-set cluster.lanes lane (asking (lane_at cluster lane) (session_at cluster client) (session_at cluster client).outstanding).world
+    go (Some error) = refl
+one_stays cluster (Accepts lane number client) =
+    go (accept_refusal (lane_at cluster lane) number (session_at cluster client).client (get (lane_at cluster lane).wire.messages number))
+  where
+    go : (refused : Option StepError) → length (cluster_visited cluster lane client (accept_by (lane_at cluster lane) number (session_at cluster client) refused)).lanes ≡ length cluster.lanes
+    go None =
+        length-set cluster.lanes lane
+        (accepting (lane_at cluster lane) (session_at cluster client) (get (lane_at cluster lane).wire.messages number)).world
+    go (Some error) = refl
+
+pub lanes_stay : (cluster : Cluster) (list : List Occurrence) → length (cluster_run cluster list).lanes ≡ length cluster.lanes
+lanes_stay cluster [] = refl
+lanes_stay cluster (occurrence ∷ later) = lanes_stay (cluster_after cluster occurrence) later ∙ one_stays cluster occurrence

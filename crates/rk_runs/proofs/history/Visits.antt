@@ -1,0 +1,238 @@
+-- Sessions and ledgers agree still when a client takes its turn in a lane, or an answer.
+use Rattle.std.proofs.Common.{◌≡◌, ℕ, ◌<◌, Bool, true, false, cond, List, Option, Some, None, refl, sym, ap, subst, ◌∙◌, ◌==◌, IfSome, not}
+use Rattle.std.proofs.Common.{slice_get, slice_set, eqb-true}
+use Rattle.rk_inv_base.proofs.Words.{and_parts, All-contains, Answer, Call, Outcome, Placed, Located, Reply, Body, Message, asking}
+use Rattle.rk_inv_base.proofs.Words.{asking_by, fits_with, is_asked, is_last, ledger_requested, ledger_taken, taking, untouched, ClientTurn}
+use Rattle.rk_inv_base.proofs.Words.{Session, call_lane, session_turn, turn_of, accepted_at, as_accepted, is_accepted, Ledger, asked_by}
+use Rattle.rk_inv_base.proofs.Words.{with_asked, World, LastCall, IsLastCall, MayAccept, AnswerFits, IsRecordAt, Says, IsAfterSeen, view}
+use Rattle.rk_inv_base.proofs.Words.{IsSound}
+use Rattle.rk_types.specs.declared.call.Answer.TheVariants as answers
+use Rattle.rk_types.specs.declared.node.Node.TheVariants as nodes
+use Rattle.rk_message.specs.declared.message.Body.TheVariants as bodies
+use Rattle.rk_world.specs.Client.{MOST_REQUESTS, accepted_by, accepted_of, answer_accepted, done, has_call, ignoring, located_accepted}
+use Rattle.rk_world.specs.Client.{looking_up, range_of, requesting, turn_by, turn_to, with_range, without_range}
+use Rattle.rk_world.specs.Ledger.{with_accepted}
+use Rattle.rk_world.specs.declared.event.Taken.TheVariants as takes
+use Rattle.rk_inv_base.proofs.calls.CallAsked.{asked_put}
+use Rattle.rk_inv_base.proofs.views.Put.{put_here, put_other}
+use Rattle.rk_inv_events.proofs.events.Clients.{asked_is, is_last_there, may_accept}
+use Rattle.rk_runs.specs.history.Agreement.{Agrees}
+use Rattle.rk_runs.proofs.history.Agreeing.{ChangesAt, IsAnswer, agrees_answered, agrees_asked, agrees_beside, agrees_grown, agrees_looking}
+use Rattle.rk_runs.proofs.history.GoesOn.{same_ledger}
+use Rattle.rk_runs.proofs.history.Receipts.{stands_at}
+
+-- a client's session and those of all others agree with the ledgers, once that client did something in a lane
+pub record AgreeAfter (before after : ℕ → Ledger) (client : ℕ) (session : Session) : Type 0 where
+  pub own : Agrees after client session
+  pub others : (c : ℕ) (other : Session) → (c ≡ client → ⊥) → Agrees before c other → Agrees after c other
+
+-- ---- a turn
+
+module _ (before after : ℕ → Ledger) (lane client : ℕ) (session : Session) (agrees : Agrees before client session) where
+  -- nothing of a ledger changed, as far as it is seen
+  unchanged : (ledger : Ledger) → ChangesAt before after lane ledger → ledger.journal ≡ (before lane).journal → ((c : ℕ) → asked_by ledger c ≡ asked_by (before lane) c) → AgreeAfter before after client session
+  unchanged ledger changes journal asked = record {
+    own = agrees_grown before after lane ledger changes client session agrees (same_ledger client (before lane) ledger journal (asked client));
+    others = λ c other apart fits. agrees_grown before after lane ledger changes c other fits (same_ledger c (before lane) ledger journal (asked c));
+  }
+
+  -- a session that asked may look elsewhere
+  turned_on : (ledgers : ℕ → Ledger) → Agrees ledgers client session → (call : Call) (found : Option Located) → Agrees ledgers client (turn_by session call found).session
+  turned_on ledgers fits call None = agrees_looking ledgers client session fits (looking_up session call).session.ranges 0 session.request
+  turned_on ledgers fits call (Some located) =
+      elim (session.requests == MOST_REQUESTS) as (λ b. Agrees ledgers client (cond b (looking_up session call) (turn_to session call located.tablet located.owner)).session) [
+        | true ↦ agrees_looking ledgers client session fits (looking_up session call).session.ranges 0 session.request
+        | false ↦ go located.owner
+      ]
+    where
+      go : (owner : Option ℕ) → Agrees ledgers client (turn_to session call located.tablet owner).session
+      go None = agrees_looking ledgers client session fits (looking_up session call).session.ranges 0 session.request
+      go (Some master) =
+          agrees_looking ledgers client session fits session.ranges (requesting session call located.tablet master).session.requests
+          (requesting session call located.tablet master).session.request
+
+  module _ (w : World) (at : before lane ≡ w.ledger) (call : Call) (is_out : session.outstanding ≡ Some call) where
+    -- a request that is saved changes nothing of these
+    requested_same : (ledger : Ledger) (message : Message) (body : Body) → (ledger_requested ledger session.client message body).journal ≡ ledger.journal
+    requested_same ledger message (bodies.Request request) = refl
+    requested_same ledger message body = refl
+
+    requested_asked : (ledger : Ledger) (message : Message) (body : Body) (c : ℕ) → asked_by (ledger_requested ledger session.client message body) c ≡ asked_by ledger c
+    requested_asked ledger message (bodies.Request request) c = refl
+    requested_asked ledger message body c = refl
+
+    abbrev asked_ledger : Bool → Ledger
+    asked_ledger test = cond test w.ledger (with_asked w.ledger session.client (record { call = call; seen = session.seen }))
+
+    asked_journal : (test : Bool) → (asked_ledger test).journal ≡ w.ledger.journal
+    asked_journal true = refl
+    asked_journal false = refl
+
+    asked_own : (test : Bool) → is_asked w.ledger session call ≡ test → asked_by (asked_ledger test) session.client ≡ Some (record { call = call; seen = session.seen })
+    asked_own true is =
+        asked_is call session.seen (asked_by w.ledger session.client)
+        (and_parts (is_last call session.seen (asked_by w.ledger session.client)) (not (is_accepted w.ledger.journal session.client call.seq)) is).0
+    asked_own false is =
+        asked_put w.ledger session.client (record { call = call; seen = session.seen }) session.client
+        ∙ put_here (asked_by w.ledger) session.client (Some (record { call = call; seen = session.seen })) session.client refl
+
+    asked_other : (test : Bool) (c : ℕ) → (c ≡ session.client → ⊥) → asked_by (asked_ledger test) c ≡ asked_by w.ledger c
+    asked_other true c apart = refl
+    asked_other false c apart =
+        asked_put w.ledger session.client (record { call = call; seen = session.seen }) c
+        ∙ put_other (asked_by w.ledger) session.client (Some (record { call = call; seen = session.seen })) c apart
+
+    turn_is : session_turn session ≡ Some (turn_by session call (range_of session call))
+    turn_is = ap (turn_of session) is_out
+
+    abbrev turned : ClientTurn
+    turned = turn_by session call (range_of session call)
+
+    asked_turn : ChangesAt before after lane (asking_by w session call (Some turned)).world.ledger → AgreeAfter before after client turned.session
+    asked_turn changes =
+        let test : Bool = is_asked w.ledger session call in
+        let ledger : Ledger = ledger_requested (asked_ledger test) session.client turned.message turned.message.body in
+        let journal : ledger.journal ≡ (before lane).journal =
+        requested_same (asked_ledger test) turned.message turned.message.body ∙ asked_journal test ∙ sym (ap (λ (l : Ledger). l.journal) at) in
+        record {
+          own =
+              turned_on after
+              (agrees_asked before after lane ledger changes client session agrees call is_out journal
+              (ap (asked_by ledger) (sym agrees.own) ∙ requested_asked (asked_ledger test) turned.message turned.message.body session.client ∙ asked_own test refl))
+              call (range_of session call);
+          others = λ c other apart fits.
+              agrees_grown before after lane ledger changes c other fits
+              (same_ledger c (before lane) ledger journal
+              (requested_asked (asked_ledger test) turned.message turned.message.body c
+              ∙ asked_other test c (λ is. apart (is ∙ agrees.own)) ∙ sym (ap (λ (l : Ledger). asked_by l c) at)));
+        }
+
+    pub agree_asking : ChangesAt before after lane (asking w session (Some call)).world.ledger → AgreeAfter before after client (asking w session (Some call)).session
+    agree_asking = go (fits_with w session call) (session_turn session) turn_is
+      where
+        go : (fits : Bool) (turn : Option ClientTurn) → turn ≡ Some turned → ChangesAt before after lane (cond fits (asking_by w session call turn) (untouched w session None)).world.ledger
+            → AgreeAfter before after client (cond fits (asking_by w session call turn) (untouched w session None)).session
+        go false turn is changes = unchanged w.ledger changes (sym (ap (λ (l : Ledger). l.journal) at)) (λ c. sym (ap (λ (l : Ledger). asked_by l c) at))
+        go true turn is changes =
+            subst (λ (t : Option ClientTurn). AgreeAfter before after client (asking_by w session call t).session) (sym is)
+            (asked_turn (subst (λ (t : Option ClientTurn). ChangesAt before after lane (asking_by w session call t).world.ledger) is changes))
+
+-- ---- an answer
+
+module _ (before after : ℕ → Ledger) (lane client : ℕ) (session : Session) (agrees : Agrees before client session) (w : World) (number : ℕ) (at : before lane ≡ w.ledger) (sound : IsSound w) (lane_is : w.lane ≡ lane) (lanes : (q : ℕ) → IfSome (asked_by (before q) client) (λ last. call_lane last.call ≡ q)) (call : Call) (is_out : session.outstanding ≡ Some call) (asked : is_asked w.ledger session call ≡ true) where
+  own : call.client ≡ session.client
+  own = (subst (λ (o : Option Call). IfSome o (λ c. (c.client ≡ client) × (c.seq ≡ session.last))) is_out agrees.outstanding).0 ∙ sym agrees.own
+
+  same : ChangesAt before after lane w.ledger → (new : Session) → Agrees after client new → AgreeAfter before after client new
+  same changes new fits = record {
+    own = fits;
+    others =
+        (unchanged before after lane client session agrees w.ledger changes (sym (ap (λ (l : Ledger). l.journal) at))
+        (λ c. sym (ap (λ (l : Ledger). asked_by l c) at))).others;
+  }
+
+  -- the session as it was
+  stays : ChangesAt before after lane w.ledger → AgreeAfter before after client session
+  stays changes =
+      unchanged before after lane client session agrees w.ledger changes (sym (ap (λ (l : Ledger). l.journal) at))
+      (λ c. sym (ap (λ (l : Ledger). asked_by l c) at))
+
+  elsewhere : ChangesAt before after lane w.ledger → (ranges : List (List Located)) (requests : ℕ) → AgreeAfter before after client (record session { ranges = ranges; requests = requests })
+  elsewhere changes ranges requests =
+      same changes (record session { ranges = ranges; requests = requests })
+      (agrees_looking after client session (stays changes).own ranges requests session.request)
+
+  module _ (reply : Reply) (outcome : Outcome) (seq_is : reply.seq ≡ call.seq) (record_at : IsRecordAt w.ledger.journal session.client reply outcome) where
+    may : MayAccept (view w) reply.place
+    may = may_accept w number session call sound asked own reply outcome seq_is record_at
+
+    abbrev placed : Placed
+    placed = record_at.placed
+
+    accepts : IfSome (asked_by w.ledger placed.call.client) (λ (l : LastCall). l.call ≡ placed.call)
+    accepts =
+        let both : Some may.placed ≡ Some placed = sym may.stands ∙ record_at.stands in
+        let is : may.placed ≡ placed = cc both in
+        subst (λ (p : Placed). IfSome (asked_by w.ledger p.call.client) (λ (l : LastCall). l.call ≡ p.call)) is may.last
+
+    last : asked_by w.ledger session.client ≡ Some (record { call = call; seen = session.seen })
+    last = is_last_there w number session call sound asked own
+
+    of_client : asked_by w.ledger placed.call.client ≡ Some (record { call = call; seen = session.seen })
+    of_client = ap (asked_by w.ledger) record_at.client_is ∙ last
+
+    call_is : call ≡ placed.call
+    call_is = subst (λ (o : Option LastCall). IfSome o (λ (l : LastCall). l.call ≡ placed.call)) of_client accepts
+
+    stands : slice_get (before lane).journal reply.place ≡ Some placed
+    stands = ap (λ (l : Ledger). slice_get l.journal reply.place) at ∙ record_at.stands
+
+    later : session.seen < placed.stamp
+    later =
+        subst (λ (o : Option LastCall). IsAfterSeen o placed) of_client
+        (All-contains (λ (p : Placed). IsAfterSeen (asked_by w.ledger p.call.client) p) w.ledger.journal placed sound.truth.seen
+        (stands_at w.ledger.journal reply.place placed record_at.stands)) call_is
+
+    in_lane : call_lane call ≡ lane
+    in_lane = (subst (λ (o : Option LastCall). IfSome o (IsLastCall w.base w.lane session.client)) last (sound.asked.last session.client)).here ∙ lane_is
+
+    answer : IsAnswer before lane client session reply.place placed call reply outcome
+    answer = record {
+      outstanding = is_out;
+      here = in_lane;
+      last_is = ap (asked_by (before lane)) (sym agrees.own) ∙ ap (λ (l : Ledger). asked_by l session.client) at ∙ last;
+      lanes = lanes;
+      call_is = call_is;
+      outcome_is = sym record_at.outcome_is;
+      place_is = refl;
+      stamp_is = sym record_at.stamp_is;
+      later = later;
+    }
+
+    journal_is : (with_accepted w.ledger reply.place).journal ≡ slice_set (before lane).journal reply.place (as_accepted placed)
+    journal_is =
+        ap (accepted_at w.ledger.journal reply.place) record_at.stands
+        ∙ sym (ap (λ (l : Ledger). slice_set l.journal reply.place (as_accepted placed)) at)
+
+    asked_same : (c : ℕ) → asked_by (with_accepted w.ledger reply.place) c ≡ asked_by (before lane) c
+    asked_same c = sym (ap (λ (l : Ledger). asked_by l c) at)
+
+    done_agrees : ChangesAt before after lane (with_accepted w.ledger reply.place) → AgreeAfter before after client (done session call reply outcome)
+    done_agrees changes = record {
+      own =
+          agrees_answered before after lane (with_accepted w.ledger reply.place) changes reply.place placed stands journal_is asked_same client session agrees
+          call reply outcome answer;
+      others = λ c other apart fits.
+          agrees_beside before after lane (with_accepted w.ledger reply.place) changes reply.place placed stands journal_is asked_same c other
+          (λ is. apart (sym is ∙ record_at.client_is ∙ agrees.own)) fits;
+    }
+
+  -- by what was told
+  replied : (reply : Reply) (told : Answer) → reply.answer ≡ told → Says w.ledger.journal (nodes.Client session.client) (bodies.Reply reply) → (test : Bool) → (reply.seq == call.seq) ≡ test
+      → ChangesAt before after lane (ledger_taken w.ledger (bodies.Reply reply) (cond test (answer_accepted session call reply told) (ignoring session)).taken)
+      → AgreeAfter before after client (cond test (answer_accepted session call reply told) (ignoring session)).session
+  replied reply told is says false differs changes = stays changes
+  replied reply (answers.Done outcome) is says true seq_is changes =
+      done_agrees reply outcome (eqb-true reply.seq call.seq seq_is) (subst (AnswerFits w.ledger.journal session.client reply) is says) changes
+  replied reply (answers.Moved tablet) is says true seq_is changes =
+      elsewhere changes (without_range session call).ranges 0
+  replied reply (answers.NotYet key) is says true seq_is changes = stays changes
+
+  located : (place : Located) → ChangesAt before after lane w.ledger → AgreeAfter before after client (located_accepted session call place).session
+  located place changes =
+      elim (has_call call place) as (λ b. AgreeAfter before after client (cond b (record { session = with_range session (call_lane call) place; taken = takes.Located }) (ignoring session)).session) [
+        | true ↦ elsewhere changes (with_range session (call_lane call) place).ranges 0
+        | false ↦ stays changes
+      ]
+
+  taken_by : (body : Body) → Says w.ledger.journal (nodes.Client session.client) body → ChangesAt before after lane (ledger_taken w.ledger body (accepted_by session call body).taken)
+      → AgreeAfter before after client (accepted_by session call body).session
+  taken_by (bodies.Reply reply) says changes = replied reply reply.answer refl says (reply.seq == call.seq) refl changes
+  taken_by (bodies.Located place) says changes = located place changes
+  taken_by body says changes = stays changes
+
+  pub agree_taking : (body : Body) → Says w.ledger.journal (nodes.Client session.client) body → ChangesAt before after lane (taking w session body).world.ledger
+      → AgreeAfter before after client (taking w session body).session
+  agree_taking body says changes =
+      subst (λ (o : Option Call). AgreeAfter before after client (accepted_of session o body).session) (sym is_out)
+      (taken_by body says (subst (λ (o : Option Call). ChangesAt before after lane (ledger_taken w.ledger body (accepted_of session o body).taken)) is_out changes))

@@ -1,0 +1,36 @@
+-- What clients said in the course of a settling command is what they said along all that occurred in it.
+use Rattle.std.proofs.Common.{◌≡◌, List, [], ◌∷◌, ◌++◌, sym, ap, ◌∙◌, arith}
+use Rattle.rk_types.specs.declared.node.Said.{Said}
+use Rattle.rk_world.specs.Cluster.{Cluster, Occurrence}
+use Rattle.rk_cluster.specs.Acted.{all_acted}
+use Rattle.rk_cluster.specs.Replicas.{Fate}
+use Rattle.rk_settle.specs.Course.{Course, moved, moved_all}
+use Rattle.rk_scripts.proofs.play.Moving.{IsCourseFrom, moved_from}
+use Rattle.rk_scripts.specs.answers.Said.{said_along}
+use Rattle.rk_scripts.proofs.answers.Along.{came_said, said_joins}
+
+-- what clients said in a course is what they said along all that occurred in it
+abbrev pub IsCourseSaid : Cluster → Course → Type 0
+IsCourseSaid start course = course.said ≡ said_along start course.occurred
+
+-- it stays so where something comes
+joined_said : (start : Cluster) (course : Course) (occurrences : List Occurrence) → IsCourseFrom start course → IsCourseSaid start course
+    → course.said ++ (all_acted course.cluster occurrences).said ≡ said_along start (course.occurred ++ (all_acted course.cluster occurrences).came)
+joined_said start course occurrences from says =
+    let came : List Occurrence = (all_acted course.cluster occurrences).came in
+    ap (λ (said : List Said). course.said ++ said) (came_said course.cluster occurrences)
+    ∙ ap (λ (said : List Said). said ++ said_along course.cluster came) says
+    ∙ ap (λ (cluster : Cluster). said_along start course.occurred ++ said_along cluster came) from
+    ∙ sym (said_joins start course.occurred came)
+
+-- it stays so at a move; the tasks of a course have no name outside their crate, so it is `grind` that goes through them
+moved_said : (start : Cluster) (course : Course) (fate : Fate) → IsCourseFrom start course → IsCourseSaid start course
+    → IsCourseSaid start (moved course fate)
+moved_said start course fate from says = grind (arith, joined_said)
+
+-- and at all of them
+pub all_moved_said : (start : Cluster) (course : Course) (fates : List Fate) → IsCourseFrom start course → IsCourseSaid start course
+    → IsCourseSaid start (moved_all course fates)
+all_moved_said start course [] from says = says
+all_moved_said start course (fate ∷ fates) from says =
+    all_moved_said start (moved course fate) fates (moved_from start course fate from) (moved_said start course fate from says)

@@ -1,0 +1,213 @@
+-- What a client's session becomes at its turn and when it takes a message: it stays the client's, and it has one receipt more just
+-- where the client says that its call was carried out.
+use Rattle.std.proofs.Common.{◌≡◌, ℕ, ◌+◌, ◌-◌, Bool, true, false, cond, eqb, List, [], ◌∷◌, ◌++◌, length, length-append, map, Option, None, Some, IfSome, slice_get, refl, sym, ap, subst, ◌∙◌, append-nil, arith}
+use Rattle.std.specs.Prelude.{◌==◌}
+use Rattle.std.proofs.lemmas.Bool.{eq-eqb, ne_eqb}
+use Rattle.std.proofs.lemmas.List.{map-append}
+use Rattle.std.proofs.lemmas.Option.{slice_get-get_or}
+use Rattle.std.proofs.Math.Seq.{get_or-append_seam}
+use Rattle.rk_types.specs.declared.call.Answer.{Answer}
+use Rattle.rk_types.specs.declared.call.Answer.TheVariants as answers
+use Rattle.rk_types.specs.declared.call.Call.{Call}
+use Rattle.rk_types.specs.declared.call.Op.{Op}
+use Rattle.rk_types.specs.declared.call.Outcome.{Outcome}
+use Rattle.rk_types.specs.declared.history.Receipt.{Receipt}
+use Rattle.rk_types.specs.declared.node.Said.{Said}
+use Rattle.rk_types.specs.declared.node.Said.TheVariants as says
+use Rattle.rk_message.specs.declared.calls.Located.{Located}
+use Rattle.rk_message.specs.declared.calls.Reply.{Reply}
+use Rattle.rk_message.specs.declared.message.Body.{Body}
+use Rattle.rk_message.specs.declared.message.Body.TheVariants as bodies
+use Rattle.rk_message.specs.declared.message.Message.{Message}
+use Rattle.rk_world.specs.declared.event.Taken.TheVariants as takes
+use Rattle.rk_world.specs.Calls.{accepting, asking, asking_by, fits_with, is_asked_here, taking, untouched}
+use Rattle.rk_world.specs.Client.{Accepted, MOST_REQUESTS, Session, accepted_by, accepted_of, answer_accepted, call_lane, done, has_call, ignoring, looking_up, range_of, receipt_of, session_calling, turn_by, turn_of, turn_to, with_range}
+use Rattle.rk_world.specs.World.{World}
+use Rattle.rk_cluster.specs.Acted.{last_receipt, reply_of, said_by, said_of}
+use Rattle.rk_scripts.specs.answers.Said.{replies_to, told_by}
+
+-- a session is a client's own, and so is its outstanding call
+pub record IsOwn (client : ℕ) (session : Session) : Type 0 where
+  pub client_is : session.client ≡ client
+  pub call_is : IfSome session.outstanding (λ call. call.client ≡ client)
+
+-- a client's own session after something was said: its new receipts are told by that, and no other client is told anything
+pub record Tells (client : ℕ) (before after : Session) (said : List Said) : Type 0 where
+  pub own : IsOwn client after
+  pub told : map told_by after.receipts ≡ map told_by before.receipts ++ replies_to client said
+  pub alone : (other : ℕ) → (client ≡ other → ⊥) → replies_to other said ≡ []
+
+-- a session has the client, the receipts and the outstanding call that it had
+record Keeps (before after : Session) : Type 0 where
+  client_is : after.client ≡ before.client
+  receipts_are : after.receipts ≡ before.receipts
+  call_is : after.outstanding ≡ before.outstanding
+
+-- where a session keeps them and nothing that is said is a reply, nothing is told
+tells_none : (client : ℕ) (before after : Session) (said : List Said) → IsOwn client before → Keeps before after
+    → ((other : ℕ) → replies_to other said ≡ []) → Tells client before after said
+tells_none client before after said own keeps none = record {
+  own = record {
+    client_is = keeps.client_is ∙ own.client_is;
+    call_is = subst (λ (out : Option Call). IfSome out (λ call. call.client ≡ client)) (sym keeps.call_is) own.call_is;
+  };
+  told =
+      ap (map told_by) keeps.receipts_are
+      ∙ sym (append-nil (map told_by before.receipts))
+      ∙ ap (λ (more : List Said). map told_by before.receipts ++ more) (sym (none client));
+  alone = λ other apart. none other;
+}
+
+keeps_all : (session : Session) → Keeps session session
+keeps_all session = record { client_is = refl; receipts_are = refl; call_is = refl }
+
+-- so it is where the session does not change at all
+quiet_tells : (client : ℕ) (session : Session) (said : List Said) → IsOwn client session → ((other : ℕ) → replies_to other said ≡ [])
+    → Tells client session session said
+quiet_tells client session said own none = tells_none client session session said own (keeps_all session) none
+
+-- ---- calls
+
+-- a client asks its next call, unless one is outstanding
+pub calling_tells : (client : ℕ) (session : Session) (table : ℕ) (key : List ℕ) (op : Op) (busy : Option ℕ) → IsOwn client session
+    → Tells client session (session_calling session table key op busy) []
+calling_tells client session table key op None own = record {
+  own = record { client_is = own.client_is; call_is = own.client_is };
+  told = sym (append-nil (map told_by session.receipts));
+  alone = λ other apart. refl;
+}
+calling_tells client session table key op (Some seq) own =
+    quiet_tells client session [] own (λ other. refl)
+
+-- ---- turns
+
+module _ (session : Session) (call : Call) where
+  to_keeps : (tablet : ℕ) (owner : Option ℕ) → Keeps session (turn_to session call tablet owner).session
+  to_keeps tablet None = record { client_is = refl; receipts_are = refl; call_is = refl }
+  to_keeps tablet (Some master) = record { client_is = refl; receipts_are = refl; call_is = refl }
+
+  turn_keeps : (found : Option Located) → Keeps session (turn_by session call found).session
+  turn_keeps None = record { client_is = refl; receipts_are = refl; call_is = refl }
+  turn_keeps (Some located) =
+      elim (session.requests == MOST_REQUESTS) as
+      (λ b. Keeps session (cond b (looking_up session call) (turn_to session call located.tablet located.owner)).session) [
+        | true ↦ record { client_is = refl; receipts_are = refl; call_is = refl }
+        | false ↦ to_keeps located.tablet located.owner
+      ]
+
+module _ (w : World) (session : Session) where
+  turned_keeps : (call : Call) (out : Option Call) → Keeps session (asking_by w session call (turn_of session out)).session
+  turned_keeps call None = keeps_all session
+  turned_keeps call (Some outstanding) = turn_keeps session outstanding (range_of session outstanding)
+
+  asking_keeps : (out : Option Call) → Keeps session (asking w session out).session
+  asking_keeps None = keeps_all session
+  asking_keeps (Some call) =
+      elim (fits_with w session call) as
+      (λ b. Keeps session (cond b (asking_by w session call (turn_of session session.outstanding)) (untouched w session None)).session) [
+        | true ↦ turned_keeps call session.outstanding
+        | false ↦ keeps_all session
+      ]
+
+  -- a client takes its turn
+  pub asking_tells : (client : ℕ) → IsOwn client session → Tells client session (asking w session session.outstanding).session []
+  asking_tells client own =
+      tells_none client session (asking w session session.outstanding).session [] own (asking_keeps session.outstanding) (λ other. refl)
+
+-- ---- answers
+
+-- the last of receipts is the one that was put behind them
+last_put : (receipts : List Receipt) (receipt : Receipt) → last_receipt (receipts ++ receipt ∷ []) ≡ Some receipt
+last_put receipts receipt =
+    let one_more : length (receipts ++ receipt ∷ []) ≡ length receipts + 1 = length-append receipts (receipt ∷ []) in
+    ap (slice_get (receipts ++ receipt ∷ []))
+    (let last : length (receipts ++ receipt ∷ []) - 1 ≡ length receipts = omega (arith, one_more) in last)
+    ∙ slice_get-get_or (receipts ++ receipt ∷ []) (length receipts) receipt (omega (arith, one_more))
+    ∙ ap Some (get_or-append_seam receipts receipt [] receipt)
+
+module _ (client : ℕ) (session : Session) (call : Call) (own : IsOwn client session) (of_client : call.client ≡ client) where
+  -- what the client says of what it took, with these receipts after it
+  abbrev Said-of : Accepted → List Said
+  Said-of accepted = said_of call accepted.session.receipts accepted.taken
+
+  -- the reply that tells a receipt, as another client hears it
+  heard : (other : ℕ) (receipt : Receipt) (b : Bool) → eqb call.client other ≡ b
+      → replies_to other (says.Reply call.client receipt.call.seq receipt.outcome ∷ [])
+      ≡ cond b (says.Reply call.client receipt.call.seq receipt.outcome ∷ []) []
+  heard other receipt b is =
+      ap (λ (test : Bool). cond test (says.Reply call.client receipt.call.seq receipt.outcome ∷ []) []) is
+
+  done_tells : (reply : Reply) (outcome : Outcome)
+      → Tells client session (done session call reply outcome)
+      (reply_of call.client (last_receipt (done session call reply outcome).receipts))
+  done_tells reply outcome =
+      let receipt : Receipt = receipt_of call reply outcome in
+      subst (λ (last : Option Receipt). Tells client session (done session call reply outcome) (reply_of call.client last))
+      (sym (last_put session.receipts receipt))
+      (record {
+        own = record { client_is = own.client_is; call_is = tt };
+        told =
+            map-append told_by session.receipts (receipt ∷ [])
+            ∙ ap (λ (more : List Said). map told_by session.receipts ++ more)
+            (sym (heard client receipt true (eq-eqb call.client client of_client)));
+        alone = λ other apart. heard other receipt false (ne_eqb call.client other (λ same. apart (sym of_client ∙ same)));
+      })
+
+  answered_tells : (reply : Reply) (answer : Answer)
+      → Tells client session (answer_accepted session call reply answer).session (Said-of (answer_accepted session call reply answer))
+  answered_tells reply (answers.Done outcome) = done_tells reply outcome
+  answered_tells reply (answers.Moved tablet) =
+      tells_none client session (answer_accepted session call reply (answers.Moved tablet)).session
+      (says.Moved call.client call.seq tablet ∷ []) own
+      (record { client_is = refl; receipts_are = refl; call_is = refl }) (λ other. refl)
+  answered_tells reply (answers.NotYet key) =
+      quiet_tells client session (says.NotYet call.client call.seq key ∷ []) own (λ other. refl)
+
+  by_tells : (body : Body) → Tells client session (accepted_by session call body).session (Said-of (accepted_by session call body))
+  by_tells (bodies.Located located) =
+      elim (has_call call located) as
+      (λ b.
+      let accepted = cond b (record { session = with_range session (call_lane call) located; taken = takes.Located }) (ignoring session) in
+      Tells client session accepted.session (Said-of accepted)) [
+        | true ↦ tells_none client session (with_range session (call_lane call) located) [] own
+            (record { client_is = refl; receipts_are = refl; call_is = refl }) (λ other. refl)
+        | false ↦ quiet_tells client session [] own (λ other. refl)
+      ]
+  by_tells (bodies.Reply reply) =
+      elim (reply.seq == call.seq) as
+      (λ b.
+      let accepted = cond b (answer_accepted session call reply reply.answer) (ignoring session) in
+      Tells client session accepted.session (Said-of accepted)) [
+        | true ↦ answered_tells reply reply.answer
+        | false ↦ quiet_tells client session [] own (λ other. refl)
+      ]
+  by_tells body = quiet_tells client session [] own (λ other. refl)
+
+module _ (w : World) (client : ℕ) (session : Session) (own : IsOwn client session) where
+  of_tells : (out : Option Call) → IfSome out (λ call. call.client ≡ client) → (body : Body)
+      → Tells client session (accepted_of session out body).session
+      (said_by out (accepted_of session out body).session.receipts (Some (accepted_of session out body).taken))
+  of_tells None of_client body = quiet_tells client session [] own (λ other. refl)
+  of_tells (Some call) of_client body = by_tells client session call own of_client body
+
+  nothing_tells : (out : Option Call) → Tells client session session (said_by out session.receipts None)
+  nothing_tells None = quiet_tells client session [] own (λ other. refl)
+  nothing_tells (Some call) = quiet_tells client session [] own (λ other. refl)
+
+  ignored_tells : (out : Option Call) → Tells client session session (said_by out session.receipts (Some takes.Ignored))
+  ignored_tells None = quiet_tells client session [] own (λ other. refl)
+  ignored_tells (Some call) = quiet_tells client session [] own (λ other. refl)
+
+  -- a client takes what is found on the wire
+  pub accepting_tells : (found : Option Message)
+      → Tells client session (accepting w session found).session
+      (said_by session.outstanding (accepting w session found).session.receipts (accepting w session found).seen.taken)
+  accepting_tells None = nothing_tells session.outstanding
+  accepting_tells (Some message) =
+      elim (is_asked_here w session) as
+      (λ b.
+      let visited = cond b (taking w session message.body) (untouched w session (Some takes.Ignored)) in
+      Tells client session visited.session (said_by session.outstanding visited.session.receipts visited.seen.taken)) [
+        | true ↦ of_tells session.outstanding own.call_is message.body
+        | false ↦ ignored_tells session.outstanding
+      ]

@@ -1,0 +1,56 @@
+-- Where no count of a replica rose no call has failed.
+use Rattle.std.proofs.Common.{◌≡◌, ◌≤◌, ◌<◌, ◌+◌, ◌++◌, ℕ, zero, suc, Bool, true, false, List, [], ◌∷◌, All, length, map, replicate, Option, None, Some, IfSome, refl, sym, ap, subst, ◌∙◌, ⊎_elim, arith}
+use Rattle.std.specs.Prelude.{if◌then◌else◌}
+use Rattle.std.proofs.lemmas.List.Elements.{All-head}
+use Rattle.rk_cluster.specs.Faults.{Counts, GoOn, MOST_COUNT, RoseBy, times_lost}
+use Rattle.rk_cluster.specs.Replicas.{Fate, IsLost, Kept, Lost}
+use Rattle.rk_cluster.proofs.Faults.{is_of_it, times_both}
+use Rattle.rk_settle.specs.Faults.{RoseInRounds}
+use Rattle.rk_play.specs.Played.{all_fates, faultless}
+use Rattle.rk_scripts.specs.play.Alone.{IsFaultless, NoneRose}
+
+-- a count that stays, and is less than the greatest, rose by nothing
+stayed : (many : ℕ) (before now : Option ℕ) → RoseBy many before now → now ≡ before → IfSome now (λ count. count < MOST_COUNT) → many ≡ 0
+stayed many None None rose same below = rose
+stayed many None (Some now) rose same below = absurd rose
+stayed many (Some before) None rose same below = absurd rose
+stayed many (Some before) (Some now) rose same below =
+    let equal : now ≡ before = cc same in
+    ⊎_elim (λ (risen : before + many ≤ now). let none : many ≡ 0 = omega (arith, equal, risen) in none)
+    (λ (full : MOST_COUNT ≤ now). absurd (omega (arith, below, full))) rose
+
+never_lost : (fates : List Fate) (before now : Counts) → GoOn fates before now → NoneRose before now → (lane place : ℕ) → times_lost lane place fates ≡ 0
+never_lost fates before now on none lane place =
+    stayed (times_lost lane place fates) (before lane place) (now lane place) (on lane place) (none.same lane place) (none.below lane place)
+
+-- the first of some fates is no loss, where there is none among them
+lost_first : (lane place left : ℕ) (fates : List Fate) → times_lost lane place (Lost lane place left ∷ fates) ≡ 0 → ⊥
+lost_first lane place left fates none =
+    let counted : (if true then 1 else 0) + times_lost lane place fates ≡ 0 =
+    ap (λ (b : Bool). (if b then 1 else 0) + times_lost lane place fates) (sym (is_of_it lane place left)) ∙ none in
+    absurd (omega (arith, counted))
+
+all_kept : (fates : List Fate) → ((lane place : ℕ) → times_lost lane place fates ≡ 0) → fates ≡ replicate (length fates) Kept
+all_kept [] none = refl
+all_kept (Kept ∷ fates) none = ap (λ (rest : List Fate). Kept ∷ rest) (all_kept fates (λ lane place. omega (arith, none lane place)))
+all_kept (Lost lane place left ∷ fates) none = absurd (lost_first lane place left fates (none lane place))
+
+all_faultless : (fates : List (List Fate)) → ((lane place : ℕ) → times_lost lane place (all_fates fates) ≡ 0) → fates ≡ faultless (map length fates)
+all_faultless [] none = refl
+all_faultless (first ∷ later) none =
+    let one = all_kept first (λ lane place. omega (arith, times_both lane place first (all_fates later), none lane place)) in
+    let two = all_faultless later (λ lane place. omega (arith, times_both lane place first (all_fates later), none lane place)) in
+    λ i. one i ∷ two i
+
+pub none_lost : (fates : List (List Fate)) (before now : Counts) → GoOn (all_fates fates) before now → NoneRose before now → IsFaultless fates
+none_lost fates before now on none = record { moves = map length fates; are = all_faultless fates (never_lost (all_fates fates) before now on none) }
+
+-- no round has seen a rise
+no_round : (failed : List Fate) → All IsLost failed → ((lane place : ℕ) → times_lost lane place failed ≡ 0) → length failed ≡ 0
+no_round [] lost none = refl
+no_round (Kept ∷ failed) lost none = absurd (All-head IsLost Kept failed lost)
+no_round (Lost lane place left ∷ failed) lost none = absurd (lost_first lane place left failed (none lane place))
+
+pub none_in_rounds : (rounds : ℕ) (before now : Counts) → RoseInRounds rounds before now → NoneRose before now → rounds ≡ 0
+none_in_rounds rounds before now rose none =
+    omega (arith, rose.often, no_round rose.failed rose.are_lost (never_lost rose.failed before now rose.rose none))

@@ -1,0 +1,25 @@
+-- What the tests of commands say, where no code refuses one.
+use Rattle.std.proofs.Common.{◌≡◌, ℕ, ◌≤◌, not, nat_le, Bool, true, false, Option, None, refl, subst, arith}
+use Rattle.std.specs.Option.{option_or}
+use Rattle.std.proofs.lemmas.Bool.{and_parts, leb-true, not-false}
+use Rattle.rk_world.specs.Cluster.{Cluster}
+use Rattle.rk_world.specs.Premises.{IsMaster}
+use Rattle.rk_cluster.specs.Codes.{code_where}
+use Rattle.rk_cluster.specs.Looks.{is_master, master_count}
+use Rattle.rk_cluster.specs.declared.code.Code.{Code}
+use Rattle.rk_scripts.proofs.play.Reaching.{IsReached, lane_good}
+
+-- where no code applies neither this one does nor those behind it
+pub passes : (b : Bool) (code : Code) (others : Option Code) → option_or (code_where b code) others ≡ None → (b ≡ false) × (others ≡ None)
+passes true code others none = absurd (cc none)
+passes false code others none = (refl, none)
+
+-- a master is there, where it is not unknown
+pub master_there : (masters backups : ℕ) (cluster : Cluster) (master : ℕ) → IsReached masters backups cluster → not (is_master cluster master) ≡ false → IsMaster masters master
+master_there masters backups cluster master reached known =
+    let parts = and_parts (nat_le 1 master) (nat_le master (master_count cluster)) (not-false (is_master cluster master) known) in
+    let counted : master_count cluster ≡ masters = (lane_good masters backups cluster reached 0 (omega arith)).masters_are in
+    record {
+      first = leb-true 1 master parts.0;
+      last = subst (λ (count : ℕ). master ≤ count) counted (leb-true master (master_count cluster) parts.1);
+    }

@@ -1,0 +1,143 @@
+-- `advance` ends where it is not refused.
+use Rattle.std.proofs.Common.{◌≡◌, ◌<◌, ◌≤◌, ◌+◌, ◌==◌, ◌||◌, ℕ, zero, suc, Bool, true, false, not, nat_le, List, [], ◌∷◌, length, map, Option, None, Some, refl, sym, ap, subst, ◌∙◌, inl, inr, arith}
+use Rattle.std.specs.List.{list_any, range_with_len}
+use Rattle.std.proofs.lemmas.Bool.{eqb-true, false≢true, true≢false}
+use Rattle.std.proofs.lemmas.Option.{none-some}
+use Rattle.rk_types.specs.declared.hashing.TheConstants.{LANES}
+use Rattle.rk_tablet_map.specs.Rows.{row_of}
+use Rattle.rk_tablet_map.specs.declared.phase.Phase.{Phase}
+use Rattle.rk_tablet_map.specs.declared.phase.Phase.TheVariants.{Owned, Opening, Moving, Rebuilding}
+use Rattle.rk_tablet_map.specs.declared.row.Row.{Row}
+use Rattle.rk_world.specs.Cluster.{Cluster, lane_at}
+use Rattle.rk_world.specs.World.{World, has_crashed}
+use Rattle.rk_cluster.specs.Codes.{code_where, first_code}
+use Rattle.rk_cluster.specs.Looks.{all_lanes, is_tablet}
+use Rattle.rk_cluster.specs.declared.code.Code.{Code}
+use Rattle.rk_cluster.specs.declared.code.Code.TheVariants.{Crashed, NotMigrating, Unknown}
+use Rattle.rk_settle.specs.Advance.{advance}
+use Rattle.rk_settle.specs.Codes.{advance_code, has_dead_migration, has_dead_party, is_dead_migration, short_lanes}
+use Rattle.rk_settle.specs.Course.{Course, course_of}
+use Rattle.rk_settle.specs.Reaches.{is_short_of}
+use Rattle.rk_settle.proofs.Unfolded.{advance_are}
+use Rattle.rk_scripts.proofs.play.Reaching.{reached_eight}
+use Rattle.rk_scripts.specs.settle.Moves.{EndsUnlessRefused}
+use Rattle.rk_scripts.proofs.settle.Advancing.{advancing}
+use Rattle.rk_scripts.proofs.settle.ExchangeTasks.{Reach, advances}
+use Rattle.rk_scripts.proofs.settle.Finishing.{ends_unless}
+use Rattle.rk_scripts.proofs.settle.Going.{Comes, Goes, comes_here, goes_done, goes_on}
+use Rattle.rk_scripts.proofs.settle.Migrating.{First, migrates, migrates_by}
+use Rattle.rk_scripts.proofs.settle.Noticing.{in_range, is_in}
+use Rattle.rk_scripts.proofs.settle.Ordering.{IsLaneNow}
+use Rattle.rk_scripts.proofs.settle.Rounds.{Never}
+use Rattle.rk_scripts.proofs.settle.Setting.{IsSane, Setting}
+use Rattle.rk_scripts.proofs.settle.Tasks.{Task}
+use Rattle.rk_scripts.proofs.settle.Tracking.{is_in_filtered}
+
+-- ---- a migration that is not refused
+
+-- of two, neither is so
+neither : (a b : Bool) → (a || b) ≡ false → (a ≡ false) × (b ≡ false)
+neither false b is = (refl, is)
+neither true b is = absurd (true≢false is)
+
+-- where no party of a row's migration is dead
+party_lives : (tablet : ℕ) (w : World) (found : Option Row) → row_of w.coordinator.rows tablet ≡ found → is_dead_migration w found ≡ false → First tablet w
+party_lives tablet w None is alive = inl (ap migrates_by is)
+party_lives tablet w (Some row) is alive = go row.phase refl alive
+  where
+    none : (phase : Phase) → row.phase ≡ phase → migrates phase ≡ false → First tablet w
+    none phase at still = inl (ap migrates_by is ∙ (ap migrates at ∙ still))
+
+    go : (phase : Phase) → row.phase ≡ phase → has_dead_party w phase ≡ false → First tablet w
+    go (Owned master from) at alive = none (Owned master from) at refl
+    go (Rebuilding lineage to) at alive = none (Rebuilding lineage to) at refl
+    go (Opening source sfrom target dfrom) at alive =
+        let each = neither (has_crashed w source) (has_crashed w target) alive in
+        inr
+        (inl
+        (record {
+          row = row;
+          source = source;
+          sfrom = sfrom;
+          target = target;
+          dfrom = dfrom;
+          there = record { found = is; phase_is = at; source_lives = each.0; target_lives = each.1 };
+        }))
+    go (Moving source sfrom target dfrom) at alive =
+        let each = neither (has_crashed w source) (has_crashed w target) alive in
+        inr
+        (inr
+        (record {
+          row = row;
+          source = source;
+          sfrom = sfrom;
+          target = target;
+          dfrom = dfrom;
+          there = record { found = is; phase_is = at; source_lives = each.0; target_lives = each.1 };
+        }))
+
+-- where no code applies, the last one does not
+last_none : (a b c : Option Code) → first_code (a ∷ b ∷ c ∷ []) ≡ None → c ≡ None
+last_none None None None none = refl
+last_none None None (Some code) none = absurd (none-some code (sym none))
+last_none None (Some code) c none = absurd (none-some code (sym none))
+last_none (Some code) b c none = absurd (none-some code (sym none))
+
+where_none : (b : Bool) (code : Code) → code_where b code ≡ None → b ≡ false
+where_none true code some = absurd (none-some code (sym some))
+where_none false code none = refl
+
+-- what none of a list passes, one of them does not
+any_none : (test : ℕ → Bool) (list : List ℕ) (n : ℕ) → list_any test list ≡ false → is_in n list ≡ true → test n ≡ false
+any_none test [] n none there = absurd (false≢true there)
+any_none test (first ∷ list) n none there =
+    let each = neither (test first) (list_any test list) none in go (first == n) refl there each.0 (any_none test list n each.1)
+  where
+    go : (b : Bool) → (first == n) ≡ b → (b || is_in n list) ≡ true → test first ≡ false → (is_in n list ≡ true → test n ≡ false) → test n ≡ false
+    go true is there fails later = ap test (sym (eqb-true first n is)) ∙ fails
+    go false is there fails later = later there
+
+module _ (cluster : Cluster) (tablet : ℕ) (reach : Reach) (eight : length cluster.lanes ≡ LANES) (allowed : advance_code cluster tablet reach ≡ None) where
+  -- in each lane where the migration is short of the reach, its parties live
+  first_at : (lane : ℕ) → lane < LANES → is_short_of (lane_at cluster lane) tablet reach ≡ true → First tablet (lane_at cluster lane)
+  first_at lane inside short =
+      let lanes : List ℕ = short_lanes cluster tablet reach in
+      let alive : has_dead_migration cluster lanes tablet ≡ false =
+      where_none (has_dead_migration cluster lanes tablet) Crashed
+      (last_none (code_where (not (is_tablet cluster tablet)) Unknown) (code_where (nat_le (length lanes) 0) NotMigrating)
+      (code_where (has_dead_migration cluster lanes tablet) Crashed) allowed) in
+      let there : is_in lane lanes ≡ true =
+      is_in_filtered (λ (q : ℕ). is_short_of (lane_at cluster q) tablet reach) (all_lanes cluster) lane
+      (in_range 0 (length cluster.lanes) lane (omega arith) (omega (arith, inside, eight))) short in
+      party_lives tablet (lane_at cluster lane) (row_of (lane_at cluster lane).coordinator.rows tablet) refl
+      (any_none (λ (q : ℕ). is_dead_migration (lane_at cluster q) (row_of (lane_at cluster q).coordinator.rows tablet)) lanes lane alive there)
+
+-- ---- lane after lane
+
+module _ (s : Setting) (tablet : ℕ) (reach : Reach) (first : (lane : ℕ) → lane < LANES → is_short_of (lane_at s.start lane) tablet reach ≡ true → First tablet (lane_at s.start lane)) where
+  -- the lanes that are left are as they were
+  lanes_advance : (count from : ℕ) → from + count ≡ LANES → (before : Cluster) (course : Course) → Comes s before course
+      → course.tasks ≡ map (λ lane. advances lane tablet reach) (range_with_len from count) → ((q : ℕ) → from ≤ q → lane_at course.cluster q ≡ lane_at s.start q)
+      → Goes s before course Never
+  lanes_advance zero from all before course comes are same = goes_done s before course Never (inl are)
+  lanes_advance (suc count) from all before course comes are same =
+      let rest : List Task = map (λ lane. advances lane tablet reach) (range_with_len (from + 1) count) in
+      let inside : from < LANES = omega (arith, all) in
+      let here : lane_at course.cluster from ≡ lane_at s.start from = same from (omega arith) in
+      goes_on s before course (IsLaneNow from course.cluster rest (λ w. Unit {0})) Never
+      (advancing s from inside course.cluster tablet reach rest before course comes are (λ q apart. refl)
+      (subst (λ (w : World). is_short_of w tablet reach ≡ true → First tablet w) (sym here) (first from inside)))
+      (λ later comes_later now.
+      lanes_advance count (from + 1) (omega (arith, all)) before later comes_later now.left
+      (λ q above. now.beside q (λ is. omega (arith, above, is)) ∙ same q (omega (arith, above))))
+
+  advanced : IsSane s (course_of s.start (advance s.start tablet reach)) → Goes s s.start (course_of s.start (advance s.start tablet reach)) Never
+  advanced sane =
+      lanes_advance LANES 0 refl s.start (course_of s.start (advance s.start tablet reach)) (comes_here s (course_of s.start (advance s.start tablet reach)) sane)
+      (ap (λ (count : ℕ). map (λ lane. advances lane tablet reach) (range_with_len 0 count)) (reached_eight s.masters s.backups s.start s.reached)) (λ q above. refl)
+
+pub advance_ends : (tablet : ℕ) (reach : Reach) → EndsUnlessRefused (λ cluster. advance_code cluster tablet reach) (λ cluster. advance cluster tablet reach)
+advance_ends tablet reach =
+    ends_unless (λ cluster. advance_code cluster tablet reach) (λ cluster. advance cluster tablet reach)
+    (λ masters cluster names. advance_are masters cluster names tablet reach)
+    (λ s allowed sane. advanced s tablet reach (first_at s.start tablet reach (reached_eight s.masters s.backups s.start s.reached) allowed) sane)

@@ -1,0 +1,59 @@
+-- `priority` ends: in each lane at most one exchange is made.
+use Rattle.std.proofs.Common.{◌≡◌, ◌<◌, ℕ, Bool, true, false, cond, List, [], ◌∷◌, ◌++◌, Option, None, Some, refl}
+use Rattle.rk_tablet_map.specs.Rows.{row_of}
+use Rattle.rk_tablet_map.specs.declared.phase.Phase.{Phase}
+use Rattle.rk_tablet_map.specs.declared.phase.Phase.TheVariants.{Moving}
+use Rattle.rk_tablet_map.specs.declared.row.Row.{Row}
+use Rattle.rk_types.specs.declared.hashing.TheConstants.{LANES}
+use Rattle.rk_types.specs.declared.node.Node.{Node}
+use Rattle.rk_types.specs.declared.node.Node.TheVariants as nodes
+use Rattle.rk_world.specs.Cluster.{Cluster, lane_at}
+use Rattle.rk_world.specs.World.{World, tablet_in}
+use Rattle.rk_settle.specs.Course.{Course}
+use Rattle.rk_settle.specs.Priority.{hasten_phase, hasten_row, hasten_tasks, priority, wants_first}
+use Rattle.rk_settle.specs.Tasks.{turn_exchange}
+use Rattle.rk_settle.proofs.Unfolded.{priority_are}
+use Rattle.rk_scripts.specs.settle.Moves.{AlwaysEnds}
+use Rattle.rk_scripts.proofs.settle.ExchangeTasks.{Topic, hastens}
+use Rattle.rk_scripts.proofs.settle.Exchanged.{turn_exchanging}
+use Rattle.rk_scripts.proofs.settle.Exchanging.{HasLeft}
+use Rattle.rk_scripts.proofs.settle.Finishing.{always_ends, lanes_end}
+use Rattle.rk_scripts.proofs.settle.Going.{Comes, Goes, IsAt, goes_here, goes_on, still_move}
+use Rattle.rk_scripts.proofs.settle.Setting.{Setting}
+use Rattle.rk_scripts.proofs.settle.Tasks.{Task}
+
+module _ (s : Setting) (lane : ℕ) (inside : lane < LANES) (rest : List Task) where
+  -- an exchange, or none
+  pub maybe_exchanging : (b : Bool) (topic : Topic) (node : Node) (before : Cluster) (course : Course) → Comes s before course
+      → course.tasks ≡ cond b (turn_exchange lane topic node ∷ []) [] ++ rest → Goes s before course (HasLeft rest)
+  maybe_exchanging true topic node before course comes are = turn_exchanging s lane inside topic node rest before course comes are
+  maybe_exchanging false topic node before course comes are = goes_here s before course (HasLeft rest) comes are
+
+  hastened_phase : (w : World) (tablet : ℕ) (phase : Phase) (before : Cluster) (course : Course) → Comes s before course
+      → course.tasks ≡ hasten_phase w lane tablet phase ++ rest → Goes s before course (HasLeft rest)
+  hastened_phase w tablet (Moving source sfrom target dfrom) before course comes are =
+      maybe_exchanging (wants_first (tablet_in w target tablet)) _ (nodes.Master target) before course comes are
+  hastened_phase w tablet phase before course comes are = goes_here s before course (HasLeft rest) comes are
+
+  hastened_row : (w : World) (tablet : ℕ) (found : Option Row) (before : Cluster) (course : Course) → Comes s before course
+      → course.tasks ≡ hasten_row w lane tablet found ++ rest → Goes s before course (HasLeft rest)
+  hastened_row w tablet None before course comes are = goes_here s before course (HasLeft rest) comes are
+  hastened_row w tablet (Some row) before course comes are = hastened_phase w tablet row.phase before course comes are
+
+  -- a target has asked for what it wants first
+  hastening_ends : (tablet : ℕ) (before : Cluster) (course : Course) → Comes s before course → course.tasks ≡ hastens lane tablet ∷ rest → Goes s before course (HasLeft rest)
+  hastening_ends tablet before course comes are =
+      let w : World = lane_at course.cluster lane in
+      let left : List Task = hasten_tasks w lane tablet ++ rest in
+      goes_on s before course (IsAt course.cluster left) (HasLeft rest)
+      (still_move s before course (hastens lane tablet) rest left (IsAt course.cluster left) comes are
+      (record { cluster_is = refl; tasks_are = refl }) (λ next at. at))
+      (λ later comes_later at. hastened_row w tablet (row_of w.coordinator.rows tablet) before later comes_later at.tasks_are)
+
+pub priority_ends : (tablet : ℕ) → AlwaysEnds (λ cluster. priority cluster tablet)
+priority_ends tablet =
+    always_ends (λ cluster. priority cluster tablet) (λ masters cluster names. priority_are masters cluster names tablet)
+    (λ s sane.
+    lanes_end s (λ lane. hastens lane tablet)
+    (λ lane inside rest before course comes are. hastening_ends s lane inside rest tablet before course comes are)
+    _ sane refl refl)

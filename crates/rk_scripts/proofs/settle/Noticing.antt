@@ -1,0 +1,112 @@
+-- Whether a lane has a master that has crashed and was not noticed; once one is noticed it has none.
+use Rattle.std.proofs.Common.{◌≡◌, ◌==◌, ◌||◌, ◌&&◌, ◌≤◌, ◌<◌, ◌+◌, ℕ, zero, suc, Bool, true, false, cond, not, List, [], ◌∷◌, find, Option, Some, None, refl, sym, ap, subst, ◌∙◌, arith}
+use Rattle.std.specs.Prelude.{All}
+use Rattle.std.specs.List.{list_any, range_with_len}
+use Rattle.std.specs.Option.{option_map, option_or}
+use Rattle.std.proofs.lemmas.Bool.{eqb-false, eqb-true, or_left, or_right, true≢false}
+use Rattle.std.proofs.lemmas.List.Elements.{All-head, All-tail, All-cons, All-nil}
+use Rattle.rk_world.specs.declared.error.StepError.{StepError}
+use Rattle.rk_world.specs.declared.error.StepError.TheVariants as errors
+use Rattle.rk_world.specs.declared.event.Event.TheVariants as events
+use Rattle.rk_world.specs.Backup.{Called}
+use Rattle.rk_world.specs.Coordinator.{is_noticed}
+use Rattle.rk_world.specs.Formed.{IsWellFormed}
+use Rattle.rk_world.specs.Premises.{IsMaster}
+use Rattle.rk_world.specs.Refusals.{refusal, worn}
+use Rattle.rk_world.specs.Runs.{world_stepped}
+use Rattle.rk_world.specs.Step.{step, stepped_by}
+use Rattle.rk_world.specs.World.{World, has_crashed}
+use Rattle.rk_inv_wellformed.proofs.maps.Lists.{find_passes}
+use Rattle.rk_runs.specs.duties.Owners.{AllNoticed}
+use Rattle.rk_runs.proofs.duties.Noticing.{all_noticed}
+
+-- ---- lists of numbers
+
+-- whether a number stands in a list
+abbrev pub is_in : ℕ → List ℕ → Bool
+is_in number list = list_any (λ (other : ℕ). other == number) list
+
+-- what all have, one has that stands among them
+pub one_of : (P : ℕ → Type 0) (list : List ℕ) (number : ℕ) → All P list → is_in number list ≡ true → P number
+one_of P [] number all there = absurd (cc there)
+one_of P (first ∷ rest) number all there = go (one_of P rest number (All-tail P first rest all)) (first == number) refl there
+  where
+    go : (is_in number rest ≡ true → P number) → (b : Bool) → (first == number) ≡ b → (b || is_in number rest) ≡ true → P number
+    go later true is in_all = subst P (eqb-true first number is) (All-head P first rest all)
+    go later false is in_all = later in_all
+
+-- the numbers of a range stand in it
+pub in_range : (start count number : ℕ) → start ≤ number → number < start + count → is_in number (range_with_len start count) ≡ true
+in_range start zero number first before = absurd (omega (arith, first, before))
+in_range start (suc count) number first before =
+    go (λ after. in_range (start + 1) count number after (omega (arith, before))) (start == number) refl
+  where
+    go : (start + 1 ≤ number → is_in number (range_with_len (start + 1) count) ≡ true) → (b : Bool) → (start == number) ≡ b
+        → (start == number || is_in number (range_with_len (start + 1) count)) ≡ true
+    go later true is = or_left (start == number) (is_in number (range_with_len (start + 1) count)) is
+    go later false is =
+        let apart = eqb-false start number is in
+        or_right (start == number) (is_in number (range_with_len (start + 1) count)) (later (omega (arith, first, apart)))
+
+-- where nothing is found all fail
+pub none_found : (test : ℕ → Bool) (list : List ℕ) → find test list ≡ None → All (λ number. test number ≡ false) list
+none_found test [] none = All-nil _
+none_found test (first ∷ rest) none = go (none_found test rest) (test first) refl none
+  where
+    go : (find test rest ≡ None → All (λ number. test number ≡ false) rest) → (b : Bool) → test first ≡ b → cond b (Some first) (find test rest) ≡ None
+        → All (λ number. test number ≡ false) (first ∷ rest)
+    go later true is found = absurd (cc found)
+    go later false is found = All-cons (λ (number : ℕ). test number ≡ false) first rest is (later found)
+
+-- ---- a lane
+
+module _ (w : World) (formed : IsWellFormed w) where
+  -- a master that has crashed is one of the lane's
+  crashed_there : (master : ℕ) → has_crashed w master ≡ true → is_in master (range_with_len 1 w.coordinator.masters) ≡ true
+  crashed_there master crashed =
+      let is : IsMaster w.coordinator.masters master = one_of (IsMaster w.coordinator.masters) w.crashed master formed.crashed crashed in
+      in_range 1 w.coordinator.masters master is.first (omega (arith, is.last))
+
+  -- once a crash is noticed, all are
+  pub notice_notices : (dead : ℕ) (called : Called) → worn w ≡ None → has_crashed w dead ≡ true → AllNoticed (world_stepped w (step w (events.Notice dead) called))
+  notice_notices dead called fresh gone =
+      subst (λ (refused : Option StepError). AllNoticed (world_stepped w (stepped_by w (events.Notice dead) called refused))) (sym none)
+      (all_noticed w formed dead called)
+    where
+      none : refusal w (events.Notice dead) ≡ None
+      none =
+          ap (λ (number : Option ℕ). option_or (option_map errors.Worn number) (cond (not (has_crashed w dead)) (Some (errors.Alive dead)) None)) fresh
+          ∙ ap (λ (b : Bool). cond (not b) (Some (errors.Alive dead)) None) gone
+
+  abbrev is_unnoticed_in : ℕ → Bool
+  is_unnoticed_in master = has_crashed w master && not (is_noticed w.coordinator master)
+
+  -- where none is found that has crashed and was not noticed, all were
+  pub none_unnoticed : find is_unnoticed_in (range_with_len 1 w.coordinator.masters) ≡ None → AllNoticed w
+  none_unnoticed none master crashed =
+      go (has_crashed w master) (is_noticed w.coordinator master) crashed
+      (one_of (λ (other : ℕ). is_unnoticed_in other ≡ false) (range_with_len 1 w.coordinator.masters) master
+      (none_found is_unnoticed_in (range_with_len 1 w.coordinator.masters) none) (crashed_there master crashed))
+    where
+      go : (a b : Bool) → a ≡ true → (a && not b) ≡ false → b ≡ true
+      go true true gone is = refl
+      go true false gone is = absurd (cc is)
+      go false b gone is = absurd (cc gone)
+
+  -- one that is found has crashed
+  pub unnoticed_crashed : (dead : ℕ) → find is_unnoticed_in (range_with_len 1 w.coordinator.masters) ≡ Some dead → has_crashed w dead ≡ true
+  unnoticed_crashed dead found = go (has_crashed w dead) (is_noticed w.coordinator dead) (find_passes is_unnoticed_in (range_with_len 1 w.coordinator.masters) dead found)
+    where
+      go : (a b : Bool) → (a && not b) ≡ true → a ≡ true
+      go true b is = refl
+      go false b is = is
+
+  -- and where all were noticed none is found
+  pub all_noticed_none : (dead : ℕ) → AllNoticed w → find is_unnoticed_in (range_with_len 1 w.coordinator.masters) ≡ Some dead → ⊥
+  all_noticed_none dead all found =
+      go (has_crashed w dead) (is_noticed w.coordinator dead) (all dead) (find_passes is_unnoticed_in (range_with_len 1 w.coordinator.masters) dead found)
+    where
+      go : (a b : Bool) → (a ≡ true → b ≡ true) → (a && not b) ≡ true → ⊥
+      go true true all is = true≢false (sym is)
+      go true false all is = true≢false (sym (all refl))
+      go false b all is = true≢false (sym is)

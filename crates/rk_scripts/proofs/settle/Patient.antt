@@ -1,0 +1,250 @@
+-- What tablets of a master wait for has not come yet: where one closes something of it is staged, and where a target has all but its closing
+-- entry not every side segment of it is stored. Here so it stays at the small changes of a master.
+use Rattle.std.proofs.Common.{◌≡◌, ◌≤◌, ◌+◌, ◌==◌, ◌||◌, ◌&&◌, ℕ, zero, suc, Bool, true, false, cond, not, List, [], ◌∷◌, ◌++◌, length, Option, None, Some, refl, sym, ap, subst, ⊎_elim, arith}
+use Rattle.std.specs.Prelude.{drop, get_or, unwrap_or}
+use Rattle.std.specs.List.{list_all, list_any}
+use Rattle.std.specs.Option.{option_map, option_map_or}
+use Rattle.std.proofs.lemmas.Bool.{cases_eq, eqb-true, false≢true, lt-leb}
+use Rattle.rk_types.proofs.NumberMaps.{get_other, get_same, in_order_changed, in_order_insert}
+use Rattle.rk_types.specs.NumberMap.{IsInOrder, NumberMap, changed_each, get}
+use Rattle.rk_types.specs.declared.held.Held.{Held}
+use Rattle.rk_entry.specs.Entries.{spelled_all}
+use Rattle.rk_entry.specs.declared.entry.Entry.{Entry}
+use Rattle.rk_entry.specs.declared.lists.TheConstants.{FIRST_SIDE_SEGMENT}
+use Rattle.rk_log.specs.Known.{Known, is_whole, known_length}
+use Rattle.rk_log.specs.Log.{Log, is_side_stored, numbered, segment_of}
+use Rattle.rk_segment.specs.Segment.{NumberedBytes}
+use Rattle.rk_transfer.specs.declared.role.Role.{Role}
+use Rattle.rk_transfer.specs.declared.role.Role.TheVariants as roles
+use Rattle.rk_world.specs.Master.{Master, is_settled, staged, tablet_at, touches, with_all, with_appended, with_side_segment, with_tablet}
+use Rattle.rk_world.specs.Material.{as_entries}
+use Rattle.rk_world.specs.Tablet.{Tablet, no_tablet}
+use Rattle.rk_world.specs.Waiting.{is_sealed_stored}
+use Rattle.rk_inv_wellformed.proofs.lanes.Ledgers.{kept_by_fold}
+use Rattle.rk_inv_wellformed.proofs.maps.Maps.{found_changed}
+
+-- what a tablet in a role waits for has not come
+abbrev pub WaitsIn : Master → Tablet → Role → Type 0
+WaitsIn master tablet roles.Closing = is_settled master tablet.handover.range ≡ false
+WaitsIn master tablet (roles.Joining None) = 1 ≤ length master.log.known → is_sealed_stored master tablet ≡ false
+WaitsIn master tablet role = Unit {0}
+
+-- what a tablet waits for has not come
+abbrev pub Waits : Master → Tablet → Type 0
+Waits master tablet = WaitsIn master tablet tablet.handover.role
+
+-- a role in which nothing is waited for
+abbrev pub IsCalmRole : Role → Type 0
+IsCalmRole roles.Closing = ⊥
+IsCalmRole (roles.Joining None) = ⊥
+IsCalmRole role = Unit {0}
+
+pub calm_waits : (master : Master) (tablet : Tablet) (role : Role) → IsCalmRole role → WaitsIn master tablet role
+calm_waits master tablet roles.Closing calm = absurd calm
+calm_waits master tablet (roles.Joining None) calm = absurd calm
+calm_waits master tablet role calm = calm
+
+-- nothing that the tablets of a master wait for has come, but for one of them perhaps
+pub record ArePatientBeside (number : ℕ) (master : Master) : Type 0 where
+  pub order : IsInOrder master.tablets
+  pub each : (q : ℕ) → (q ≡ number → ⊥) → Waits master (tablet_at master q)
+
+-- nothing that the tablets of a master wait for has come
+pub record ArePatient (master : Master) : Type 0 where
+  pub order : IsInOrder master.tablets
+  pub each : (q : ℕ) → Waits master (tablet_at master q)
+
+pub patient_beside : (number : ℕ) (master : Master) → ArePatient master → ArePatientBeside number master
+patient_beside number master patient = record { order = patient.order; each = λ q apart. patient.each q }
+
+pub patient_whole : (number : ℕ) (master : Master) → ArePatientBeside number master → Waits master (tablet_at master number) → ArePatient master
+patient_whole number master beside own = record {
+  order = beside.order;
+  each = λ q.
+      ⊎_elim (λ (is : q ≡ number). subst (λ (n : ℕ). Waits master (tablet_at master n)) (sym is) own)
+      (λ (apart : q ≡ number → ⊥). beside.each q apart) (cases_eq q number);
+}
+
+-- ---- tablets
+
+pub at_put : (master : Master) (number : ℕ) (tablet : Tablet) → tablet_at (with_tablet master number tablet) number ≡ tablet
+at_put master number tablet = ap (λ (o : Option Tablet). unwrap_or o no_tablet) (get_same master.tablets number tablet number refl)
+
+pub at_other : (master : Master) (number : ℕ) (tablet : Tablet) (q : ℕ) → (q ≡ number → ⊥) → tablet_at (with_tablet master number tablet) q ≡ tablet_at master q
+at_other master number tablet q apart = ap (λ (o : Option Tablet). unwrap_or o no_tablet) (get_other master.tablets number tablet q apart)
+
+pub put_beside : (number : ℕ) (master : Master) (tablet : Tablet) → ArePatientBeside number master → ArePatientBeside number (with_tablet master number tablet)
+put_beside number master tablet patient = record {
+  order = in_order_insert master.tablets number tablet patient.order;
+  each = λ q apart. subst (Waits master) (sym (at_other master number tablet q apart)) (patient.each q apart);
+}
+
+-- one tablet is so
+pub put_whole : (number : ℕ) (master : Master) (tablet : Tablet) → ArePatientBeside number master → Waits master tablet → ArePatient (with_tablet master number tablet)
+put_whole number master tablet patient own =
+    patient_whole number (with_tablet master number tablet) (put_beside number master tablet patient)
+    (subst (Waits master) (sym (at_put master number tablet)) own)
+
+pub put_patient : (master : Master) (number : ℕ) (tablet : Tablet) → ArePatient master → Waits master tablet → ArePatient (with_tablet master number tablet)
+put_patient master number tablet patient own = put_whole number master tablet (patient_beside number master patient) own
+
+-- each tablet is changed
+pub changed_patient : (master : Master) (change : ℕ → Tablet → Tablet) → ((q : ℕ) (tablet : Tablet) → Waits master tablet → Waits master (change q tablet))
+    → ArePatient master → ArePatient (record master { tablets = changed_each change master.tablets })
+changed_patient master change keeps patient = record {
+  order = in_order_changed change master.tablets patient.order;
+  each = λ q. go q (get master.tablets q) (patient.each q) (found_changed change master.tablets q);
+}
+  where
+    go : (q : ℕ) (found : Option Tablet) → Waits master (unwrap_or found no_tablet) → get (changed_each change master.tablets) q ≡ option_map (change q) found
+        → Waits master (unwrap_or (get (changed_each change master.tablets) q) no_tablet)
+    go q None waits is = subst (λ (o : Option Tablet). Waits master (unwrap_or o no_tablet)) (sym is) waits
+    go q (Some tablet) waits is = subst (λ (o : Option Tablet). Waits master (unwrap_or o no_tablet)) (sym is) (keeps q tablet waits)
+
+-- ---- a later master waits for all that one waits for
+
+pub record WaitsOn (before after : Master) : Type 0 where
+  pub staged : (range : _) → is_settled before range ≡ false → is_settled after range ≡ false
+  pub known : length after.log.known ≡ length before.log.known
+  pub stored : 1 ≤ length before.log.known → (number : ℕ) → is_side_stored before.log number ≡ false → is_side_stored after.log number ≡ false
+
+-- not all pass still
+some_fails : (test other : ℕ → Bool) (list : List ℕ) → ((n : ℕ) → test n ≡ false → other n ≡ false) → list_all test list ≡ false → list_all other list ≡ false
+some_fails test other [] each fails = fails
+some_fails test other (n ∷ list) each fails = go (test n) refl fails (some_fails test other list each)
+  where
+    behind : (b : Bool) → list_all other list ≡ false → (b && list_all other list) ≡ false
+    behind true is = is
+    behind false is = refl
+
+    go : (b : Bool) → test n ≡ b → (b && list_all test list) ≡ false → (list_all test list ≡ false → list_all other list ≡ false)
+        → (other n && list_all other list) ≡ false
+    go true is fails later = behind (other n) (later fails)
+    go false is fails later = ap (λ (b : Bool). b && list_all other list) (each n is)
+
+pub waits_on : (before after : Master) → WaitsOn before after → (tablet : Tablet) (role : Role) → WaitsIn before tablet role → WaitsIn after tablet role
+waits_on before after on tablet roles.Closing waits = on.staged tablet.handover.range waits
+waits_on before after on tablet (roles.Joining None) waits = λ backed.
+    let some : 1 ≤ length before.log.known = omega (arith, backed, on.known) in
+    some_fails (is_side_stored before.log) (is_side_stored after.log) tablet.pulling.sealed (on.stored some) (waits some)
+waits_on before after on tablet (roles.Joining (Some entry)) waits = waits
+waits_on before after on tablet roles.Absent waits = waits
+waits_on before after on tablet roles.Serving waits = waits
+waits_on before after on tablet roles.Frozen waits = waits
+waits_on before after on tablet (roles.Wanting from) waits = waits
+waits_on before after on tablet roles.Receiving waits = waits
+waits_on before after on tablet (roles.Rebuilding from entry) waits = waits
+
+pub beside_on : (number : ℕ) (before after : Master) → WaitsOn before after → after.tablets ≡ before.tablets → ArePatientBeside number before → ArePatientBeside number after
+beside_on number before after on same patient = record {
+  order = subst IsInOrder (sym same) patient.order;
+  each = λ q apart.
+      subst (λ (tablets : NumberMap Tablet). Waits after (unwrap_or (get tablets q) no_tablet)) (sym same)
+      (waits_on before after on (tablet_at before q) (tablet_at before q).handover.role (patient.each q apart));
+}
+
+pub patient_on : (before after : Master) → WaitsOn before after → after.tablets ≡ before.tablets → ArePatient before → ArePatient after
+patient_on before after on same patient = record {
+  order = subst IsInOrder (sym same) patient.order;
+  each = λ q.
+      subst (λ (tablets : NumberMap Tablet). Waits after (unwrap_or (get tablets q) no_tablet)) (sym same)
+      (waits_on before after on (tablet_at before q) (tablet_at before q).handover.role (patient.each q));
+}
+
+-- ---- entries
+
+any_more : (test : Entry → Bool) (list more : List Entry) → list_any test list ≡ true → list_any test (list ++ more) ≡ true
+any_more test [] more none = absurd (false≢true none)
+any_more test (entry ∷ list) more some = go (test entry) some (any_more test list more)
+  where
+    go : (b : Bool) → (b || list_any test list) ≡ true → (list_any test list ≡ true → list_any test (list ++ more) ≡ true) → (b || list_any test (list ++ more)) ≡ true
+    go true is later = refl
+    go false is later = later is
+
+any_past : (test : Entry → Bool) (count : ℕ) (list more : List Entry) → list_any test (drop count list) ≡ true → list_any test (drop count (list ++ more)) ≡ true
+any_past test zero list more some = any_more test list more some
+any_past test (suc count) [] more none = absurd (false≢true none)
+any_past test (suc count) (entry ∷ list) more some = any_past test count list more some
+
+unnot : (b : Bool) → not b ≡ false → b ≡ true
+unnot true is = refl
+unnot false is = absurd (false≢true (sym is))
+
+pub appended_on : (master : Master) (entry : Entry) → WaitsOn master (with_appended master entry)
+appended_on master entry = record {
+  staged = λ range is.
+      ap not (any_past (touches range) master.applied master.log.entries (entry ∷ []) (unnot (list_any (touches range) (staged master)) is));
+  known = refl;
+  stored = λ some number is. is;
+}
+
+pub appended_beside : (number : ℕ) (master : Master) (entry : Entry) → ArePatientBeside number master → ArePatientBeside number (with_appended master entry)
+appended_beside number master entry patient = beside_on number master (with_appended master entry) (appended_on master entry) refl patient
+
+pub appended_patient : (master : Master) (entry : Entry) → ArePatient master → ArePatient (with_appended master entry)
+appended_patient master entry patient = patient_on master (with_appended master entry) (appended_on master entry) refl patient
+
+pub all_patient : (list : List Entry) (master : Master) → ArePatient master → ArePatient (with_all master list)
+all_patient list master patient = kept_by_fold ArePatient with_appended (λ now entry kept. appended_patient now entry kept) list master patient
+
+-- ---- side segments
+
+-- the first backup is known to hold nothing of side segments that are not there
+abbrev pub IsFresh : Log → Type 0
+IsFresh log = (segment : ℕ) → FIRST_SIDE_SEGMENT + length log.sides ≤ segment → known_length (get_or log.known 0 []) segment ≡ 0
+
+-- whether all are known to hold a segment of a list
+abbrev stored_in : List Known → ℕ → List NumberedBytes → Bool
+stored_in known number list = option_map_or (λ segment. list_all (λ k. is_whole k segment) known) (segment_of number list) false
+
+-- one with bytes of which nothing is known to be held
+not_whole : (known : List Known) (number : ℕ) (bytes : List ℕ) → 1 ≤ length known → 1 ≤ length bytes → known_length (get_or known 0 []) number ≡ 0
+    → list_all (λ k. is_whole k (record { number = number; bytes = bytes })) known ≡ false
+not_whole [] number bytes some long none = absurd (omega (arith, some))
+not_whole (first ∷ known) number bytes some long none =
+    ap (λ (b : Bool). b && list_all (λ k. is_whole k (record { number = number; bytes = bytes })) known)
+    (lt-leb (length bytes) (known_length first number) (omega (arith, none, long)))
+
+side_still : (known : List Known) (number first : ℕ) (sides : List (List ℕ)) (bytes : List ℕ) → 1 ≤ length known → 1 ≤ length bytes
+    → known_length (get_or known 0 []) (first + length sides) ≡ 0 → stored_in known number (numbered first sides) ≡ false
+    → stored_in known number (numbered first (sides ++ bytes ∷ [])) ≡ false
+side_still known number first [] bytes some long none is = go (first == number) refl
+  where
+    at : first + 0 ≡ first
+    at = omega arith
+
+    go : (b : Bool) → (first == number) ≡ b
+        → option_map_or (λ segment. list_all (λ k. is_whole k segment) known) (cond b (Some (record { number = first; bytes = bytes })) None) false ≡ false
+    go true here = not_whole known first bytes some long (subst (λ (n : ℕ). known_length (get_or known 0 []) n ≡ 0) at none)
+    go false apart = refl
+side_still known number first (side ∷ sides) bytes some long none is =
+    let further : first + suc (length sides) ≡ suc first + length sides = omega arith in
+    go (side_still known number (suc first) sides bytes some long (subst (λ (n : ℕ). known_length (get_or known 0 []) n ≡ 0) further none))
+    (first == number) is
+  where
+    go : (stored_in known number (numbered (suc first) sides) ≡ false → stored_in known number (numbered (suc first) (sides ++ bytes ∷ [])) ≡ false) → (b : Bool)
+        → option_map_or (λ segment. list_all (λ k. is_whole k segment) known) (cond b (Some (record { number = first; bytes = side })) (segment_of number (numbered (suc first) sides))) false ≡ false
+        → option_map_or (λ segment. list_all (λ k. is_whole k segment) known) (cond b (Some (record { number = first; bytes = side })) (segment_of number (numbered (suc first) (sides ++ bytes ∷ [])))) false ≡ false
+    go later true is = is
+    go later false is = later is
+
+-- one that is not there is not stored
+pub side_missing : (known : List Known) (number first : ℕ) (sides : List (List ℕ)) → first + length sides ≤ number → stored_in known number (numbered first sides) ≡ false
+side_missing known number first [] past = refl
+side_missing known number first (side ∷ sides) past =
+    go (λ further. side_missing known number (suc first) sides further) (first == number) refl
+  where
+    go : (suc first + length sides ≤ number → stored_in known number (numbered (suc first) sides) ≡ false) → (b : Bool) → (first == number) ≡ b
+        → option_map_or (λ segment. list_all (λ k. is_whole k segment) known) (cond b (Some (record { number = first; bytes = side })) (segment_of number (numbered (suc first) sides))) false ≡ false
+    go later true here = absurd (omega (arith, past, eqb-true first number here))
+    go later false apart = later (omega (arith, past))
+
+-- a side segment with bytes becomes known to the log, where the first backup is known to hold nothing of it
+pub side_on : (master : Master) (items : List Held) → IsFresh master.log → 1 ≤ length (spelled_all (as_entries items)) → WaitsOn master (with_side_segment master items)
+side_on master items fresh long = record {
+  staged = λ range is. is;
+  known = refl;
+  stored = λ some number is.
+      side_still master.log.known number FIRST_SIDE_SEGMENT master.log.sides (spelled_all (as_entries items)) some long
+      (fresh (FIRST_SIDE_SEGMENT + length master.log.sides) (omega arith)) is;
+}

@@ -1,0 +1,190 @@
+-- Nothing that the tablets of a master wait for has come: in each lane of a cluster to which a run of a new one has led.
+use Rattle.std.proofs.Common.{◌≡◌, ◌<◌, ◌≤◌, ◌+◌, ◌==◌, ℕ, zero, suc, Bool, true, false, cond, List, [], ◌∷◌, ◌++◌, length, Option, None, Some, refl, sym, ap, subst, ◌∙◌, ⊎_elim, arith, length-append}
+use Rattle.std.specs.Prelude.{get_or, unwrap_or}
+use Rattle.std.specs.Option.{option_map_or}
+use Rattle.std.proofs.lemmas.Bool.{cases_eq, eqb-true}
+use Rattle.std.proofs.lemmas.List.FromFn.{get_or-map-range_with_len, length-map-range_with_len}
+use Rattle.rk_types.specs.NumberMap.{get}
+use Rattle.rk_types.specs.declared.hashing.TheConstants.{LANES}
+use Rattle.rk_entry.specs.declared.lists.TheConstants.{FIRST_SIDE_SEGMENT}
+use Rattle.rk_segment.specs.Segment.{NumberedBytes}
+use Rattle.rk_log.specs.Cut.{cut}
+use Rattle.rk_log.specs.Known.{Known, known_length}
+use Rattle.rk_log.specs.Log.{Log, bytes_of, numbered, segment_of, side_segments}
+use Rattle.rk_world.specs.Backup.{Called}
+use Rattle.rk_world.specs.Calls.{accept, ask}
+use Rattle.rk_world.specs.Cluster.{Accepts, Asks, Calls, Cluster, Happens, Joins, Occurrence, cluster_after, cluster_run, lane_at, new_cluster, session_at}
+use Rattle.rk_world.specs.ClusterRuns.{IsRun}
+use Rattle.rk_world.specs.Formed.{IsWellFormed}
+use Rattle.rk_world.specs.Master.{Master, new_master, tablet_at}
+use Rattle.rk_world.specs.MasterStep.{master_step}
+use Rattle.rk_world.specs.MasterTurn.{master_turn}
+use Rattle.rk_world.specs.Refusals.{refusal}
+use Rattle.rk_world.specs.Room.{HasRoom}
+use Rattle.rk_world.specs.Runs.{world_stepped}
+use Rattle.rk_world.specs.Splits.{has_parts, with_halves, with_split}
+use Rattle.rk_world.specs.Step.{step, stepped_by}
+use Rattle.rk_world.specs.World.{World, master_at, new_world, with_master}
+use Rattle.rk_world.specs.declared.error.StepError.{StepError}
+use Rattle.rk_world.specs.declared.event.Event.{Event}
+use Rattle.rk_sound.specs.Logs.{stored_of}
+use Rattle.rk_sound.specs.View.{view}
+use Rattle.rk_sound.specs.Whole.{IsSound}
+use Rattle.rk_inv_lanes.proofs.applied.Lanes.{few_of}
+use Rattle.rk_runs.proofs.duties.Lanes.{EachLane}
+use Rattle.rk_inv_base.proofs.views.Fresh.{each_fresh}
+use Rattle.rk_inv_base.proofs.views.Masters.{master_other, master_same}
+use Rattle.rk_scripts.proofs.play.Reaching.{IsReached, lane_good, lane_there, new_reached, reached_after, reached_eight}
+use Rattle.rk_inv_tablets.proofs.steady.Walks.{IsKept, Part, accept_keeps, ask_keeps, event_keeps}
+use Rattle.rk_scripts.proofs.settle.Patient.{ArePatient, IsFresh, put_patient}
+use Rattle.rk_scripts.proofs.settle.PatientPulls.{pulled_patient}
+use Rattle.rk_scripts.proofs.settle.PatientSteps.{either_patient, step_patient, turn_patient}
+use Rattle.rk_scripts.proofs.settle.Reached.{called_all, joined_all, stepped_all, visited_all}
+
+-- ---- what no backup can hold
+
+-- a segment of this number is not among these, nor behind them
+missing_behind : (main : List (List ℕ)) (first number : ℕ) (more : List NumberedBytes) → first + length main ≤ number → segment_of number more ≡ None
+    → segment_of number (numbered first main ++ more) ≡ None
+missing_behind [] first number more past none = none
+missing_behind (bytes ∷ main) first number more past none =
+    go (λ further. missing_behind main (suc first) number more further none) (first == number) refl
+  where
+    go : (suc first + length main ≤ number → segment_of number (numbered (suc first) main ++ more) ≡ None) → (b : Bool) → (first == number) ≡ b
+        → cond b (Some (record { number = first; bytes = bytes })) (segment_of number (numbered (suc first) main ++ more)) ≡ None
+    go later true here = absurd (omega (arith, past, eqb-true first number here))
+    go later false apart = later (omega (arith, past))
+
+missing_in : (sides : List (List ℕ)) (first number : ℕ) → first + length sides ≤ number → segment_of number (numbered first sides) ≡ None
+missing_in [] first number past = refl
+missing_in (bytes ∷ sides) first number past = go (λ further. missing_in sides (suc first) number further) (first == number) refl
+  where
+    go : (suc first + length sides ≤ number → segment_of number (numbered (suc first) sides) ≡ None) → (b : Bool) → (first == number) ≡ b
+        → cond b (Some (record { number = first; bytes = bytes })) (segment_of number (numbered (suc first) sides)) ≡ None
+    go later true here = absurd (omega (arith, past, eqb-true first number here))
+    go later false apart = later (omega (arith, past))
+
+no_bytes : (log : Log) (segment : ℕ) → length (cut log.entries) < FIRST_SIDE_SEGMENT → FIRST_SIDE_SEGMENT + length log.sides ≤ segment → bytes_of log segment ≡ []
+no_bytes log segment few past =
+    ap (λ (o : Option NumberedBytes). option_map_or (λ (it : NumberedBytes). it.bytes) o [])
+    (missing_behind (cut log.entries) 1 segment (side_segments log) (omega (arith, few, past)) (missing_in log.sides FIRST_SIDE_SEGMENT segment past))
+
+few_segments : (w : World) → IsWellFormed w → HasRoom w → (number : ℕ) → length (cut (master_at w number).log.entries) < FIRST_SIDE_SEGMENT
+few_segments w formed room number = go (get w.masters number) refl
+  where
+    go : (found : Option Master) → get w.masters number ≡ found → length (cut (unwrap_or found (new_master number [])).log.entries) < FIRST_SIDE_SEGMENT
+    go None is = omega arith
+    go (Some there) is = (few_of w number there formed room.bytes is).few
+
+fresh_at : (w : World) → IsSound w → IsWellFormed w → HasRoom w → (number : ℕ) → IsFresh (master_at w number).log
+fresh_at w sound formed room number segment past = go (length log.known) refl
+  where
+    log : Log
+    log = (master_at w number).log
+
+    none : (list : List Known) → length list ≡ 0 → known_length (get_or list 0 []) segment ≡ 0
+    none [] is = refl
+    none (k ∷ list) is = absurd (omega (arith, is))
+
+    go : (count : ℕ) → length log.known ≡ count → known_length (get_or log.known 0 []) segment ≡ 0
+    go zero is = none log.known is
+    go (suc count) is =
+        let copy = (sound.logs.each number).copies 1 (record { first = omega arith; last = omega (arith, is) }) in
+        let front = copy.front segment in
+        omega (
+          arith,
+          copy.told segment,
+          ap (λ (bytes : List ℕ). length bytes) (sym (no_bytes log segment (few_segments w formed room number) past) ∙ front.parts),
+          length-append (stored_of (view w).stored number 1 segment) front.more,
+        )
+
+-- ---- a lane
+
+-- each master of a lane is patient
+abbrev pub AllPatient : World → Type 0
+AllPatient w = (master : ℕ) → ArePatient (master_at w master)
+
+abbrev Patience : Part
+Patience masters count backups = (master : ℕ) → ArePatient (unwrap_or (get masters master) (new_master master []))
+
+module _ (w : World) (patient : AllPatient w) where
+  put_master : (number : ℕ) (master : Master) → ArePatient master → AllPatient (with_master w number master)
+  put_master number master now q =
+      ⊎_elim
+      (λ (is : q ≡ number). subst ArePatient (sym (master_same w number master q is)) now)
+      (λ (apart : q ≡ number → ⊥). subst ArePatient (sym (master_other w number master q apart)) (patient q))
+      (cases_eq q number)
+
+  patient_kept : ((number : ℕ) → IsFresh (master_at w number).log) → IsKept Patience w
+  patient_kept fresh = record {
+    now = patient;
+    steps = λ master message.
+        put_master master (master_step (master_at w master) message).master
+        (step_patient (master_at w master) (patient master) (pulled_patient (master_at w master) (patient master) (fresh master)) message);
+    turns = λ master. put_master master (master_turn (master_at w master)).master (turn_patient (master_at w master) (patient master));
+    adds = λ master tablet range. put_master master _ (put_patient (master_at w master) tablet _ (patient master) tt);
+    splits = λ master tablet at new term.
+        let before = master_at w master in
+        let it = tablet_at before tablet in
+        put_master master (with_split before tablet at new term)
+        (either_patient (has_parts it.handover.range at) (with_halves before tablet it at new term) before
+        (put_patient _ new _ (put_patient before tablet _ (patient master) tt) tt) (patient master));
+    stores = λ number segments. patient;
+  }
+
+patient_stepped : (w : World) (event : Event) (called : Called) → ((number : ℕ) → IsFresh (master_at w number).log) → AllPatient w → AllPatient (world_stepped w (step w event called))
+patient_stepped w event called fresh patient = go (refusal w event)
+  where
+    go : (refused : Option StepError) → AllPatient (world_stepped w (stepped_by w event called refused))
+    go None = event_keeps Patience w (patient_kept w patient fresh) event called
+    go (Some error) = patient
+
+patient_new : (lane masters backups : ℕ) → AllPatient (new_world lane masters backups)
+patient_new lane masters backups master =
+    subst ArePatient (sym (each_fresh lane masters backups master).is_new) (record { order = tt; each = λ q. tt })
+
+-- ---- runs
+
+module _ (masters backups : ℕ) where
+  patient_after : (cluster : Cluster) (occurrence : Occurrence) → IsReached masters backups cluster → EachLane AllPatient cluster → EachLane AllPatient (cluster_after cluster occurrence)
+  patient_after cluster (Happens lane event called) reached each =
+      stepped_all AllPatient cluster lane (step (lane_at cluster lane) event called)
+      (λ there.
+      let eight = reached_eight masters backups cluster reached in
+      let good = lane_good masters backups cluster reached lane (omega (arith, there, eight)) in
+      patient_stepped (lane_at cluster lane) event called (fresh_at (lane_at cluster lane) good.sound good.formed good.room) (each lane there))
+      each
+  patient_after cluster (Joins client) reached each = joined_all (EachLane AllPatient) cluster client (get cluster.sessions client) each (λ session. each)
+  patient_after cluster (Calls client table key op) reached each =
+      called_all (EachLane AllPatient) cluster client table key op (get cluster.sessions client) each (λ session. each)
+  patient_after cluster (Asks lane client) reached each =
+      visited_all AllPatient cluster lane client (ask (lane_at cluster lane) (session_at cluster client))
+      (λ there. ask_keeps Patience (lane_at cluster lane) (each lane there) (session_at cluster client)) each
+  patient_after cluster (Accepts lane number client) reached each =
+      visited_all AllPatient cluster lane client (accept (lane_at cluster lane) number (session_at cluster client))
+      (λ there. accept_keeps Patience (lane_at cluster lane) (each lane there) number (session_at cluster client)) each
+
+  patient_run : (cluster : Cluster) (list : List Occurrence) → IsReached masters backups cluster → IsRun cluster list → EachLane AllPatient cluster
+      → EachLane AllPatient (cluster_run cluster list)
+  patient_run cluster [] reached run each = each
+  patient_run cluster (occurrence ∷ later) reached run each =
+      patient_run (cluster_after cluster occurrence) later
+      (reached_after masters backups cluster reached (occurrence ∷ []) (run.0, run.1, run.2, tt)) run.3
+      (patient_after cluster occurrence reached each)
+
+  -- in a cluster to which a run of a new one has led
+  pub reached_patient : (cluster : Cluster) → IsReached masters backups cluster → (lane : ℕ) → lane < LANES → AllPatient (lane_at cluster lane)
+  reached_patient cluster reached lane inside =
+      subst (EachLane AllPatient) (sym reached.is)
+      (patient_run (new_cluster masters backups) reached.before
+      (new_reached masters backups reached.few_masters reached.backed reached.few_backups) reached.run first)
+      lane (lane_there masters backups cluster reached lane inside)
+    where
+      first : EachLane AllPatient (new_cluster masters backups)
+      first at there =
+          let long = length-map-range_with_len (λ (number : ℕ). new_world number masters backups) 0 LANES in
+          subst AllPatient
+          (sym
+          (get_or-map-range_with_len (λ (number : ℕ). new_world number masters backups) 0 LANES at at (new_world at 0 0)
+          (omega (arith, there, long)) (omega arith)))
+          (patient_new at masters backups)

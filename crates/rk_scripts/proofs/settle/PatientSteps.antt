@@ -1,0 +1,598 @@
+-- Nothing that the tablets of a master wait for has come, still after each message that it takes and after its turn.
+use Rattle.std.proofs.Common.{◌≡◌, ◌<◌, ◌==◌, ◌&&◌, ℕ, Bool, true, false, cond, not, nat_lt, List, [], ◌∷◌, length, All, Option, None, Some, refl, sym, ap, subst, ◌∙◌, arith}
+use Rattle.std.specs.Prelude.{IfSome, unwrap_or}
+use Rattle.std.specs.Cmp.{unsigned_tied}
+use Rattle.std.specs.FinMap.Entries.{below_all}
+use Rattle.std.specs.Ordering.{eq_by_cmp, nat_cmp}
+use Rattle.std.proofs.lemmas.List.Elements.{All-head, All-tail, All-weaker}
+use Rattle.std.proofs.lemmas.Bool.{cond-true, eq-eqb, false≢true}
+use Rattle.rk_types.proofs.NumberMaps.{in_order_changed, in_order_insert, same_number}
+use Rattle.rk_types.specs.NumberMap.{IsInOrder, NumberMap, get}
+use Rattle.rk_types.specs.Range.{meets}
+use Rattle.rk_types.specs.declared.call.Call.{Call}
+use Rattle.rk_types.specs.declared.call.Ended.{Ended}
+use Rattle.rk_types.specs.declared.held.Held.{Held}
+use Rattle.rk_types.specs.declared.lineage.Member.{Member}
+use Rattle.rk_types.specs.declared.node.Node.{Node}
+use Rattle.rk_types.specs.declared.node.Node.TheVariants as nodes
+use Rattle.rk_types.specs.declared.range.Range.{Range}
+use Rattle.rk_entry.specs.declared.entry.Entry.{Entry}
+use Rattle.rk_entry.specs.declared.entry.Entry.TheVariants as entries
+use Rattle.rk_log.specs.Log.{overreach}
+use Rattle.rk_log.specs.declared.overreach.Overreach.{Overreach}
+use Rattle.rk_done.specs.Completions.{completions_from}
+use Rattle.rk_message.specs.declared.calls.Request.{Request}
+use Rattle.rk_message.specs.declared.handover.Grant.{Grant}
+use Rattle.rk_message.specs.declared.handover.Prepare.{Prepare}
+use Rattle.rk_message.specs.declared.handover.Tenure.{Tenure}
+use Rattle.rk_message.specs.declared.message.Body.{Body}
+use Rattle.rk_message.specs.declared.message.Body.TheVariants as bodies
+use Rattle.rk_message.specs.declared.message.Message.{Message}
+use Rattle.rk_message.specs.declared.pulling.Got.{Got}
+use Rattle.rk_message.specs.declared.pulling.Pull.{Pull}
+use Rattle.rk_message.specs.declared.pulling.Pulled.{Pulled}
+use Rattle.rk_message.specs.declared.pulling.Want.{Want}
+use Rattle.rk_message.specs.declared.rebuilding.CopySegment.{CopySegment}
+use Rattle.rk_message.specs.declared.rebuilding.Rebuild.{Rebuild}
+use Rattle.rk_message.specs.declared.replication.Stored.{Stored}
+use Rattle.rk_table.specs.Items.{found, is_newer}
+use Rattle.rk_priority.specs.Hashes.{is_batch}
+use Rattle.rk_transfer.specs.Handover.{carried, closed, frozen, granted, in_role, joined, owned, prepared, rebuilt, released, role_carried, role_closed, role_frozen, role_granted, role_joined, role_owned, role_released}
+use Rattle.rk_transfer.specs.declared.handover.Handover.{Handover}
+use Rattle.rk_transfer.specs.declared.role.Role.{Role}
+use Rattle.rk_transfer.specs.declared.role.Role.TheVariants as roles
+use Rattle.rk_world.specs.declared.choice.Choice.{Choice}
+use Rattle.rk_world.specs.declared.choice.Choice.TheVariants.{Redirects, Repeats, Ignores, Wants, Reads, Writes, Refuses}
+use Rattle.rk_world.specs.declared.work.Merged.{Merged}
+use Rattle.rk_world.specs.declared.work.Reading.{Reading}
+use Rattle.rk_world.specs.Commits.{apply_entries, apply_entry, newly_held, noting, stored_taken, with_applied, with_ended, with_entry_item}
+use Rattle.rk_world.specs.Ends.{items_of, told_by}
+use Rattle.rk_world.specs.Gather.{by_member, gather_begun, is_awaited, next_reading}
+use Rattle.rk_world.specs.Handovers.{carried_entry, close_taken, closing, given_up, grant_taken, granting, is_greater, own_taken, owning, prepare_taken, preparing, ready, ready_again, release_taken, releasing, transfer, with_move, with_others_given_up}
+use Rattle.rk_world.specs.Lineage.{own_member}
+use Rattle.rk_world.specs.Master.{Master, is_settled, tablet_at, with_all, with_appended, with_known, with_tablet, without_items}
+use Rattle.rk_world.specs.MasterStep.{backup_message, client_message, master_step, order, peer_message, told_master}
+use Rattle.rk_world.specs.MasterTurn.{duties, master_turn, reading_duty, tablet_duty, tenure_at, with_outstanding}
+use Rattle.rk_world.specs.Material.{as_entries}
+use Rattle.rk_world.specs.Merge.{merge}
+use Rattle.rk_world.specs.Pulls.{got_taken, hashes_resolved, item_replayed, pull_taken, pulled_taken, replay, replay_one, want_taken, with_pulled, with_pulling}
+use Rattle.rk_world.specs.Rebuilds.{begun_from, beginning, copy_taken, merging, own_material, rebuild_begun, rebuild_goes_on, rebuild_taken, rebuilding_on, rebuilt_entry, segment_gathered, with_begun, with_merged, without_foreign}
+use Rattle.rk_world.specs.Requests.{call_of, choice_of, chosen, counted_up, item_of, refusal_of, request_taken}
+use Rattle.rk_world.specs.RoleTests.{is_frozen_at, is_gathering, is_receiving_at}
+use Rattle.rk_world.specs.Tablet.{Tablet, no_tablet, pulling_from, with_handover, without_merged}
+use Rattle.rk_world.specs.Waiting.{all_going_on, closing_entry, freezing, going_on_in, is_sealed_stored, joined_entry, tablet_frozen}
+use Rattle.rk_world.specs.Worked.{Worked, changed, from_master, sending}
+use Rattle.rk_inv_wellformed.proofs.lanes.Ledgers.{kept_by_fold}
+use Rattle.rk_inv_wellformed.proofs.maps.Maps.{All_pairs, above_all, first, get_first, get_later, order_tail}
+use Rattle.rk_scripts.proofs.settle.Patient.{ArePatient, IsCalmRole, Waits, WaitsIn, WaitsOn, all_patient, appended_on, appended_patient, at_other, at_put, calm_waits, changed_patient, patient_beside, put_beside, put_patient, put_whole, waits_on}
+
+-- ---- tests
+
+pub either_patient : (test : Bool) (one other : Master) → ArePatient one → ArePatient other → ArePatient (cond test one other)
+either_patient true one other first second = first
+either_patient false one other first second = second
+
+pub either_work : (test : Bool) (one other : Worked) → ArePatient one.master → ArePatient other.master → ArePatient (cond test one other).master
+either_work true one other first second = first
+either_work false one other first second = second
+
+-- ---- moves of a handover
+
+-- a move leaves a role in which nothing is waited for
+abbrev pub MovesCalm : Option Handover → Type 0
+MovesCalm moved = IfSome moved (λ handover. IsCalmRole handover.role)
+
+granted_calm : (b : Bool) (handover : Handover) (role : Role) → MovesCalm (cond b (in_role handover (role_granted role)) None)
+granted_calm true handover (roles.Wanting from) = tt
+granted_calm true handover role = tt
+granted_calm false handover role = tt
+
+owned_calm : (b : Bool) (handover : Handover) (applied : ℕ) (role : Role) → MovesCalm (cond b (in_role handover (role_owned applied role)) None)
+owned_calm true handover applied (roles.Joining (Some entry)) = go (nat_lt entry applied)
+  where
+    go : (b : Bool) → MovesCalm (in_role handover (cond b (Some roles.Serving) None))
+    go true = tt
+    go false = tt
+owned_calm true handover applied (roles.Rebuilding from (Some entry)) = go (nat_lt entry applied)
+  where
+    go : (b : Bool) → MovesCalm (in_role handover (cond b (Some roles.Serving) None))
+    go true = tt
+    go false = tt
+owned_calm true handover applied role = tt
+owned_calm false handover applied role = tt
+
+released_calm : (b : Bool) (handover : Handover) (role : Role) → MovesCalm (cond b (in_role handover (role_released role)) None)
+released_calm true handover roles.Frozen = tt
+released_calm true handover role = tt
+released_calm false handover role = tt
+
+carried_calm : (b : Bool) (handover : Handover) (entry : ℕ) (role : Role) → MovesCalm (cond b (in_role handover (role_carried entry role)) None)
+carried_calm true handover entry (roles.Rebuilding from None) = tt
+carried_calm true handover entry role = tt
+carried_calm false handover entry role = tt
+
+closed_closes : (b : Bool) (handover : Handover) (role : Role) → IfSome (cond b (in_role handover (role_closed role)) None) (λ now. now.role ≡ roles.Closing)
+closed_closes true handover roles.Serving = refl
+closed_closes true handover (roles.Joining entry) = refl
+closed_closes true handover (roles.Rebuilding from entry) = refl
+closed_closes true handover role = tt
+closed_closes false handover role = tt
+
+begun_calm : (b : Bool) (handover : Handover) → IsCalmRole handover.role → MovesCalm (cond b (Some handover) None)
+begun_calm true handover calm = calm
+begun_calm false handover calm = tt
+
+-- a tablet that closes may freeze
+pub frozen_own : (handover : Handover) → handover.role ≡ roles.Closing → frozen handover handover.term ≡ Some (record handover { role = roles.Frozen })
+frozen_own handover is =
+    cond-true (handover.term == handover.term) (in_role handover (role_frozen handover.role)) None (eq-eqb handover.term handover.term refl)
+    ∙ ap (λ (role : Role). in_role handover (role_frozen role)) is
+
+-- and one that has all but its closing entry may join with it
+pub joined_own : (handover : Handover) (place : ℕ) → handover.role ≡ roles.Joining None
+    → joined handover handover.term (Some place) ≡ Some (record handover { role = roles.Joining (Some place) })
+joined_own handover place is =
+    cond-true (handover.term == handover.term) (in_role handover (role_joined (Some place) handover.role)) None (eq-eqb handover.term handover.term refl)
+    ∙ ap (λ (role : Role). in_role handover (role_joined (Some place) role)) is
+
+-- ---- what waited goes on
+
+-- one tablet has gone on
+record HasGone (number : ℕ) (now next : Master) : Type 0 where
+  order : IsInOrder now.tablets → IsInOrder next.tablets
+  other : (q : ℕ) → (q ≡ number → ⊥) → tablet_at next q ≡ tablet_at now q
+  own : Waits next (tablet_at next number)
+  on : WaitsOn now next
+
+same_on : (master : Master) → WaitsOn master master
+same_on master = record { staged = λ range is. is; known = refl; stored = λ some number is. is }
+
+module _ (now : Master) (number : ℕ) (tablet : Tablet) (at : tablet_at now number ≡ tablet) where
+  gone_still : Waits now tablet → HasGone number now now
+  gone_still waits = record {
+    order = λ order. order;
+    other = λ q apart. refl;
+    own = subst (Waits now) (sym at) waits;
+    on = same_on now;
+  }
+
+  gone_calm : (role : Role) → tablet.handover.role ≡ role → IsCalmRole role → HasGone number now now
+  gone_calm role is calm = gone_still (calm_waits now tablet tablet.handover.role (subst IsCalmRole (sym is) calm))
+
+  gone_closing : tablet.handover.role ≡ roles.Closing → HasGone number now (freezing now number tablet (frozen tablet.handover tablet.handover.term))
+  gone_closing is =
+      subst (λ (moved : Option Handover). HasGone number now (freezing now number tablet moved)) (sym (frozen_own tablet.handover is))
+      (go (is_settled now tablet.handover.range) refl)
+    where
+      go : (b : Bool) → is_settled now tablet.handover.range ≡ b
+          → HasGone number now (cond b (with_tablet now number (with_handover tablet (record tablet.handover { role = roles.Frozen }))) now)
+      go true settled =
+          let after : Tablet = with_handover tablet (record tablet.handover { role = roles.Frozen }) in
+          record {
+            order = λ order. in_order_insert now.tablets number after order;
+            other = λ q apart. at_other now number after q apart;
+            own = subst (Waits (with_tablet now number after)) (sym (at_put now number after)) tt;
+            on = record { staged = λ range is. is; known = refl; stored = λ some number is. is };
+          }
+      go false waits = gone_still (subst (WaitsIn now tablet) (sym is) waits)
+
+  gone_joining : tablet.handover.role ≡ roles.Joining None
+      → HasGone number now (cond (is_sealed_stored now tablet) (closing_entry now number tablet (joined tablet.handover tablet.handover.term (Some (length now.log.entries)))) now)
+  gone_joining is =
+      subst (λ (moved : Option Handover). HasGone number now (cond (is_sealed_stored now tablet) (closing_entry now number tablet moved) now))
+      (sym (joined_own tablet.handover (length now.log.entries) is))
+      (go (is_sealed_stored now tablet) refl)
+    where
+      go : (b : Bool) → is_sealed_stored now tablet ≡ b
+          → HasGone number now (cond b (closing_entry now number tablet (Some (record tablet.handover { role = roles.Joining (Some (length now.log.entries)) }))) now)
+      go true stored =
+          let after : Tablet = with_handover tablet (record tablet.handover { role = roles.Joining (Some (length now.log.entries)) }) in
+          let appended = appended_on now (joined_entry tablet) in
+          record {
+            order = λ order. in_order_insert now.tablets number after order;
+            other = λ q apart. at_other now number after q apart;
+            own = subst (Waits (with_appended (with_tablet now number after) (joined_entry tablet))) (sym (at_put now number after)) tt;
+            on = record { staged = appended.staged; known = refl; stored = appended.stored };
+          }
+      go false waits = gone_still (subst (WaitsIn now tablet) (sym is) (λ some. waits))
+
+  gone_on : (role : Role) → tablet.handover.role ≡ role → HasGone number now (going_on_in now number tablet role)
+  gone_on roles.Closing is = gone_closing is
+  gone_on (roles.Joining None) is = gone_joining is
+  gone_on (roles.Joining (Some entry)) is = gone_calm (roles.Joining (Some entry)) is tt
+  gone_on roles.Absent is = gone_calm roles.Absent is tt
+  gone_on roles.Serving is = gone_calm roles.Serving is tt
+  gone_on roles.Frozen is = gone_calm roles.Frozen is tt
+  gone_on (roles.Wanting from) is = gone_calm (roles.Wanting from) is tt
+  gone_on roles.Receiving is = gone_calm roles.Receiving is tt
+  gone_on (roles.Rebuilding from entry) is = gone_calm (roles.Rebuilding from entry) is tt
+
+-- a number below that of another is another one
+pub below_apart : (low high : ℕ) → low < high → high ≡ low → ⊥
+below_apart low high below same = omega (arith, below, same)
+
+-- all tablets that are left go on, where what those that went on wait for has not come
+all_gone_on : (list : NumberMap Tablet) (now : Master) → IsInOrder list → IsInOrder now.tablets
+    → ((q : ℕ) (tablet : Tablet) → get list q ≡ Some tablet → tablet_at now q ≡ tablet) → ((q : ℕ) → get list q ≡ None → Waits now (tablet_at now q))
+    → ArePatient (all_going_on now list)
+all_gone_on [] now sorted order coming gone = record { order = order; each = λ q. gone q refl }
+all_gone_on (entry ∷ rest) now sorted order coming gone =
+    let next : Master = going_on_in now entry.0 entry.1 entry.1.handover.role in
+    let one : HasGone entry.0 now next = gone_on now entry.0 entry.1 (coming entry.0 entry.1 (get_first entry rest)) entry.1.handover.role refl in
+    all_gone_on rest next (order_tail entry rest sorted) (one.order order)
+    (λ q tablet found.
+    one.other q (below_apart entry.0 q (above_all entry.0 rest q tablet (first (below_all nat_cmp entry.0 rest) _ sorted) found))
+    ∙ coming q tablet (get_later entry rest q tablet sorted found))
+    (λ q none. behind next one q none)
+  where
+    behind : (next : Master) → HasGone entry.0 now next → (q : ℕ) → get rest q ≡ None → Waits next (tablet_at next q)
+    behind next one q none = go (eq_by_cmp nat_cmp q entry.0) refl
+      where
+        missing : eq_by_cmp nat_cmp q entry.0 ≡ false → get (entry ∷ rest) q ≡ None
+        missing is = ap (λ (c : Bool). cond c (Some entry.1) (get rest q)) is ∙ none
+
+        go : (b : Bool) → eq_by_cmp nat_cmp q entry.0 ≡ b → Waits next (tablet_at next q)
+        go true is = subst (λ (n : ℕ). Waits next (tablet_at next n)) (sym (same_number q entry.0 is)) one.own
+        go false is =
+            let apart : q ≡ entry.0 → ⊥ = λ same. false≢true (sym is ∙ (unsigned_tied q entry.0 ∙ eq-eqb q entry.0 same)) in
+            subst (Waits next) (sym (one.other q apart))
+            (waits_on now next one.on (tablet_at now q) (tablet_at now q).handover.role (gone q (missing is)))
+
+-- whatever was waited for before: once what every backup holds is applied, all that waited goes on
+pub going_on_patient : (master : Master) → IsInOrder master.tablets → ArePatient (all_going_on master master.tablets)
+going_on_patient master order =
+    all_gone_on master.tablets master order order
+    (λ q tablet is. ap (λ (o : Option Tablet). unwrap_or o no_tablet) is)
+    (λ q none. subst (λ (o : Option Tablet). Waits master (unwrap_or o no_tablet)) (sym none) tt)
+
+-- ---- what a backup tells
+
+item_order : (master : Master) (entry : Entry) → IsInOrder master.tablets → IsInOrder (with_entry_item master entry).tablets
+item_order master (entries.Held held) order = order
+item_order master (entries.Refused refused) order = order
+item_order master (entries.Carried carried) order = order
+item_order master (entries.Joined joined) order = order
+
+ended_order : (master : Master) (place : ℕ) (call : Option Call) (ends : List Ended) → IsInOrder master.tablets → IsInOrder (with_ended master place call ends).master.tablets
+ended_order master place (Some call) (end ∷ ends) order = in_order_changed (λ number tablet. noting call end tablet) master.tablets order
+ended_order master place (Some call) [] order = order
+ended_order master place None ends order = order
+
+pub entries_order : (list : List Entry) (master : Master) → IsInOrder master.tablets → IsInOrder (apply_entries master list).master.tablets
+entries_order [] master order = order
+entries_order (entry ∷ list) master order =
+    entries_order list (apply_entry master entry).master
+    (ended_order (with_applied (with_entry_item master entry)) master.applied (get master.calls master.applied) (told_by entry) (item_order master entry order))
+
+stored_patient : (master : Master) (backup : ℕ) (stored : Stored) (over : Option Overreach) → ArePatient master → ArePatient (stored_taken master backup stored over).master
+stored_patient master backup stored (Some over) patient = patient
+stored_patient master backup stored None patient =
+    let known = with_known master backup stored.segment stored.length in
+    let now = (apply_entries known (newly_held known)).master in
+    going_on_patient now (entries_order (newly_held known) known patient.order)
+
+-- ---- requests
+
+module _ (master : Master) (patient : ArePatient master) where
+  chosen_patient : (asked : ℕ) (call : Call) (choice : Choice) → ArePatient (chosen master asked call choice).master
+  chosen_patient asked call Redirects = patient
+  chosen_patient asked call (Repeats end) = patient
+  chosen_patient asked call Ignores = patient
+  chosen_patient asked call (Wants number) = put_patient master number _ patient (patient.each number)
+  chosen_patient asked call (Reads outcome) = patient
+  chosen_patient asked call (Writes number value) =
+      let entry : Entry = entries.Held (item_of call (tablet_at master number).handover.counter value) in
+      let appended : ArePatient (with_appended master entry) = appended_patient master entry patient in
+      let put = put_patient (with_appended master entry) number (counted_up (tablet_at master number)) appended (appended.each number) in
+      record { order = put.order; each = put.each }
+  chosen_patient asked call (Refuses found absent) =
+      let appended = appended_patient master (refusal_of call found absent) patient in
+      record { order = appended.order; each = appended.each }
+
+  request_patient : (client : ℕ) (request : Request) → ArePatient (request_taken master client request).master
+  request_patient client request = chosen_patient request.tablet (call_of client request) (choice_of master (call_of client request))
+
+-- ---- handovers
+
+move_patient : (master : Master) (number : ℕ) (moved : Option Handover) → ArePatient master → MovesCalm moved → ArePatient (with_move master number moved)
+move_patient master number None patient calm = patient
+move_patient master number (Some handover) patient calm =
+    let tablet : Tablet = without_merged (with_handover (tablet_at master number) handover) in
+    put_patient master number tablet patient (calm_waits master tablet handover.role calm)
+
+others_patient : (master : Master) (number : ℕ) (range : Range) → ArePatient master → ArePatient (with_others_given_up master number range)
+others_patient master number range patient =
+    changed_patient master (λ q tablet. cond (not (q == number) && meets tablet.handover.range range) (given_up tablet) tablet)
+    (λ q tablet waits. go tablet waits (not (q == number) && meets tablet.handover.range range))
+    patient
+  where
+    go : (tablet : Tablet) → Waits master tablet → (b : Bool) → Waits master (cond b (given_up tablet) tablet)
+    go tablet waits true = tt
+    go tablet waits false = waits
+
+dropped_patient : (master : Master) (range : Range) → ArePatient master → ArePatient (without_items master range)
+dropped_patient master range patient = record { order = patient.order; each = patient.each }
+
+again_patient : (master : Master) (tenure : Tenure) (role : Role) (term : ℕ) → ArePatient master → ArePatient (ready_again master tenure role term).master
+again_patient master tenure (roles.Wanting from) term patient =
+    either_work (term == tenure.term) (sending master (ready master tenure from)) (changed master) patient patient
+again_patient master tenure role term patient = patient
+
+prepare_patient : (master : Master) (prepare : Prepare) → ArePatient master → ArePatient (prepare_taken master prepare).master
+prepare_patient master prepare patient =
+    let number = prepare.tenure.tablet in
+    let handover = (tablet_at master number).handover in
+    let now = with_others_given_up (without_items master prepare.range) number prepare.range in
+    let old = (tablet_at now number).handover in
+    either_work (is_greater master number prepare.tenure.term prepare.range) (preparing master prepare)
+    (ready_again master prepare.tenure handover.role handover.term)
+    (move_patient now number (prepared old prepare.tenure.term prepare.range (length master.log.entries))
+    (others_patient (without_items master prepare.range) number prepare.range (dropped_patient master prepare.range patient))
+    (begun_calm (nat_lt old.term prepare.tenure.term)
+    (record old { role = roles.Wanting (length master.log.entries); term = prepare.tenure.term; range = prepare.range }) tt))
+    (again_patient master prepare.tenure handover.role handover.term patient)
+
+closing_patient : (master : Master) (number : ℕ) (moved : Option Handover) → ArePatient master → IfSome moved (λ handover. handover.role ≡ roles.Closing)
+    → ArePatient (closing master number moved)
+closing_patient master number None patient is = patient
+closing_patient master number (Some handover) patient is =
+    subst (λ (o : Option Handover). ArePatient (freezing now number (tablet_at now number) o)) (sym (frozen_own handover is))
+    (subst (λ (it : Tablet). ArePatient (freezing now number it (Some (record handover { role = roles.Frozen })))) (sym (at_put master number tablet))
+    (go (is_settled now handover.range) refl))
+  where
+    tablet : Tablet
+    tablet = without_merged (with_handover (tablet_at master number) handover)
+
+    now : Master
+    now = with_tablet master number tablet
+
+    go : (b : Bool) → is_settled now handover.range ≡ b → ArePatient (cond b (tablet_frozen now number tablet (record handover { role = roles.Frozen })) now)
+    go true settled =
+        put_whole number now (with_handover tablet (record handover { role = roles.Frozen }))
+        (put_beside number master tablet (patient_beside number master patient)) tt
+    go false waits =
+        put_whole number master tablet (patient_beside number master patient) (subst (WaitsIn master tablet) (sym is) waits)
+
+close_patient : (master : Master) (tenure : Tenure) → ArePatient master → ArePatient (close_taken master tenure).master
+close_patient master tenure patient =
+    let old = (tablet_at master tenure.tablet).handover in
+    let now = closing master tenure.tablet (closed old tenure.term) in
+    let done : ArePatient now =
+    closing_patient master tenure.tablet (closed old tenure.term) patient
+    (closed_closes (nat_lt old.term tenure.term) (record old { term = tenure.term }) old.role) in
+    let tablet = tablet_at now tenure.tablet in
+    either_work (is_frozen_at tablet tenure.term) (sending now (transfer now tenure tablet)) (changed now) done done
+
+granting_patient : (master : Master) (grant : Grant) (moved : Option Handover) → ArePatient master → MovesCalm moved → ArePatient (granting master grant moved).master
+granting_patient master grant None patient calm = patient
+granting_patient master grant (Some handover) patient calm =
+    let now = with_appended master (carried_entry handover grant) in
+    let tablet : Tablet =
+    record (without_merged (tablet_at master grant.tenure.tablet)) { handover = handover; completions = completions_from [] grant.ends; pulling = pulling_from grant.source } in
+    put_patient now grant.tenure.tablet tablet (appended_patient master (carried_entry handover grant) patient) (calm_waits now tablet handover.role calm)
+
+grant_patient : (master : Master) (grant : Grant) → ArePatient master → ArePatient (grant_taken master grant).master
+grant_patient master grant patient =
+    let old = (tablet_at master grant.tenure.tablet).handover in
+    granting_patient master grant (granted old grant.tenure.term grant.floor) patient
+    (granted_calm (old.term == grant.tenure.term) (record old { counter = grant.floor }) old.role)
+
+owning_patient : (master : Master) (number : ℕ) (moved : Option Handover) → ArePatient master → MovesCalm moved → ArePatient (owning master number moved).master
+owning_patient master number None patient calm = patient
+owning_patient master number (Some handover) patient calm =
+    let tablet : Tablet = record (without_merged (tablet_at master number)) { handover = handover; pulling = pulling_from 0 } in
+    put_patient master number tablet patient (calm_waits master tablet handover.role calm)
+
+own_patient : (master : Master) (tenure : Tenure) → ArePatient master → ArePatient (own_taken master tenure).master
+own_patient master tenure patient =
+    let old = (tablet_at master tenure.tablet).handover in
+    owning_patient master tenure.tablet (owned old tenure.term master.applied) patient
+    (owned_calm (old.term == tenure.term) old master.applied old.role)
+
+releasing_patient : (master : Master) (number : ℕ) (moved : Option Handover) → ArePatient master → MovesCalm moved → ArePatient (releasing master number moved).master
+releasing_patient master number None patient calm = patient
+releasing_patient master number (Some handover) patient calm =
+    move_patient (without_items master handover.range) number (Some handover) (dropped_patient master handover.range patient) calm
+
+release_patient : (master : Master) (tenure : Tenure) → ArePatient master → ArePatient (release_taken master tenure).master
+release_patient master tenure patient =
+    let old = (tablet_at master tenure.tablet).handover in
+    releasing_patient master tenure.tablet (released old tenure.term) patient (released_calm (old.term == tenure.term) old old.role)
+
+-- ---- rebuilds
+
+merging_patient : (master : Master) (number : ℕ) (tablet : Tablet) (merged : Merged) (moved : Option Handover)
+    → ArePatient master → MovesCalm moved → ArePatient (merging master number tablet merged moved).master
+merging_patient master number tablet merged None patient calm = patient
+merging_patient master number tablet merged (Some handover) patient calm =
+    let now = with_all master (as_entries merged.copies) in
+    let last = with_appended now (rebuilt_entry tablet merged) in
+    let after : Tablet = with_merged tablet merged handover in
+    put_patient last number after (appended_patient now (rebuilt_entry tablet merged) (all_patient (as_entries merged.copies) master patient))
+    (calm_waits last after handover.role calm)
+
+rebuilding_patient : (master : Master) (number : ℕ) (reading : Option Reading) → ArePatient master → ArePatient (rebuilding_on master number reading).master
+rebuilding_patient master number (Some reading) patient = patient
+rebuilding_patient master number None patient =
+    let tablet = tablet_at master number in
+    let merged = merge (own_material master tablet) (by_member tablet.gather (own_material master tablet)) in
+    let place = length (with_all master (as_entries merged.copies)).log.entries in
+    merging_patient master number tablet merged (carried tablet.handover tablet.handover.term place merged.floor) patient
+    (carried_calm (tablet.handover.term == tablet.handover.term) (record tablet.handover { counter = merged.floor }) place tablet.handover.role)
+
+goes_on_patient : (master : Master) (number : ℕ) → ArePatient master → ArePatient (rebuild_goes_on master number).master
+goes_on_patient master number patient = rebuilding_patient master number (next_reading (tablet_at master number).gather) patient
+
+foreign_patient : (master : Master) (range : Range) (own : Option Member) → ArePatient master → ArePatient (without_foreign master range own)
+foreign_patient master range (Some member) patient = patient
+foreign_patient master range None patient = dropped_patient master range patient
+
+with_begun_patient : (master : Master) (rebuild : Rebuild) (moved : Option Handover) → ArePatient master → MovesCalm moved → ArePatient (with_begun master rebuild moved)
+with_begun_patient master rebuild None patient calm = patient
+with_begun_patient master rebuild (Some handover) patient calm =
+    let old = tablet_at master rebuild.tenure.tablet in
+    let tablet : Tablet =
+    record old {
+      handover = handover;
+      pulling = pulling_from old.pulling.source;
+      gather = gather_begun rebuild.range rebuild.lineage master.number;
+      merged_ends = [];
+    } in
+    put_patient master rebuild.tenure.tablet tablet patient (calm_waits master tablet handover.role calm)
+
+rebuild_patient : (master : Master) (rebuild : Rebuild) → ArePatient master → ArePatient (rebuild_taken master rebuild).master
+rebuild_patient master rebuild patient =
+    let own = own_member rebuild.lineage master.number in
+    let number = rebuild.tenure.tablet in
+    let now = with_others_given_up (without_foreign master rebuild.range own) number rebuild.range in
+    let old = (tablet_at now number).handover in
+    either_work (is_greater master number rebuild.tenure.term rebuild.range) (beginning master rebuild) (changed master)
+    (goes_on_patient (rebuild_begun master rebuild) number
+    (with_begun_patient now rebuild (rebuilt old rebuild.tenure.term rebuild.range (begun_from master own))
+    (others_patient (without_foreign master rebuild.range own) number rebuild.range (foreign_patient master rebuild.range own patient))
+    (begun_calm (nat_lt old.term rebuild.tenure.term)
+    (record old { role = roles.Rebuilding (begun_from master own) None; term = rebuild.tenure.term; range = rebuild.range }) tt)))
+    patient
+
+copy_patient : (master : Master) (copy : CopySegment) → ArePatient master → ArePatient (copy_taken master copy).master
+copy_patient master copy patient =
+    let number = copy.tenure.tablet in
+    let tablet = tablet_at master number in
+    either_work
+    (is_gathering tablet.handover.role && (tablet.handover.term == copy.tenure.term)
+    && is_awaited (next_reading tablet.gather) copy.master copy.segment)
+    (rebuild_goes_on (segment_gathered master copy) number) (changed master)
+    (goes_on_patient (segment_gathered master copy) number (put_patient master number _ patient (patient.each number))) patient
+
+-- ---- pulls
+
+pull_patient : (master : Master) (sender : Node) (pull : Pull) → ArePatient master → ArePatient (pull_taken master sender pull).master
+pull_patient master sender pull patient =
+    either_work (is_frozen_at (tablet_at master pull.tenure.tablet) pull.tenure.term) _ (changed master) patient patient
+
+want_patient : (master : Master) (sender : Node) (want : Want) → ArePatient master → ArePatient (want_taken master sender want).master
+want_patient master sender want patient =
+    either_work (is_frozen_at (tablet_at master want.tenure.tablet) want.tenure.term) _ (changed master) patient patient
+
+replayed_patient : (number worker : ℕ) (master : Master) (item : Held) → ArePatient master → ArePatient (item_replayed number worker master item)
+replayed_patient number worker master item patient =
+    let put = put_patient master number (with_pulling (tablet_at master number) (with_pulled (tablet_at master number).pulling worker item)) patient (patient.each number) in
+    record { order = put.order; each = put.each }
+
+pub replay_patient : (master : Master) (number worker : ℕ) (items : List Held) → ArePatient master → ArePatient (replay master number worker items)
+replay_patient master number worker items patient =
+    kept_by_fold ArePatient (replay_one number worker)
+    (λ now item kept.
+    either_patient (is_newer item (found item.table item.key now.records)) (item_replayed number worker now item) now
+    (replayed_patient number worker now item kept) kept)
+    items master patient
+
+got_patient : (master : Master) (message : Got) → ArePatient master → ArePatient (got_taken master message).master
+got_patient master message patient =
+    let number = message.tenure.tablet in
+    let tablet = tablet_at master number in
+    let now = replay master number 0 (items_of message.entries) in
+    let replayed : ArePatient now = replay_patient master number 0 (items_of message.entries) patient in
+    either_work (is_receiving_at tablet message.tenure.term && is_batch tablet.pulling.hashes.outstanding message.hashes)
+    (changed (hashes_resolved now number message.hashes)) (changed master)
+    (put_patient now number _ replayed (replayed.each number)) patient
+
+-- ---- turns
+
+reading_patient : (master : Master) (number : ℕ) (tablet : Tablet) (reading : Option Reading) → ArePatient master → ArePatient (reading_duty master number tablet reading).master
+reading_patient master number tablet None patient = patient
+reading_patient master number tablet (Some reading) patient = patient
+
+duty_patient : (master : Master) (number : ℕ) (tablet : Tablet) (role : Role) → Waits master tablet → ArePatient master → ArePatient (tablet_duty master number tablet role).master
+duty_patient master number tablet roles.Receiving waits patient = put_patient master number (with_outstanding tablet) patient waits
+duty_patient master number tablet (roles.Joining (Some entry)) waits patient = either_work (nat_lt entry master.applied) _ (changed master) patient patient
+duty_patient master number tablet (roles.Rebuilding from None) waits patient = reading_patient master number tablet (next_reading tablet.gather) patient
+duty_patient master number tablet (roles.Rebuilding from (Some entry)) waits patient = either_work (nat_lt entry master.applied) _ (changed master) patient patient
+duty_patient master number tablet role waits patient = patient
+
+-- a duty changes neither the log nor what is applied
+duty_on : (master : Master) (number : ℕ) (tablet : Tablet) (role : Role) → WaitsOn master (tablet_duty master number tablet role).master
+duty_on master number tablet roles.Receiving = record { staged = λ range is. is; known = refl; stored = λ some number is. is }
+duty_on master number tablet (roles.Joining (Some entry)) = go (nat_lt entry master.applied)
+  where
+    go : (b : Bool) → WaitsOn master (cond b (sending master (from_master master nodes.Coordinator (bodies.Joined (tenure_at number tablet)))) (changed master)).master
+    go true = same_on master
+    go false = same_on master
+duty_on master number tablet (roles.Rebuilding from None) = go (next_reading tablet.gather)
+  where
+    go : (reading : Option Reading) → WaitsOn master (reading_duty master number tablet reading).master
+    go None = same_on master
+    go (Some reading) = same_on master
+duty_on master number tablet (roles.Rebuilding from (Some entry)) = go (nat_lt entry master.applied)
+  where
+    go : (b : Bool)
+        → WaitsOn master
+        (cond b (sending master (from_master master nodes.Coordinator (bodies.Rebuilt (record { tenure = tenure_at number tablet; place = from; ends = tablet.merged_ends })))) (changed master)).master
+    go true = same_on master
+    go false = same_on master
+duty_on master number tablet role = same_on master
+
+-- what tablets of a list wait for has not come
+abbrev AllWait : Master → NumberMap Tablet → Type 0
+AllWait master tablets = All (λ (entry : ℕ × Tablet). Waits master entry.1) tablets
+
+all_wait_on : (before after : Master) → WaitsOn before after → (list : NumberMap Tablet) → AllWait before list → AllWait after list
+all_wait_on before after on list all =
+    All-weaker (λ (entry : ℕ × Tablet). Waits before entry.1) (λ (entry : ℕ × Tablet). Waits after entry.1)
+    (λ entry waits. waits_on before after on entry.1 entry.1.handover.role waits) list all
+
+duties_patient : (list : NumberMap Tablet) (master : Master) → AllWait master list → ArePatient master → ArePatient (duties master list).master
+duties_patient [] master all patient = patient
+duties_patient (entry ∷ rest) master all patient =
+    let now = (tablet_duty master entry.0 entry.1 entry.1.handover.role).master in
+    let waits = All-head (λ (it : ℕ × Tablet). Waits master it.1) entry rest all in
+    duties_patient rest now
+    (all_wait_on master now (duty_on master entry.0 entry.1 entry.1.handover.role) rest (All-tail (λ (it : ℕ × Tablet). Waits master it.1) entry rest all))
+    (duty_patient master entry.0 entry.1 entry.1.handover.role waits patient)
+
+-- at its turn
+pub turn_patient : (master : Master) → ArePatient master → ArePatient (master_turn master).master
+turn_patient master patient =
+    duties_patient master.tablets master
+    (All_pairs (λ (q : ℕ) (tablet : Tablet). Waits master tablet) master.tablets patient.order
+    (λ q tablet found. subst (λ (o : Option Tablet). Waits master (unwrap_or o no_tablet)) found (patient.each q)))
+    patient
+
+-- ---- messages
+
+module _ (master : Master) (patient : ArePatient master) (pulled_patient : (pulled : Pulled) → ArePatient (pulled_taken master pulled).master) where
+  client_patient : (client : ℕ) (body : Body) → ArePatient (client_message master client body).master
+  client_patient client (bodies.Request request) = request_patient master patient client request
+  client_patient client _ = patient
+
+  order_patient : (body : Body) → ArePatient (order master body).master
+  order_patient (bodies.Prepare prepare) = prepare_patient master prepare patient
+  order_patient (bodies.Close tenure) = close_patient master tenure patient
+  order_patient (bodies.Grant grant) = grant_patient master grant patient
+  order_patient (bodies.Own tenure) = own_patient master tenure patient
+  order_patient (bodies.Release tenure) = release_patient master tenure patient
+  order_patient (bodies.Rebuild rebuild) = rebuild_patient master rebuild patient
+  order_patient _ = patient
+
+  peer_patient : (sender : Node) (body : Body) → ArePatient (peer_message master sender body).master
+  peer_patient sender (bodies.Pull pull) = pull_patient master sender pull patient
+  peer_patient sender (bodies.Pulled pulled) = pulled_patient pulled
+  peer_patient sender (bodies.Want want) = want_patient master sender want patient
+  peer_patient sender (bodies.Got message) = got_patient master message patient
+  peer_patient sender _ = patient
+
+  backup_patient : (backup : ℕ) (body : Body) → ArePatient (backup_message master backup body).master
+  backup_patient backup (bodies.Stored stored) =
+      stored_patient master backup stored (overreach master.log stored.segment stored.length) patient
+  backup_patient backup (bodies.Copy copy) = copy_patient master copy patient
+  backup_patient backup _ = patient
+
+  told_patient : (sender : Node) (body : Body) → ArePatient (told_master master sender body).master
+  told_patient (nodes.Client client) body = client_patient client body
+  told_patient nodes.Coordinator body = order_patient body
+  told_patient (nodes.Master other) body = peer_patient (nodes.Master other) body
+  told_patient (nodes.Backup backup) body = backup_patient backup body
+
+  -- at a message
+  pub step_patient : (message : Message) → ArePatient (master_step master message).master
+  step_patient message = told_patient message.from message.body

@@ -1,0 +1,322 @@
+-- A round in which a master takes its turn, and a log exchange or a batch of a pull follows: what each master has of a tablet goes on.
+use Rattle.std.proofs.Common.{◌≡◌, ◌<◌, ℕ, Bool, true, false, cond, List, [], ◌∷◌, ◌++◌, Option, None, Some, refl, sym, subst, ◌∙◌, ⊎_elim, arith}
+use Rattle.std.specs.Prelude.{unwrap_or}
+use Rattle.std.proofs.lemmas.Bool.{cases_eq, false≢true}
+use Rattle.rk_types.specs.NumberMap.{IsInOrder, get}
+use Rattle.rk_types.specs.declared.hashing.TheConstants.{LANES}
+use Rattle.rk_types.specs.declared.node.Node.{Node}
+use Rattle.rk_types.specs.declared.node.Node.TheVariants as nodes
+use Rattle.rk_log.specs.Log.{overreach}
+use Rattle.rk_outside.specs.Segments.{Segments}
+use Rattle.rk_message.specs.declared.message.Body.{Body}
+use Rattle.rk_message.specs.declared.message.Body.TheVariants as bodies
+use Rattle.rk_message.specs.declared.message.Message.{Message}
+use Rattle.rk_world.specs.Backup.{Backed, Called, Gave, backup_step, stored_after}
+use Rattle.rk_world.specs.Calls.{accept, accept_by, accepting, is_asked_here, taking, untouched}
+use Rattle.rk_world.specs.Client.{Session}
+use Rattle.rk_world.specs.Cluster.{Cluster, lane_at}
+use Rattle.rk_world.specs.Coordinator.{Coordinator}
+use Rattle.rk_world.specs.CoordinatorStep.{told_coordinator}
+use Rattle.rk_world.specs.Formed.{IsWellFormed}
+use Rattle.rk_world.specs.Master.{Master, new_master, tablet_at}
+use Rattle.rk_world.specs.MasterStep.{master_step, told_master}
+use Rattle.rk_world.specs.MasterTurn.{master_turn}
+use Rattle.rk_world.specs.Refusals.{accept_refusal, refusal}
+use Rattle.rk_world.specs.RoleTests.{is_frozen_at}
+use Rattle.rk_world.specs.Runs.{world_stepped, world_visited}
+use Rattle.rk_world.specs.Step.{backed_at, delivered, delivered_to, log_bytes_of, losing, quietly, seen_in, step, stepped_by, with_sends, worked_at}
+use Rattle.rk_world.specs.Worked.{Worked, changed}
+use Rattle.rk_world.specs.World.{World, has_crashed, is_backup, master_at, tablet_in, with_stored_by}
+use Rattle.rk_world.specs.declared.error.StepError.{StepError}
+use Rattle.rk_world.specs.declared.event.Event.TheVariants as events
+use Rattle.rk_world.specs.declared.event.Taken.TheVariants as takes_of
+use Rattle.rk_settle.specs.Course.{Course}
+use Rattle.rk_settle.specs.Tasks.{round_of, turn_exchange}
+use Rattle.rk_settle.specs.Topics.{is_on}
+use Rattle.rk_inv_base.proofs.views.Masters.{master_other, master_same}
+use Rattle.rk_inv_lanes.specs.wires.Emptied.{Accepts, Arrival, Delivers, Loses, arrived, forgotten}
+use Rattle.rk_scripts.proofs.settle.Delivering.{ArrivesAt}
+use Rattle.rk_scripts.proofs.settle.ExchangeTasks.{Topic, log_topic, pull_topic, sorts}
+use Rattle.rk_scripts.proofs.settle.Exchanged.{Sends, turning}
+use Rattle.rk_scripts.proofs.settle.Following.{follows_itself}
+use Rattle.rk_scripts.proofs.settle.Going.{Comes, Goes, IsAt, goes_here, goes_on, goes_then, still_move}
+use Rattle.rk_scripts.proofs.settle.Keeping.{GoesOnAt, Onward, either_is, onward_itself, onward_then, pulled_on, stored_on, turn_on}
+use Rattle.rk_scripts.proofs.settle.Lanes.{IsSameBeside}
+use Rattle.rk_scripts.proofs.settle.NoticesFirst.{formed_at}
+use Rattle.rk_scripts.proofs.settle.Numbers.{left_fewer, left_no_more, sends_left}
+use Rattle.rk_scripts.proofs.settle.Ordering.{IsLaneNow}
+use Rattle.rk_scripts.proofs.settle.Orders.{IsSameAs}
+use Rattle.rk_scripts.proofs.settle.Pending.{forgotten_cases}
+use Rattle.rk_scripts.proofs.settle.Rounds.{begin}
+use Rattle.rk_scripts.proofs.settle.Setting.{Setting}
+use Rattle.rk_scripts.proofs.settle.Tasks.{Task, ends}
+use Rattle.rk_scripts.proofs.settle.Tracking.{IsTracked, IsTrackedTo, tracking}
+use Rattle.rk_scripts.proofs.settle.Walking.{HasTurned}
+use Rattle.rk_scripts.proofs.settle.Worn.{sent_below}
+
+-- ---- arrivals that change no node
+
+same_itself : (v : World) → IsSameAs v v
+same_itself v = record { coordinator = refl; each = λ q. refl; crashed = refl }
+
+module _ (v : World) where
+  accepted_same : (number : ℕ) (session : Session) → IsSameAs v (world_visited v (accept v number session))
+  accepted_same number session = go (accept_refusal v number session.client (get v.wire.messages number))
+    where
+      by : (found : Option Message) → IsSameAs v (accepting v session found).world
+      by None = same_itself v
+      by (Some message) = asked_here (is_asked_here v session)
+        where
+          asked_here : (b : Bool) → IsSameAs v (cond b (taking v session message.body) (untouched v session (Some takes_of.Ignored))).world
+          asked_here true = record { coordinator = refl; each = λ q. refl; crashed = refl }
+          asked_here false = same_itself v
+
+      go : (refused : Option StepError) → IsSameAs v (world_visited v (accept_by v number session refused))
+      go None = by (get v.wire.messages number)
+      go (Some error) = same_itself v
+
+  stored_nodes : (number : ℕ) (store : Segments → Segments) (found : Option Segments) → IsSameAs v (with_stored_by v number store found)
+  stored_nodes number store None = same_itself v
+  stored_nodes number store (Some segments) = record { coordinator = refl; each = λ q. refl; crashed = refl }
+
+  backup_same : (message : Message) (backup : ℕ) (called : Called) → IsSameAs v (delivered_to v message (nodes.Backup backup) called).world
+  backup_same message backup called = go (is_backup v backup)
+    where
+      u : World
+      u = with_stored_by v backup (λ segments. stored_after segments message.from message.body called) (get v.backups backup)
+
+      same : IsSameAs v u
+      same = stored_nodes backup (λ segments. stored_after segments message.from message.body called) (get v.backups backup)
+
+      by : (answer : Backed) (b : Bool) → IsSameAs v (cond b (losing u) (with_sends u answer.sends)).world
+      by answer true = record { coordinator = same.coordinator; each = same.each; crashed = same.crashed }
+      by answer false = record { coordinator = same.coordinator; each = same.each; crashed = same.crashed }
+
+      go : (b : Bool) → IsSameAs v (cond b (backed_at u (backup_step backup message.from message.body (log_bytes_of v) called)) (quietly v)).world
+      go true = by (backup_step backup message.from message.body (log_bytes_of v) called) (backup_step backup message.from message.body (log_bytes_of v) called).lost
+      go false = record { coordinator = refl; each = λ q. refl; crashed = refl }
+
+  client_same : (n client : ℕ) (message : Message) (arrival : Arrival) → get v.wire.messages n ≡ Some message → message.to ≡ nodes.Client client → IsSameAs v (arrived v n arrival)
+  client_same n client message (Delivers called) found to_is = go (refusal v (events.Deliver n))
+    where
+      go : (refused : Option StepError) → IsSameAs v (world_stepped v (stepped_by v (events.Deliver n) called refused))
+      go None =
+          subst (λ (o : Option Message). IsSameAs v (delivered v o called).world) (sym found)
+          (subst (λ (to : Node). IsSameAs v (delivered_to v message to called).world) (sym to_is) (record { coordinator = refl; each = λ q. refl; crashed = refl }))
+      go (Some error) = same_itself v
+  client_same n client message (Accepts session) found to_is = accepted_same n session
+  client_same n client message Loses found to_is = same_itself v
+
+-- ---- what goes on at masters
+
+module _ (number : ℕ) (w : World) where
+  -- the coordinator is as it was, the same masters have crashed, and what each has of the tablet has gone on
+  pub record IsOn (v : World) : Type 0 where
+    pub coordinator : v.coordinator ≡ w.coordinator
+    pub crashed : v.crashed ≡ w.crashed
+    pub each : (q : ℕ) → Onward (tablet_in w q number).handover (tablet_in v q number).handover
+
+  on_same : (v u : World) → IsSameAs v u → IsOn v → IsOn u
+  on_same v u same on = record {
+    coordinator = same.coordinator ∙ on.coordinator;
+    crashed = same.crashed ∙ on.crashed;
+    each = λ q. subst (λ (it : Master). Onward (tablet_in w q number).handover (tablet_at it number).handover) (sym (same.each q)) (on.each q);
+  }
+
+  on_forgotten : (v : World) (n : ℕ) → IsOn v → IsOn (forgotten v n)
+  on_forgotten v n on = forgotten_cases IsOn v n on (record { coordinator = on.coordinator; crashed = on.crashed; each = on.each })
+
+  on_worked : (v : World) (m seen : ℕ) (worked : Worked) → GoesOnAt number (master_at v m) worked.master → IsOn v → IsOn (worked_at v m seen worked).world
+  on_worked v m seen worked goes on = record {
+    coordinator = on.coordinator;
+    crashed = on.crashed;
+    each = λ q.
+        ⊎_elim
+        (λ (is : q ≡ m).
+        subst (λ (it : Master). Onward (tablet_in w q number).handover (tablet_at it number).handover) (sym (master_same v m worked.master q is))
+        (subst (λ (k : ℕ). Onward (tablet_in w k number).handover (tablet_at worked.master number).handover) (sym is)
+        (onward_then (tablet_in w m number).handover (tablet_in v m number).handover (tablet_at worked.master number).handover (on.each m) goes)))
+        (λ (apart : q ≡ m → ⊥).
+        subst (λ (it : Master). Onward (tablet_in w q number).handover (tablet_at it number).handover) (sym (master_other v m worked.master q apart)) (on.each q))
+        (cases_eq q m);
+  }
+
+  module _ (topic : Topic) (masters lane : ℕ)
+      (quiet : (c : Coordinator) (sender : Node) (body : Body) → is_on topic body ≡ true → (told_coordinator c sender body).coordinator ≡ c)
+      (steps : (master : Master) (sender : Node) (body : Body) → IsInOrder master.tablets → is_on topic body ≡ true → GoesOnAt number master (told_master master sender body).master) where
+    order_at : (v : World) → IsWellFormed v → (m : ℕ) → IsInOrder (master_at v m).tablets
+    order_at v formed m = go (get v.masters m) refl
+      where
+        go : (it : Option Master) → get v.masters m ≡ it → IsInOrder (unwrap_or it (new_master m [])).tablets
+        go None is = tt
+        go (Some there) is = (formed.masters m there is).tablets_order
+
+    taken_on : (v : World) (n : ℕ) (message : Message) (arrival : Arrival) → IsWellFormed v → get v.wire.messages n ≡ Some message → is_on topic message.body ≡ true
+        → (to : Node) → message.to ≡ to → ArrivesAt v n to arrival → IsOn v → IsOn (arrived v n arrival)
+    taken_on v n message arrival formed found on_topic (nodes.Client client) to_is fits on = on_same v (arrived v n arrival) (client_same v n client message arrival found to_is) on
+    taken_on v n message arrival formed found on_topic nodes.Coordinator to_is fits on =
+        subst (λ (a : Arrival). IsOn (arrived v n a)) (sym fits.is)
+        (subst (λ (refused : Option StepError). IsOn (world_stepped v (stepped_by v (events.Deliver n) fits.called refused))) (sym fits.fresh)
+        (subst (λ (o : Option Message). IsOn (delivered v o fits.called).world) (sym found)
+        (subst (λ (to : Node). IsOn (delivered_to v message to fits.called).world) (sym to_is)
+        (record { coordinator = quiet v.coordinator message.from message.body on_topic ∙ on.coordinator; crashed = on.crashed; each = on.each }))))
+    taken_on v n message arrival formed found on_topic (nodes.Master m) to_is fits on =
+        subst (λ (a : Arrival). IsOn (arrived v n a)) (sym fits.is)
+        (subst (λ (refused : Option StepError). IsOn (world_stepped v (stepped_by v (events.Deliver n) fits.called refused))) (sym fits.fresh)
+        (subst (λ (o : Option Message). IsOn (delivered v o fits.called).world) (sym found)
+        (subst (λ (to : Node). IsOn (delivered_to v message to fits.called).world) (sym to_is) (go (has_crashed v m)))))
+      where
+        go : (b : Bool) → IsOn (cond b (losing v) (worked_at v m (seen_in message.body) (master_step (master_at v m) message))).world
+        go true = record { coordinator = on.coordinator; crashed = on.crashed; each = on.each }
+        go false =
+            on_worked v m (seen_in message.body) (master_step (master_at v m) message)
+            (steps (master_at v m) message.from message.body (order_at v formed m) on_topic) on
+    taken_on v n message arrival formed found on_topic (nodes.Backup backup) to_is fits on =
+        subst (λ (a : Arrival). IsOn (arrived v n a)) (sym fits.is)
+        (subst (λ (refused : Option StepError). IsOn (world_stepped v (stepped_by v (events.Deliver n) fits.called refused))) (sym fits.fresh)
+        (subst (λ (o : Option Message). IsOn (delivered v o fits.called).world) (sym found)
+        (subst (λ (to : Node). IsOn (delivered_to v message to fits.called).world) (sym to_is)
+        (on_same v (delivered_to v message (nodes.Backup backup) fits.called).world (backup_same v message backup fits.called) on))))
+
+    on_tracked : IsTracked topic masters lane (λ from v. IsOn v)
+    on_tracked = record {
+      forgets = λ from n v off on. on_forgotten v n on;
+      takes = λ from n v message arrival good after found on_topic fits on.
+          on_forgotten (arrived v n arrival) n (taken_on v n message arrival good.formed found on_topic message.to refl fits on);
+    }
+
+    -- a master's turn
+    on_turn : (m : ℕ) → IsWellFormed w → IsOn (world_stepped w (step w (events.Turn (nodes.Master m)) (Gave None)))
+    on_turn m formed = go (refusal w (events.Turn (nodes.Master m)))
+      where
+        still : IsOn w
+        still = record { coordinator = refl; crashed = refl; each = λ q. onward_itself (tablet_in w q number).handover }
+
+        go : (refused : Option StepError) → IsOn (world_stepped w (stepped_by w (events.Turn (nodes.Master m)) (Gave None) refused))
+        go None = on_worked w m 0 (master_turn (master_at w m)) (turn_on number (master_at w m) (order_at w formed m)) still
+        go (Some error) = still
+
+-- ---- a round
+
+-- what each master has of the tablet has gone on, and fewer messages may be sent
+pub record HasRounded (lane : ℕ) (origin : Cluster) (number : ℕ) (w : World) (most : ℕ) (rest : List Task) (course : Course) : Type 0 where
+  pub lane_now : IsLaneNow lane origin rest (IsOn number w) course
+  pub fewer : sends_left course.cluster < most
+
+module _ (s : Setting) (lane : ℕ) (inside : lane < LANES) (origin : Cluster) (number : ℕ) (topic : Topic) (m : ℕ) (rest : List Task)
+    (quiet : (c : Coordinator) (sender : Node) (body : Body) → is_on topic body ≡ true → (told_coordinator c sender body).coordinator ≡ c)
+    (steps : (master : Master) (sender : Node) (body : Body) → IsInOrder master.tablets → is_on topic body ≡ true → GoesOnAt number master (told_master master sender body).master) where
+  rounded : (behind : List Task) (before : Cluster) (course : Course) → Comes s before course → course.tasks ≡ turn_exchange lane topic (nodes.Master m) ∷ behind
+      → IsSameBeside lane origin course.cluster → Sends (lane_at course.cluster lane) (nodes.Master m)
+      → Goes s before course (HasRounded lane origin number (lane_at course.cluster lane) (sends_left course.cluster) behind)
+  rounded behind before course comes are beside sends =
+      let w : World = lane_at course.cluster lane in
+      let sent : ℕ = w.wire.sent in
+      let Q : Course → Type 0 = HasRounded lane origin number w (sends_left course.cluster) behind in
+      let tracked : IsTracked topic s.masters lane (λ from v. IsOn number w v) = on_tracked number w topic s.masters lane quiet steps in
+      goes_then s before course (HasTurned lane (nodes.Master m) (sorts lane topic sent sent ∷ behind) course.cluster) Q comes
+      (turning s lane inside topic (nodes.Master m) behind course.cluster course (record { sane = comes.sane; follows = follows_itself course.cluster }) are)
+      (λ later comes_later follows turned.
+      let fewer =
+      left_fewer course.cluster later.cluster lane (λ q. (follows q).sent) inside (sent_below w (formed_at s course comes.sane lane inside) turned.fresh)
+      (subst (λ (now : World). w.wire.sent < now.wire.sent) (sym turned.changes.here) (sends turned.fresh)) in
+      goes_then s before later (IsTrackedTo s lane inside origin topic (λ from v. IsOn number w v) tracked behind) Q comes_later
+      (tracking s lane inside origin topic (λ from v. IsOn number w v) tracked sent behind later.cluster later (record { sane = comes_later.sane; follows = follows_itself later.cluster }) turned.left
+      (λ q apart. turned.changes.beside q apart ∙ beside q apart)
+      (subst (IsOn number w) (sym turned.changes.here) (on_turn number w topic s.masters lane quiet steps m (formed_at s course comes.sane lane inside))))
+      (λ end comes_end on done.
+      let no_more = left_no_more later.cluster end.cluster (λ q. (on q).sent) in
+      goes_here s before end Q comes_end
+      (record { lane_now = record { left = done.left; beside = done.beside; now = done.holds }; fewer = omega (arith, fewer, no_more) })))
+
+  pub rounding : (before : Cluster) (course : Course) → Comes s before course → course.tasks ≡ round_of (turn_exchange lane topic (nodes.Master m) ∷ []) ++ rest
+      → IsSameBeside lane origin course.cluster → Sends (lane_at course.cluster lane) (nodes.Master m)
+      → Goes s before course (HasRounded lane origin number (lane_at course.cluster lane) (sends_left course.cluster) rest)
+  rounding before course comes are beside sends =
+      let w : World = lane_at course.cluster lane in
+      let Q : Course → Type 0 = HasRounded lane origin number w (sends_left course.cluster) rest in
+      goes_on s before course (IsAt course.cluster (turn_exchange lane topic (nodes.Master m) ∷ ends ∷ rest)) Q
+      (begin s (turn_exchange lane topic (nodes.Master m) ∷ ends ∷ rest) before course comes are)
+      (λ later comes_later at.
+      goes_on s before later (HasRounded lane origin number w (sends_left course.cluster) (ends ∷ rest)) Q
+      (subst (λ (cluster : Cluster). Goes s before later (HasRounded lane origin number (lane_at cluster lane) (sends_left cluster) (ends ∷ rest))) at.cluster_is
+      (rounded (ends ∷ rest) before later comes_later at.tasks_are (subst (IsSameBeside lane origin) (sym at.cluster_is) beside)
+      (subst (λ (cluster : Cluster). Sends (lane_at cluster lane) (nodes.Master m)) (sym at.cluster_is) sends)))
+      (λ last comes_last done.
+      still_move s before last ends rest rest Q comes_last done.lane_now.left (record { cluster_is = refl; tasks_are = refl })
+      (λ next at_end. record {
+        lane_now = record {
+          left = at_end.tasks_are;
+          beside = subst (IsSameBeside lane origin) (sym at_end.cluster_is) done.lane_now.beside;
+          now = subst (λ (cluster : Cluster). IsOn number w (lane_at cluster lane)) (sym at_end.cluster_is) done.lane_now.now;
+        };
+        fewer = subst (λ (cluster : Cluster). sends_left cluster < sends_left course.cluster) (sym at_end.cluster_is) done.fewer;
+      })))
+
+-- ---- log exchanges
+
+pub log_quiet : (c : Coordinator) (sender : Node) (body : Body) → is_on log_topic body ≡ true → (told_coordinator c sender body).coordinator ≡ c
+log_quiet c (nodes.Client client) (bodies.Lookup lookup) on = absurd (false≢true on)
+log_quiet c (nodes.Client client) body on = refl
+log_quiet c (nodes.Master m) (bodies.Ready it) on = absurd (false≢true on)
+log_quiet c (nodes.Master m) (bodies.Transfer it) on = absurd (false≢true on)
+log_quiet c (nodes.Master m) (bodies.Joined it) on = absurd (false≢true on)
+log_quiet c (nodes.Master m) (bodies.Rebuilt it) on = absurd (false≢true on)
+log_quiet c (nodes.Master m) body on = refl
+log_quiet c nodes.Coordinator body on = refl
+log_quiet c (nodes.Backup backup) body on = refl
+
+pub log_steps : (number : ℕ) (master : Master) (sender : Node) (body : Body) → IsInOrder master.tablets → is_on log_topic body ≡ true → GoesOnAt number master (told_master master sender body).master
+log_steps number master (nodes.Client client) (bodies.Request it) order on = absurd (false≢true on)
+log_steps number master (nodes.Client client) body order on = onward_itself (tablet_at master number).handover
+log_steps number master nodes.Coordinator (bodies.Prepare it) order on = absurd (false≢true on)
+log_steps number master nodes.Coordinator (bodies.Close it) order on = absurd (false≢true on)
+log_steps number master nodes.Coordinator (bodies.Grant it) order on = absurd (false≢true on)
+log_steps number master nodes.Coordinator (bodies.Own it) order on = absurd (false≢true on)
+log_steps number master nodes.Coordinator (bodies.Release it) order on = absurd (false≢true on)
+log_steps number master nodes.Coordinator (bodies.Rebuild it) order on = absurd (false≢true on)
+log_steps number master nodes.Coordinator body order on = onward_itself (tablet_at master number).handover
+log_steps number master (nodes.Master m) (bodies.Pull it) order on = absurd (false≢true on)
+log_steps number master (nodes.Master m) (bodies.Pulled it) order on = absurd (false≢true on)
+log_steps number master (nodes.Master m) (bodies.Want it) order on = absurd (false≢true on)
+log_steps number master (nodes.Master m) (bodies.Got it) order on = absurd (false≢true on)
+log_steps number master (nodes.Master m) body order on = onward_itself (tablet_at master number).handover
+log_steps number master (nodes.Backup backup) (bodies.Stored stored) order on =
+    stored_on number master backup stored (overreach master.log stored.segment stored.length) order
+log_steps number master (nodes.Backup backup) (bodies.Copy it) order on = absurd (false≢true on)
+log_steps number master (nodes.Backup backup) body order on = onward_itself (tablet_at master number).handover
+
+-- ---- pulls
+
+pub pull_quiet : (tablet : ℕ) (c : Coordinator) (sender : Node) (body : Body) → is_on (pull_topic tablet) body ≡ true → (told_coordinator c sender body).coordinator ≡ c
+pull_quiet tablet c (nodes.Client client) (bodies.Lookup lookup) on = absurd (false≢true on)
+pull_quiet tablet c (nodes.Client client) body on = refl
+pull_quiet tablet c (nodes.Master m) (bodies.Ready it) on = absurd (false≢true on)
+pull_quiet tablet c (nodes.Master m) (bodies.Transfer it) on = absurd (false≢true on)
+pull_quiet tablet c (nodes.Master m) (bodies.Joined it) on = absurd (false≢true on)
+pull_quiet tablet c (nodes.Master m) (bodies.Rebuilt it) on = absurd (false≢true on)
+pull_quiet tablet c (nodes.Master m) body on = refl
+pull_quiet tablet c nodes.Coordinator body on = refl
+pull_quiet tablet c (nodes.Backup backup) body on = refl
+
+pub pull_steps : (tablet number : ℕ) (master : Master) (sender : Node) (body : Body) → IsInOrder master.tablets → is_on (pull_topic tablet) body ≡ true
+    → GoesOnAt number master (told_master master sender body).master
+pull_steps tablet number master (nodes.Client client) (bodies.Request it) order on = absurd (false≢true on)
+pull_steps tablet number master (nodes.Client client) body order on = onward_itself (tablet_at master number).handover
+pull_steps tablet number master nodes.Coordinator (bodies.Prepare it) order on = absurd (false≢true on)
+pull_steps tablet number master nodes.Coordinator (bodies.Close it) order on = absurd (false≢true on)
+pull_steps tablet number master nodes.Coordinator (bodies.Grant it) order on = absurd (false≢true on)
+pull_steps tablet number master nodes.Coordinator (bodies.Own it) order on = absurd (false≢true on)
+pull_steps tablet number master nodes.Coordinator (bodies.Release it) order on = absurd (false≢true on)
+pull_steps tablet number master nodes.Coordinator (bodies.Rebuild it) order on = absurd (false≢true on)
+pull_steps tablet number master nodes.Coordinator body order on = onward_itself (tablet_at master number).handover
+pull_steps tablet number master (nodes.Master m) (bodies.Pull pull) order on =
+    either_is (GoesOnAt number master) (is_frozen_at (tablet_at master pull.tenure.tablet) pull.tenure.term) _ (changed master)
+    (onward_itself (tablet_at master number).handover) (onward_itself (tablet_at master number).handover)
+pull_steps tablet number master (nodes.Master m) (bodies.Pulled pulled) order on = pulled_on number master pulled
+pull_steps tablet number master (nodes.Master m) (bodies.Want it) order on = absurd (false≢true on)
+pull_steps tablet number master (nodes.Master m) (bodies.Got it) order on = absurd (false≢true on)
+pull_steps tablet number master (nodes.Master m) body order on = onward_itself (tablet_at master number).handover
+pull_steps tablet number master (nodes.Backup backup) (bodies.Stored stored) order on = absurd (false≢true on)
+pull_steps tablet number master (nodes.Backup backup) (bodies.Copy it) order on = absurd (false≢true on)
+pull_steps tablet number master (nodes.Backup backup) body order on = onward_itself (tablet_at master number).handover

@@ -1,0 +1,107 @@
+-- `settle` ends.
+use Rattle.std.proofs.Common.{◌≡◌, ◌≤◌, ℕ, zero, suc, true, List, [], ◌∷◌, refl, sym, subst, inl, inr, ⊎_elim}
+use Rattle.rk_types.specs.declared.hashing.TheConstants.{LANES}
+use Rattle.rk_log.specs.declared.copied.TheConstants.{MOST_BACKUPS}
+use Rattle.rk_world.specs.Cluster.{Cluster, Occurrence, cluster_run, new_cluster}
+use Rattle.rk_world.specs.ClusterRuns.{IsRun}
+use Rattle.rk_world.specs.Premises.{MOST_MASTERS}
+use Rattle.rk_cluster.specs.Replicas.{Fate, Kept}
+use Rattle.rk_settle.specs.Course.{Course, moved, moved_all}
+use Rattle.rk_settle.specs.Rest.{is_at_rest}
+use Rattle.rk_settle.proofs.AtRest.{settled_rests}
+use Rattle.rk_settle.proofs.Lossless.{IsWell, moved_well, well_other}
+use Rattle.rk_settle.proofs.Unfolded.{settle_are}
+use Rattle.rk_runs.specs.duties.Added.{AreAdded}
+use Rattle.rk_scripts.proofs.play.Masters.{names_masters}
+use Rattle.rk_scripts.proofs.play.Reaching.{IsReached}
+use Rattle.rk_scripts.specs.settle.Moves.{Adversary, Ends, HasSettled, Rests, Stops, after_moves, faultless, settling}
+use Rattle.rk_scripts.proofs.settle.Going.{Comes, Goes, IsDone, comes_here, goes_then}
+use Rattle.rk_scripts.proofs.settle.NoticesFirst.{AreNoticed, notices_first}
+use Rattle.rk_scripts.proofs.settle.Rounds.{Never, rounds}
+use Rattle.rk_scripts.proofs.settle.Setting.{IsSane, Setting}
+use Rattle.rk_scripts.proofs.settle.Tasks.{settles}
+
+-- ---- where no task is left the cluster is at rest
+
+-- what became of the calls of replicas in so many moves
+fates_of : Adversary → ℕ → Course → List Fate
+fates_of adversary zero course = []
+fates_of adversary (suc moves) course = adversary course ∷ fates_of adversary moves (moved course (adversary course))
+
+fates_lead : (adversary : Adversary) (moves : ℕ) (course : Course) → after_moves adversary moves course ≡ moved_all course (fates_of adversary moves course)
+unfolding fates_of
+fates_lead adversary zero course = refl
+fates_lead adversary (suc moves) course = fates_lead adversary moves (moved course (adversary course))
+
+settled_at_end : (adversary : Adversary) (moves : ℕ) (cluster : Cluster) → (after_moves adversary moves (settling cluster)).tasks ≡ [] → HasSettled (after_moves adversary moves (settling cluster))
+settled_at_end adversary moves cluster none =
+    let same = fates_lead adversary moves (settling cluster) in (
+      none,
+      subst (λ (course : Course). is_at_rest course.cluster ≡ true) (sym same)
+          (settled_rests cluster (fates_of adversary moves (settling cluster)) (subst (λ (course : Course). course.tasks ≡ []) same none)),
+    )
+
+-- ---- settle ends
+
+module _ (adversary : Adversary) (masters backups : ℕ) (cluster : Cluster) (reached : IsReached masters backups cluster) (added : AreAdded cluster) where
+  abbrev s : Setting
+  s = record { adversary = adversary; masters = masters; backups = backups; start = cluster; reached = reached }
+
+  begins_sane : IsSane s (settling cluster)
+  begins_sane = record {
+    coursing = record { from = refl; run = tt; are = settle_are masters cluster (names_masters masters backups cluster reached) };
+    added = added;
+  }
+
+  goes : Goes s cluster (settling cluster) Never
+  goes =
+      goes_then s cluster (settling cluster) (λ next. (next.tasks ≡ settles ∷ []) × AreNoticed LANES next.cluster) Never
+      (comes_here s (settling cluster) begins_sane) (notices_first s (settling cluster) begins_sane refl)
+      (λ later comes follows noticed. rounds s cluster later comes noticed.0 noticed.1)
+
+  -- from a cluster to which a run of a new one has led
+  pub reached_ends : Ends adversary (settling cluster)
+  reached_ends = record {
+    moves = goes.moves;
+    over =
+        ⊎_elim
+        (λ (done : IsDone (after_moves adversary goes.moves (settling cluster))).
+        ⊎_elim (λ (none : (after_moves adversary goes.moves (settling cluster)).tasks ≡ []). inl (settled_at_end adversary goes.moves cluster none))
+        (λ (stops : Stops (after_moves adversary goes.moves (settling cluster))). inr stops) done)
+        (λ (never : Comes s cluster (after_moves adversary goes.moves (settling cluster)) × Never (after_moves adversary goes.moves (settling cluster))). absurd never.1)
+        goes.is;
+  }
+
+pub settle_ends : (masters backups : ℕ) (before : List Occurrence) (adversary : Adversary) → masters ≤ MOST_MASTERS → 1 ≤ backups → backups ≤ MOST_BACKUPS
+    → IsRun (new_cluster masters backups) before → AreAdded (cluster_run (new_cluster masters backups) before)
+    → Ends adversary (settling (cluster_run (new_cluster masters backups) before))
+settle_ends masters backups before adversary few backed few_backups run added =
+    reached_ends adversary masters backups (cluster_run (new_cluster masters backups) before)
+    (record { few_masters = few; backed = backed; few_backups = few_backups; before = before; run = run; is = refl }) added
+
+-- ---- where no replica fails
+
+-- no replica has failed after moves at which none fails
+all_well : (moves : ℕ) (course : Course) → IsWell course → IsWell (after_moves faultless moves course)
+all_well zero course well = well
+all_well (suc moves) course well = all_well moves (moved course Kept) (moved_well course well)
+
+-- so `settle` comes to rest, unless a lane is worn
+pub reached_rests : (masters backups : ℕ) (cluster : Cluster) → IsReached masters backups cluster → AreAdded cluster → Rests (settling cluster)
+reached_rests masters backups cluster reached added =
+    let ends : Ends faultless (settling cluster) = reached_ends faultless masters backups cluster reached added in
+    let last : Course = after_moves faultless ends.moves (settling cluster) in
+    let well : IsWell last = all_well ends.moves (settling cluster) (record { none = refl; well = refl }) in
+    record {
+      moves = ends.moves;
+      over =
+          ⊎_elim (λ (settled : HasSettled last). inl settled)
+          (λ (stops : Stops last). inr (record { stops = stops; no_fault = λ rounds is. well_other last rounds well is })) ends.over;
+    }
+
+pub settle_rests : (masters backups : ℕ) (before : List Occurrence) → masters ≤ MOST_MASTERS → 1 ≤ backups → backups ≤ MOST_BACKUPS
+    → IsRun (new_cluster masters backups) before → AreAdded (cluster_run (new_cluster masters backups) before)
+    → Rests (settling (cluster_run (new_cluster masters backups) before))
+settle_rests masters backups before few backed few_backups run added =
+    reached_rests masters backups (cluster_run (new_cluster masters backups) before)
+    (record { few_masters = few; backed = backed; few_backups = few_backups; before = before; run = run; is = refl }) added

@@ -1,0 +1,5 @@
+pub mod Alone
+pub mod Steps
+pub mod OneMap
+pub mod Led
+pub mod Historical

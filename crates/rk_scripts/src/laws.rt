@@ -1,0 +1,4 @@
+//! The headline laws, a file a subject.
+pub mod answers;
+pub mod play;
+pub mod settle;

@@ -1,0 +1,135 @@
+use Rattle.std.proofs.Common.{◌+◌, ℕ, List, [], if◌then◌else◌, sym, subst, ◌∙◌, refl, arith}
+use Rattle.std.proofs.lemmas.List.Elements.{All-head, All-tail}
+use Rattle.std.proofs.lemmas.Result.{err_from_is_err_and}
+use Rattle.rk_types.specs.declared.node.Said.{Said}
+use Rattle.rk_cluster.specs.Masters.{masters_of}
+use Rattle.rk_cluster.proofs.Faults.{counts_same, counts_then}
+use Rattle.rk_settle.specs.Course.{MOST_FAULTS}
+use Rattle.rk_settle.specs.Faults.{FailsInRounds, failed_rounds}
+use Rattle.rk_settle.specs.Lawful.{AreTasks, IsTask}
+use Rattle.rk_settle.specs.Outcomes.{Fails, Keeps}
+use Rattle.rk_settle.specs.States.{Moves, Stops}
+use Rattle.rk_settle.specs.declared.error.SettleError.TheVariants.{TooLong}
+use Rattle.rk_settle.specs.declared.task.Task.{Task}
+use Rattle.rk_settle.proofs.Ending.{ends_by, fails_by}
+use Rattle.rk_settle.proofs.Failing.{failed_often, in_no_round, rounds_counted}
+use Rattle.rk_settle.proofs.Moving.{none_moved, one_more, says_after, stops_in}
+use Rattle.rk_settle.proofs.course.make_moves.Goals as goal
+
+pub loop-init : goal.loop-init
+loop-init g c = record {
+  eight = c.masters-masters.ensures.eight;
+  moves = none_moved g.R.Replica.segments g.R.Replica.faults c.args.cluster.now c.args.tasks c.args.progress.now;
+  lawful = c.requires.tasks;
+  few = omega (arith, c.requires.faults);
+  masters = refl;
+  backups = refl;
+  counts = subst (λ (count : ℕ). FailsInRounds g.R.Replica.faults count c.args.cluster.now c.args.cluster.now)
+      (λ i. (sym c.requires.faults i) + (if (sym c.requires.failing i) then 1 else 0)) (in_no_round g.R.Replica.faults c.args.cluster.now);
+}
+
+pub returns-in_default-clause-ok : goal.returns-in_default-clause-ok
+returns-in_default-clause-ok g c =
+    λ command tells.
+    ends_by g.R.Replica.segments g.R.Replica.faults c.args.cluster.now c.loop.cluster command c.args.tasks c.args.progress.now
+    (record { faults = c.requires.faults; failing = c.requires.failing }) c.loop.invariant.eight tells c.loop.tasks c.loop.progress (c.pop.ensures.none c.in_default.is) c.loop.invariant.moves
+
+pub returns-in_default-clause-kept : goal.returns-in_default-clause-kept
+returns-in_default-clause-kept g c = c.loop.invariant.moves.kept
+
+pub returns-in_default-clause-masters : goal.returns-in_default-clause-masters
+returns-in_default-clause-masters g c = c.loop.invariant.masters
+
+pub returns-in_default-clause-backups : goal.returns-in_default-clause-backups
+returns-in_default-clause-backups g c = c.loop.invariant.backups
+
+pub returns-in_default-clause-counts : goal.returns-in_default-clause-counts
+returns-in_default-clause-counts g c =
+    rounds_counted g.R.Replica.faults (failed_rounds c.loop.progress) c.args.cluster.now c.loop.cluster c.loop.invariant.counts
+
+pub make_move-requires-clause-task : goal.make_move-requires-clause-task
+make_move-requires-clause-task g c =
+    subst (λ (masters : ℕ). IsTask masters c.in-Some.task) (sym c.loop.invariant.masters)
+    (All-head (IsTask (masters_of c.args.cluster.now)) c.in-Some.task c.pop.new.self
+    (subst (AreTasks (masters_of c.args.cluster.now)) c.in-Some.ensures.some c.loop.invariant.lawful))
+
+pub make_move-requires-clause-left : goal.make_move-requires-clause-left
+make_move-requires-clause-left g c =
+    subst (λ (masters : ℕ). AreTasks masters c.pop.new.self) (sym c.loop.invariant.masters)
+    (All-tail (IsTask (masters_of c.args.cluster.now)) c.in-Some.task c.pop.new.self
+    (subst (AreTasks (masters_of c.args.cluster.now)) c.in-Some.ensures.some c.loop.invariant.lawful))
+
+pub make_move-requires-clause-faults : goal.make_move-requires-clause-faults
+make_move-requires-clause-faults g c = omega (arith, c.loop.invariant.few, c.loop-test.true)
+
+pub returns-in_err-make_move-clause-err : goal.returns-in_err-make_move-clause-err
+returns-in_err-make_move-clause-err g c =
+    let lost = err_from_is_err_and c.from_residual.result c.from_residual.ensures.1 in
+    λ command tells.
+    rw (lost.1, lost.2)
+    (subst (λ (has : List Said). Fails g.R.Replica.segments g.R.Replica.faults c.args.cluster.now c.make_move.new.cluster command c.args.progress.now.said.items has c.in_err-make_move.field-0.0)
+    (sym c.in_err-make_move.ensures.silent)
+    (fails_by g.R.Replica.segments g.R.Replica.faults c.args.cluster.now c.make_move.new.cluster command c.args.tasks c.args.progress.now
+    (record { faults = c.requires.faults; failing = c.requires.failing }) c.loop.invariant.eight tells c.loop.progress.said.items c.in_err-make_move.field-0.0
+    (stops_in g.R.Replica.segments g.R.Replica.faults c.args.cluster.now c.loop.cluster c.make_move.new.cluster c.args.tasks c.loop.tasks c.args.progress.now c.loop.progress
+    c.in_err-make_move.field-0.0 c.loop.invariant.moves c.make_move.ensures.counts
+    (subst (λ (left : List Task). Stops g.R.Replica.segments c.loop.cluster c.make_move.new.cluster left c.loop.progress c.in_err-make_move.field-0.0) (sym c.in-Some.ensures.some) c.in_err-make_move.ensures.err))))
+
+pub returns-in_err-make_move-clause-kept : goal.returns-in_err-make_move-clause-kept
+returns-in_err-make_move-clause-kept g c =
+    subst (Keeps c.args.progress.now.said.items) (sym c.in_err-make_move.ensures.silent) c.loop.invariant.moves.kept
+
+pub returns-in_err-make_move-clause-masters : goal.returns-in_err-make_move-clause-masters
+returns-in_err-make_move-clause-masters g c = c.make_move.ensures.masters ∙ c.loop.invariant.masters
+
+pub returns-in_err-make_move-clause-backups : goal.returns-in_err-make_move-clause-backups
+returns-in_err-make_move-clause-backups g c = c.make_move.ensures.backups ∙ c.loop.invariant.backups
+
+pub returns-in_err-make_move-clause-counts : goal.returns-in_err-make_move-clause-counts
+returns-in_err-make_move-clause-counts g c =
+    counts_then g.R.Replica.faults [] [] c.args.cluster.now c.loop.cluster c.make_move.new.cluster
+    (rounds_counted g.R.Replica.faults (failed_rounds c.loop.progress) c.args.cluster.now c.loop.cluster c.loop.invariant.counts)
+    c.make_move.ensures.counts
+
+pub returns-in_err-make_move-clause-cause : goal.returns-in_err-make_move-clause-cause
+returns-in_err-make_move-clause-cause g c =
+    let lost = err_from_is_err_and c.from_residual.result c.from_residual.ensures.1 in
+    rw (lost.1, lost.2)
+    (λ of_replicas.
+    failed_often g.R.Replica.faults MOST_FAULTS c.args.cluster.now c.loop.cluster c.make_move.new.cluster c.loop.progress (c.in_err-make_move.ensures.cause of_replicas) c.loop.invariant.counts
+    c.make_move.ensures.counts)
+
+pub loop-preserved : goal.loop-preserved
+loop-preserved g c = record {
+  eight = c.loop.invariant.eight;
+  moves = one_more g.R.Replica.segments g.R.Replica.faults c.args.cluster.now c.loop.cluster c.make_move.new.cluster c.args.tasks c.loop.tasks c.make_move.new.tasks c.args.progress.now c.loop.progress
+      c.make_move.new.progress c.loop.invariant.moves
+      (subst (λ (left : List Task). Moves g.R.Replica.segments g.R.Replica.faults c.loop.cluster c.make_move.new.cluster left c.make_move.new.tasks c.loop.progress c.make_move.new.progress)
+      (sym c.in-Some.ensures.some) c.in_ok-make_move.ensures.ok);
+  lawful = subst (λ (masters : ℕ). AreTasks masters c.make_move.new.tasks) (c.make_move.ensures.masters ∙ c.loop.invariant.masters) c.in_ok-make_move.ensures.lawful;
+  few = omega (arith, c.make_move.ensures.faults, c.loop.invariant.few);
+  masters = c.make_move.ensures.masters ∙ c.loop.invariant.masters;
+  backups = c.make_move.ensures.backups ∙ c.loop.invariant.backups;
+  counts = c.in_ok-make_move.ensures.failed c.args.cluster.now c.loop.invariant.counts;
+}
+
+pub returns-clause-err : goal.returns-clause-err
+returns-clause-err g c =
+    λ command tells.
+    fails_by g.R.Replica.segments g.R.Replica.faults c.args.cluster.now c.loop.cluster command c.args.tasks c.args.progress.now
+    (record { faults = c.requires.faults; failing = c.requires.failing }) c.loop.invariant.eight tells c.loop.progress.said.items TooLong
+    (says_after g.R.Replica.segments g.R.Replica.faults c.args.cluster.now c.loop.cluster c.loop.cluster c.args.tasks c.loop.tasks c.args.progress.now c.loop.progress c.loop.invariant.moves
+    (counts_same g.R.Replica.faults c.loop.cluster))
+
+pub returns-clause-kept : goal.returns-clause-kept
+returns-clause-kept g c = c.loop.invariant.moves.kept
+
+pub returns-clause-masters : goal.returns-clause-masters
+returns-clause-masters g c = c.loop.invariant.masters
+
+pub returns-clause-backups : goal.returns-clause-backups
+returns-clause-backups g c = c.loop.invariant.backups
+
+pub returns-clause-counts : goal.returns-clause-counts
+returns-clause-counts g c =
+    rounds_counted g.R.Replica.faults (failed_rounds c.loop.progress) c.args.cluster.now c.loop.cluster c.loop.invariant.counts

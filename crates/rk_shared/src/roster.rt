@@ -1,0 +1,28 @@
+// Which lanes and which clients belong together.
+ghost use Rattle.std.specs.Prelude.{ℕ, List};
+
+use std::marker::Brand;
+use std::sync::ledger::Ledger;
+
+/// The ledger that numbers the lanes. It also names what all of them have in common, as data of proofs: how many masters each lane
+/// has, which clients, and what is taken for granted of the replicas.
+pub trait Roster: Ledger {
+    /// How many masters each lane has.
+    ghost masters: { ℕ };
+
+    /// The clients of each lane.
+    ghost clients: { List ℕ };
+
+    /// What is taken for granted of the replicas at the start, as that each of them tells what it stores: where it is so, lanes are sound.
+    ghost tells: { Type 0 };
+}
+
+impl Roster for Brand {
+    ghost use Rattle.std.specs.Prelude.{[], ⊤};
+
+    ghost masters = { 0 };
+
+    ghost clients = { [] };
+
+    ghost tells = { ⊤ };
+}

@@ -1,0 +1,247 @@
+-- A lane behind its lock, and a pass, stay so when a client takes a message.
+use Rattle.std.proofs.Common.{◌≡◌, ℕ, ◌+◌, Bool, true, false, cond, not, List, [], length, Option, Some, None, Result, Ok, Err, refl, sym, ap, subst, ◌∙◌, arith}
+use Rattle.std.specs.Prelude.{◌==◌, IfSome, is_some}
+use Rattle.std.specs.Option.{option_or}
+use Rattle.rk_outside.specs.Segments.{Segments}
+use Rattle.rk_backup.specs.declared.lane.BackupLane.{BackupLane}
+use Rattle.rk_types.specs.NumberMap.{NumberMap, get}
+use Rattle.rk_types.specs.declared.call.Answer.{Answer}
+use Rattle.rk_types.specs.declared.call.Answer.TheVariants as answers
+use Rattle.rk_types.specs.declared.call.Call.{Call}
+use Rattle.rk_message.specs.declared.calls.Located.{Located}
+use Rattle.rk_message.specs.declared.calls.Reply.{Reply}
+use Rattle.rk_message.specs.declared.message.Body.{Body}
+use Rattle.rk_message.specs.declared.message.Body.TheVariants as bodies
+use Rattle.rk_message.specs.declared.message.Message.{Message}
+use Rattle.rk_world.specs.Calls.{Visited, accept, accept_by, accepting, is_asked_here, taking, untouched}
+use Rattle.rk_world.specs.Client.{Session, accepted_by, accepted_of, answer_accepted, call_lane, has_call, ignoring, with_range}
+use Rattle.rk_world.specs.Premises.{MayAct}
+use Rattle.rk_world.specs.Refusals.{accept_refusal, is_for, where_true}
+use Rattle.rk_world.specs.Runs.{world_visited}
+use Rattle.rk_world.specs.World.{World}
+use Rattle.rk_world.specs.declared.error.StepError.{StepError}
+use Rattle.rk_world.specs.declared.error.StepError.TheVariants as errors
+use Rattle.rk_world.specs.declared.event.Seen.{Seen}
+use Rattle.rk_world.specs.declared.event.Taken.{Taken}
+use Rattle.rk_world.specs.declared.event.Taken.TheVariants as takes
+use Rattle.rk_world.specs.Ledger.{Ledger, is_added}
+use Rattle.rk_lane.specs.LaneState.{AreTold, IsSameLane, LaneState, Running, world_with}
+use Rattle.rk_lane.specs.Visits.{IsVisitOf}
+use Rattle.rk_runs.specs.history.Agreement.{AreRisingAbove}
+use Rattle.rk_laws_lanes.specs.Counts.{HasReceipts, HasSameClients, IsCounted, accepted_count}
+use Rattle.rk_laws_lanes.specs.GoodLane.{IsGoodLane}
+use Rattle.rk_laws_lanes.proofs.Answers.{answer_asked, answer_clients, answer_counted, answer_receipts}
+use Rattle.rk_laws_lanes.proofs.Clients.{good_accepts}
+use Rattle.rk_shared_lanes.specs.Counting.{is_answer}
+use Rattle.rk_shared_lanes.specs.Kept.{IsKept, StandsFor}
+use Rattle.rk_shared_lanes.specs.Passes.{IsPass, PassState, one_if}
+use Rattle.rk_shared_lanes.proofs.Rising.{rising_more}
+use Rattle.rk_shared_lanes.proofs.Standing.{kept_with, sound_on, stands_on}
+
+-- ---- the session's client
+
+client_by_answer : (session : Session) (call : Call) (reply : Reply) (answer : Answer) → (answer_accepted session call reply answer).session.client ≡ session.client
+client_by_answer session call reply (answers.Done outcome) = refl
+client_by_answer session call reply (answers.Moved tablet) = refl
+client_by_answer session call reply (answers.NotYet key) = refl
+
+client_by_seq : (session : Session) (call : Call) (reply : Reply) (test : Bool)
+    → (cond test (answer_accepted session call reply reply.answer) (ignoring session)).session.client ≡ session.client
+client_by_seq session call reply true = client_by_answer session call reply reply.answer
+client_by_seq session call reply false = refl
+
+client_by_range : (session : Session) (call : Call) (located : Located) (test : Bool)
+    → (cond test (record { session = with_range session (call_lane call) located; taken = takes.Located }) (ignoring session)).session.client ≡ session.client
+client_by_range session call located true = refl
+client_by_range session call located false = refl
+
+client_by : (session : Session) (call : Call) (body : Body) → (accepted_by session call body).session.client ≡ session.client
+client_by session call (bodies.Reply reply) = client_by_seq session call reply (reply.seq == call.seq)
+client_by session call (bodies.Located located) = client_by_range session call located (has_call call located)
+client_by session call body = refl
+
+client_of : (session : Session) (out : Option Call) (body : Body) → (accepted_of session out body).session.client ≡ session.client
+client_of session None body = refl
+client_of session (Some call) body = client_by session call body
+
+client_taken : (w : World) (session : Session) (message : Message) → (accepting w session (Some message)).session.client ≡ session.client
+client_taken w session message = go (is_asked_here w session)
+  where
+    go : (here : Bool) → (cond here (taking w session message.body) (untouched w session (Some takes.Ignored))).session.client ≡ session.client
+    go true = client_of session session.outstanding message.body
+    go false = refl
+
+-- ---- a message that was taken
+
+-- it is there, for the client, and makes just what it makes
+record IsTaken (w : World) (number : ℕ) (session : Session) (visited : Visited) : Type 0 where
+  pub message : Message
+  pub there : get w.wire.messages number ≡ Some message
+  pub for_it : is_for session.client message.to ≡ true
+  pub is : accepting w session (Some message) ≡ visited
+
+for_client : (w : World) (number client : ℕ) (message : Message) (here : Bool) → is_for client message.to ≡ here
+    → option_or (where_true (not here) (errors.Address number)) (where_true (not (is_added w.ledger client)) (errors.Stranger client)) ≡ None → here ≡ true
+for_client w number client message true is none = refl
+for_client w number client message false is none = absurd (cc none)
+
+taken_by : (w : World) (number : ℕ) (session : Session) (visited : Visited) (found : Option Message) → get w.wire.messages number ≡ found
+    → accept_refusal w number session.client found ≡ None → accepting w session found ≡ visited → IsTaken w number session visited
+taken_by w number session visited None none refused is = absurd (cc refused)
+taken_by w number session visited (Some message) there refused is = record {
+  message = message;
+  there = there;
+  for_it = for_client w number session.client message (is_for session.client message.to) refl refused;
+  is = is;
+}
+
+taken_here : (w : World) (number : ℕ) (session : Session) (visited : Visited) → accept w number session ≡ Ok visited → IsTaken w number session visited
+taken_here w number session visited is = go (accept_refusal w number session.client (get w.wire.messages number)) refl
+  where
+    go : (refused : Option StepError) → accept_refusal w number session.client (get w.wire.messages number) ≡ refused → IsTaken w number session visited
+    go None none =
+        let all : Ok (accepting w session (get w.wire.messages number)) ≡ Ok visited = sym (ap (accept_by w number session) none) ∙ is in
+        taken_by w number session visited (get w.wire.messages number) refl none (cc all)
+    go (Some error) some =
+        let all : Err error ≡ Ok visited = sym (ap (accept_by w number session) some) ∙ is in absurd (cc all)
+
+-- what is counted of it, and what is not
+pub record IsTakenCounted (w : World) (session : Session) (visited : Visited) : Type 0 where
+  pub asked : visited.world.ledger.asked ≡ w.ledger.asked
+  pub clients : HasSameClients w.ledger visited.world.ledger
+  pub receipts : HasReceipts session visited.session visited.seen.taken
+  pub client : visited.session.client ≡ session.client
+
+taken_counted : (w : World) (number : ℕ) (session : Session) (visited : Visited) → accept w number session ≡ Ok visited → IsTakenCounted w session visited
+taken_counted w number session visited is =
+    let it = taken_here w number session visited is in
+    subst (IsTakenCounted w session) it.is
+    (record {
+      asked = answer_asked w session it.message;
+      clients = answer_clients w session it.message;
+      receipts = answer_receipts w session it.message;
+      client = client_taken w session it.message;
+    })
+
+counted_good : (masters lane : ℕ) (w : World) (number : ℕ) (session : Session) (visited : Visited) → accept w number session ≡ Ok visited
+    → IsGoodLane masters lane w → MayAct masters session → IsCounted w.ledger visited.world.ledger session visited.session visited.seen.taken
+counted_good masters lane w number session visited is good may =
+    let it = taken_here w number session visited is in
+    let Counts : Visited → Type 0 = λ made. IsCounted w.ledger made.world.ledger session made.session made.seen.taken in
+    subst Counts it.is (answer_counted masters lane w number session it.message good may it.there it.for_it)
+
+-- ---- by what was taken
+
+accepted_more : (before after : Ledger) (session now : Session) (taken : Option Taken) → IsCounted before after session now taken
+    → accepted_count after ≡ accepted_count before + one_if (is_answer taken)
+accepted_more before after session now (Some takes.Done) counted = counted.accepted
+accepted_more before after session now None counted = counted ∙ omega arith
+accepted_more before after session now (Some takes.Ignored) counted = counted ∙ omega arith
+accepted_more before after session now (Some takes.Located) counted = counted ∙ omega arith
+accepted_more before after session now (Some (takes.Moved tablet)) counted = counted ∙ omega arith
+accepted_more before after session now (Some (takes.NotYet key)) counted = counted ∙ omega arith
+
+receipts_more : (session now : Session) (taken : Option Taken) → HasReceipts session now taken → length now.receipts ≡ length session.receipts + one_if (is_answer taken)
+receipts_more session now (Some takes.Done) has = has.0
+receipts_more session now None has = ap length has.0 ∙ omega arith
+receipts_more session now (Some takes.Ignored) has = ap length has.0 ∙ omega arith
+receipts_more session now (Some takes.Located) has = ap length has.0 ∙ omega arith
+receipts_more session now (Some (takes.Moved tablet)) has = ap length has.0 ∙ omega arith
+receipts_more session now (Some (takes.NotYet key)) has = ap length has.0 ∙ omega arith
+
+still_open : (session now : Session) (taken : Option Taken) → HasReceipts session now taken → is_some session.outstanding ≡ true
+    → not (is_answer taken) ≡ true → is_some now.outstanding ≡ true
+still_open session now (Some takes.Done) has pending none = absurd (cc none)
+still_open session now None has pending none = ap is_some has.1 ∙ pending
+still_open session now (Some takes.Ignored) has pending none = ap is_some has.1 ∙ pending
+still_open session now (Some takes.Located) has pending none = ap is_some has.1 ∙ pending
+still_open session now (Some (takes.Moved tablet)) has pending none = ap is_some has.1 ∙ pending
+still_open session now (Some (takes.NotYet key)) has pending none = ap is_some has.1 ∙ pending
+
+-- the stamps rise where an answer's is above all that was seen, and else no receipt came
+still_rising : (before after : Ledger) (masters : ℕ) (session now : Session) (taken : Option Taken) → HasReceipts session now taken → IsCounted before after session now taken
+    → MayAct masters session → AreRisingAbove 0 session.receipts → AreRisingAbove 0 now.receipts
+still_rising before after masters session now (Some takes.Done) has counted may rising =
+    subst (AreRisingAbove 0) (sym counted.receipts) (rising_more 0 session.seen session.receipts counted.receipt (omega arith) may.seen counted.later rising)
+still_rising before after masters session now None has counted may rising = subst (AreRisingAbove 0) (sym has.0) rising
+still_rising before after masters session now (Some takes.Ignored) has counted may rising = subst (AreRisingAbove 0) (sym has.0) rising
+still_rising before after masters session now (Some takes.Located) has counted may rising = subst (AreRisingAbove 0) (sym has.0) rising
+still_rising before after masters session now (Some (takes.Moved tablet)) has counted may rising = subst (AreRisingAbove 0) (sym has.0) rising
+still_rising before after masters session now (Some (takes.NotYet key)) has counted may rising = subst (AreRisingAbove 0) (sym has.0) rising
+
+-- an outstanding call that was counted is a receipt now, or still counted
+made_on : (before now : ℕ) (answer : Bool) → now ≡ before + one_if answer → before + one_if true ≡ now + one_if (not answer)
+made_on before now true is = omega (arith, is)
+made_on before now false is = omega (arith, is)
+
+-- ---- lane and pass
+
+good_accepted : (masters lane : ℕ) (w : World) (number : ℕ) (session : Session) (visited : Visited) → accept w number session ≡ Ok visited → MayAct masters session
+    → IsGoodLane masters lane w → IsGoodLane masters lane visited.world
+good_accepted masters lane w number session visited is may good =
+    let Good : Result Visited StepError → Type 0 = λ made. IsGoodLane masters lane (world_visited w made) in
+    subst Good is (good_accepts masters lane w session good may number)
+
+module _ {R : Type 0} (segments : R → Option Segments) (tells : Type 0) (masters : ℕ) (clients : List ℕ) (old new : LaneState R) (same : IsSameLane old new)
+    (message : ℕ) (pass : PassState) (now : Session) (seen : Seen) (it : IsVisitOf (λ w. accept w message pass.session) old new now seen)
+    (may : MayAct masters pass.session) (accepted asked number : ℕ × ℕ) (kept : IsKept segments tells masters clients old accepted asked number) where
+  -- what the lane and the session became, with what backups store
+  abbrev visited_with : NumberMap Segments → Visited
+  visited_with stored = record { world = world_with new it.after stored; session = now; seen = seen }
+
+  counted_here : IsTakenCounted (world_with old it.before []) pass.session (visited_with [])
+  counted_here = taken_counted (world_with old it.before []) message pass.session (visited_with []) (it.visited [])
+
+  pub client_same : now.client ≡ pass.session.client
+  client_same = counted_here.client
+
+  may_here : MayAct old.masters pass.session
+  may_here = subst (λ (count : ℕ). MayAct count pass.session) (sym kept.masters_are) may
+
+  -- in a good lane
+  abbrev Counts : Type 0
+  Counts = IsCounted old.ledger new.ledger pass.session now seen.taken
+
+  stood_of : tells → StandsFor segments old it.before
+  stood_of told = subst (λ (running : Option Running). IfSome running (StandsFor segments old)) it.was (kept.sound told)
+
+  counts_of : tells → Counts
+  counts_of told =
+      let stood = stood_of told in
+      counted_good old.masters old.number (world_with old it.before stood.stored) message pass.session (visited_with stood.stored) (it.visited stood.stored) stood.good may_here
+
+  pub kept_accepted : (accepted_now : ℕ × ℕ) → accepted_now.0 ≡ accepted.0 → accepted_now.1 ≡ accepted.1 + one_if (is_answer seen.taken)
+      → IsKept segments tells masters clients new accepted_now asked number
+  kept_accepted accepted_now parts amount =
+      kept_with segments tells masters clients old new same accepted asked number accepted_now asked kept counted_here.clients
+      (kept.asked_is.0, kept.asked_is.1 ∙ sym counted_here.asked) (parts ∙ kept.accepted_part)
+      (λ told.
+      amount ∙ ap (λ (n : ℕ). n + one_if (is_answer seen.taken)) (kept.accepted_is told)
+      ∙ sym (accepted_more old.ledger new.ledger pass.session now seen.taken (counts_of told)))
+      (λ told.
+      sound_on segments tells masters clients old new same it.before it.after it.was it.is
+      (λ stood.
+      stands_on segments tells masters clients old new same it.before it.after stood.stored
+      (subst (λ (backups : List (BackupLane R)). AreTold segments backups stood.stored) (sym it.backups) stood.told)
+      (good_accepted old.masters old.number (world_with old it.before stood.stored) message pass.session (visited_with stood.stored) (it.visited stood.stored) may_here stood.good))
+      (kept.sound told))
+
+  pub pass_accepted : (got made got_now : ℕ × ℕ) (counted_now : Bool) → IsPass tells masters pass got made → pass.counted ≡ true → MayAct masters now
+      → got_now.0 ≡ got.0 → got_now.1 ≡ got.1 + one_if (is_answer seen.taken) → counted_now ≡ not (is_answer seen.taken)
+      → IsPass tells masters (record { session = now; counted = counted_now }) got_now made
+  pass_accepted got made got_now counted_now pass_is counted may_now parts amount counted_is =
+      let more = receipts_more pass.session now seen.taken counted_here.receipts in
+      record {
+        may = may_now;
+        got_is = (parts ∙ pass_is.got_is.0, amount ∙ ap (λ (n : ℕ). n + one_if (is_answer seen.taken)) pass_is.got_is.1 ∙ sym more);
+        made_is = (
+          pass_is.made_is.0,
+          pass_is.made_is.1 ∙ ap (λ (b : Bool). length pass.session.receipts + one_if b) counted
+              ∙ made_on (length pass.session.receipts) (length now.receipts) (is_answer seen.taken) more
+              ∙ ap (λ (b : Bool). length now.receipts + one_if b) (sym counted_is),
+        );
+        pending = λ still.
+            still_open pass.session now seen.taken counted_here.receipts (pass_is.pending counted) (sym counted_is ∙ still);
+        rising = λ told.
+            still_rising old.ledger new.ledger masters pass.session now seen.taken counted_here.receipts (counts_of told) may (pass_is.rising told);
+      }

@@ -1,0 +1,177 @@
+-- A lane behind its lock, and a pass, stay so at a client's turn.
+use Rattle.std.proofs.Common.{◌≡◌, ℕ, ◌+◌, Bool, true, false, cond, not, List, [], length, Option, Some, None, Result, Ok, Err, refl, sym, ap, subst, ◌∙◌, ⊎_elim, arith}
+use Rattle.std.specs.Prelude.{IfSome, is_some}
+use Rattle.std.proofs.lemmas.Bool.{and_parts}
+use Rattle.rk_outside.specs.Segments.{Segments}
+use Rattle.rk_backup.specs.declared.lane.BackupLane.{BackupLane}
+use Rattle.rk_types.specs.declared.call.Call.{Call}
+use Rattle.rk_types.specs.declared.history.Receipt.{Receipt}
+use Rattle.rk_session.specs.Turns.{session_after}
+use Rattle.rk_world.specs.Calls.{Visited, ask, ask_by, asked_by_session, asking, fits, fits_by, is_asked_here}
+use Rattle.rk_world.specs.Client.{Session, range_of, session_turn, turn_of}
+use Rattle.rk_world.specs.Ledger.{is_added}
+use Rattle.rk_world.specs.Premises.{MayAct}
+use Rattle.rk_world.specs.Refusals.{ask_refusal}
+use Rattle.rk_world.specs.Runs.{world_visited}
+use Rattle.rk_world.specs.World.{World}
+use Rattle.rk_world.specs.declared.error.StepError.{StepError}
+use Rattle.rk_world.specs.declared.event.Seen.{Seen}
+use Rattle.rk_lane.specs.LaneState.{AreTold, IsSameLane, LaneState, Running, world_with}
+use Rattle.rk_lane.specs.Visits.{IsVisitOf, MayHaveTurned}
+use Rattle.rk_runs.specs.history.Agreement.{AreRisingAbove}
+use Rattle.rk_laws_lanes.specs.Counts.{HasSameClients, IsAskedOnce, accepted_count}
+use Rattle.rk_laws_lanes.specs.GoodLane.{IsGoodLane}
+use Rattle.rk_laws_lanes.proofs.Asks.{asked_once, turned_same}
+use Rattle.rk_laws_lanes.proofs.Clients.{good_asks}
+use Rattle.rk_shared_lanes.specs.Kept.{IsKept}
+use Rattle.rk_shared_lanes.specs.Passes.{IsPass, PassState, Suits, one_if}
+use Rattle.rk_shared_lanes.proofs.Standing.{kept_with, sound_on, stands_on}
+
+-- a turn that was taken was not refused
+asked_is : (w : World) (session : Session) (visited : Visited) → ask w session ≡ Ok visited → asking w session session.outstanding ≡ visited
+asked_is w session visited is = go (ask_refusal w session) refl
+  where
+    go : (found : Option StepError) → ask_refusal w session ≡ found → asking w session session.outstanding ≡ visited
+    go None none =
+        let all : Ok (asking w session session.outstanding) ≡ Ok visited = sym (ap (ask_by w session) none) ∙ is in cc all
+    go (Some error) some =
+        let all : Err error ≡ Ok visited = sym (ap (ask_by w session) some) ∙ is in absurd (cc all)
+
+-- what a turn counts in a lane that its session fits
+pub record IsTurnCounted (w : World) (session : Session) (visited : Visited) : Type 0 where
+  pub accepted : accepted_count visited.world.ledger ≡ accepted_count w.ledger
+  pub asked : visited.world.ledger.asked ≡ cond (is_asked_here w session) w.ledger.asked (w.ledger.asked + 1)
+  pub clients : HasSameClients w.ledger visited.world.ledger
+  pub receipts : visited.session.receipts ≡ session.receipts
+  pub outstanding : visited.session.outstanding ≡ session.outstanding
+  pub client : visited.session.client ≡ session.client
+  pub pending : is_some session.outstanding ≡ true
+
+turn_counted : (w : World) (session : Session) (visited : Visited) → ask w session ≡ Ok visited → fits w session ≡ true → IsTurnCounted w session visited
+turn_counted w session visited is fit =
+    let both = and_parts (is_added w.ledger session.client) (fits_by w session session.outstanding) fit in
+    go session.outstanding refl both.0 both.1
+  where
+    go : (call : Option Call) → session.outstanding ≡ call → is_added w.ledger session.client ≡ true → fits_by w session session.outstanding ≡ true → IsTurnCounted w session visited
+    go None none added fitting =
+        let never : false ≡ true = sym (ap (fits_by w session) none) ∙ fitting in absurd (cc never)
+    go (Some call) some added fitting =
+        let fits_here = sym (ap (fits_by w session) some) ∙ fitting in
+        let once = asked_once w session call some added fits_here in
+        let made : asking w session (Some call) ≡ visited = ap (asking w session) (sym some) ∙ asked_is w session visited is in
+        let counted : IsAskedOnce w session call visited = subst (IsAskedOnce w session call) made once in
+        record {
+          accepted = counted.accepted;
+          asked = counted.asked ∙ ap (λ (here : Bool). cond here w.ledger.asked (w.ledger.asked + 1)) (ap (asked_by_session w session) (sym some));
+          clients = counted.clients;
+          receipts = counted.receipts;
+          outstanding = counted.outstanding;
+          client = counted.client;
+          pending = ap is_some some;
+        }
+
+-- what a turn leaves of a session, also where it was refused for want of memory
+pub record IsSameSession (session now : Session) : Type 0 where
+  pub receipts : now.receipts ≡ session.receipts
+  pub outstanding : now.outstanding ≡ session.outstanding
+  pub client : now.client ≡ session.client
+
+-- a session that has taken its turn
+turned_session : (session : Session) (call : Option Call) → session.outstanding ≡ call → IsSameSession session (session_after session (turn_of session call))
+turned_session session None is = record { receipts = refl; outstanding = refl; client = refl }
+turned_session session (Some call) is =
+    let same = turned_same session call (range_of session call) in
+    record { receipts = same.receipts; outstanding = same.outstanding; client = same.client }
+
+pub turned_or_not : (session now : Session) → MayHaveTurned session now → IsSameSession session now
+turned_or_not session now turned =
+    ⊎_elim
+    (λ (same : now ≡ session). subst (IsSameSession session) (sym same) (record { receipts = refl; outstanding = refl; client = refl }))
+    (λ (after : now ≡ session_after session (session_turn session)).
+    subst (IsSameSession session) (sym after) (turned_session session session.outstanding refl)) turned
+
+-- ---- the pass
+
+-- the amount of a share to which one was added where a call was not counted before, and which counts it now
+one_for : (here counted : Bool) (before : ℕ) → here ≡ counted → cond here before (before + 1) ≡ before + one_if (not counted)
+one_for here counted before same = subst (λ (b : Bool). cond b before (before + 1) ≡ before + one_if (not counted)) (sym same) (go counted)
+  where
+    go : (b : Bool) → cond b before (before + 1) ≡ before + one_if (not b)
+    go true = omega arith
+    go false = refl
+
+made_for : (counted : Bool) (receipts : ℕ) → receipts + one_if counted + one_if (not counted) ≡ receipts + 1
+made_for true receipts = omega arith
+made_for false receipts = omega arith
+
+module _ (tells : Type 0) (masters : ℕ) (pass : PassState) (now : Session) (same : IsSameSession pass.session now) (may : MayAct masters now) where
+  -- it stays so where its call was not asked
+  pub pass_kept : (got made : ℕ × ℕ) → IsPass tells masters pass got made → IsPass tells masters (record { session = now; counted = pass.counted }) got made
+  pass_kept got made it = record {
+    may = may;
+    got_is = (it.got_is.0, it.got_is.1 ∙ ap length (sym same.receipts));
+    made_is = (it.made_is.0, it.made_is.1 ∙ ap (λ (receipts : List Receipt). length receipts + one_if pass.counted) (sym same.receipts));
+    pending = λ counted. ap is_some same.outstanding ∙ it.pending counted;
+    rising = λ told. subst (AreRisingAbove 0) (sym same.receipts) (it.rising told);
+  }
+
+  -- and where it was asked, and counted
+  pub pass_asked : (got made made_now : ℕ × ℕ) → IsPass tells masters pass got made → made_now.0 ≡ made.0 → made_now.1 ≡ made.1 + one_if (not pass.counted)
+      → is_some pass.session.outstanding ≡ true → IsPass tells masters (record { session = now; counted = true }) got made_now
+  pass_asked got made made_now it parts amount pending = record {
+    may = may;
+    got_is = (it.got_is.0, it.got_is.1 ∙ ap length (sym same.receipts));
+    made_is = (
+      parts ∙ it.made_is.0,
+      amount ∙ ap (λ (n : ℕ). n + one_if (not pass.counted)) it.made_is.1 ∙ made_for pass.counted (length pass.session.receipts)
+          ∙ ap (λ (receipts : List Receipt). length receipts + 1) (sym same.receipts),
+    );
+    pending = λ counted. ap is_some same.outstanding ∙ pending;
+    rising = λ told. subst (AreRisingAbove 0) (sym same.receipts) (it.rising told);
+  }
+
+-- ---- the lane
+
+-- a good lane leads to a good one
+good_asked : (masters number : ℕ) (w : World) (session : Session) (visited : Visited) → ask w session ≡ Ok visited → MayAct masters session
+    → IsGoodLane masters number w → IsGoodLane masters number visited.world
+good_asked masters number w session visited is may good =
+    let Good : Result Visited StepError → Type 0 = λ made. IsGoodLane masters number (world_visited w made) in
+    subst Good is (good_asks masters number w session good may)
+
+module _ {R : Type 0} (segments : R → Option Segments) (tells : Type 0) (masters : ℕ) (clients : List ℕ) (old new : LaneState R) (same : IsSameLane old new)
+    (pass : PassState) (now : Session) (seen : Seen) (it : IsVisitOf (λ w. ask w pass.session) old new now seen) (suits : Suits (world_with old it.before []) pass) where
+  -- what the turn counts, by the worlds without what backups store
+  pub counted_here : IsTurnCounted (world_with old it.before []) pass.session (record { world = world_with new it.after []; session = now; seen = seen })
+  counted_here =
+      turn_counted (world_with old it.before []) pass.session (record { world = world_with new it.after []; session = now; seen = seen }) (it.visited []) suits.fits
+
+  pub session_same : IsSameSession pass.session now
+  session_same = record { receipts = counted_here.receipts; outstanding = counted_here.outstanding; client = counted_here.client }
+
+  pub kept_asked : (accepted asked number asked_now : ℕ × ℕ) → MayAct masters pass.session → IsKept segments tells masters clients old accepted asked number
+      → asked_now.0 ≡ asked.0 → asked_now.1 ≡ asked.1 + one_if (not pass.counted)
+      → IsKept segments tells masters clients new accepted asked_now number
+  kept_asked accepted asked number asked_now may kept parts amount =
+      kept_with segments tells masters clients old new same accepted asked number accepted asked_now kept counted_here.clients (
+        parts ∙ kept.asked_is.0,
+        amount ∙ ap (λ (n : ℕ). n + one_if (not pass.counted)) kept.asked_is.1
+            ∙ sym (one_for (is_asked_here (world_with old it.before []) pass.session) pass.counted old.ledger.asked suits.counted) ∙ sym counted_here.asked,
+      )
+      kept.accepted_part (λ told. kept.accepted_is told ∙ sym counted_here.accepted)
+      (λ told.
+      sound_on segments tells masters clients old new same it.before it.after it.was it.is
+      (λ stood.
+      stands_on segments tells masters clients old new same it.before it.after stood.stored
+      (subst (λ (backups : List (BackupLane R)). AreTold segments backups stood.stored) (sym it.backups) stood.told)
+      (good_asked old.masters old.number (world_with old it.before stood.stored) pass.session
+      (record { world = world_with new it.after stood.stored; session = now; seen = seen }) (it.visited stood.stored)
+      (subst (λ (count : ℕ). MayAct count pass.session) (sym kept.masters_are) may) stood.good)) (kept.sound told))
+
+-- a lane and a pass that a worker holds suit, said of what is in them
+pub suits_in : {R : Type 0} (lane now : LaneState R) (pass pass_now : PassState) (running : Running) → lane ≡ now → pass ≡ pass_now → lane.running ≡ Some running
+    → IfSome now.running (λ r. Suits (world_with now r []) pass_now) → Suits (world_with lane running []) pass
+suits_in {R} lane now pass pass_now running same_lane same_pass runs suits =
+    subst (λ (o : Option Running). IfSome o (λ r. Suits (world_with lane r []) pass)) runs
+    (subst (λ (it : LaneState R). IfSome it.running (λ r. Suits (world_with it r []) pass)) (sym same_lane)
+    (subst (λ (it : PassState). IfSome now.running (λ r. Suits (world_with now r []) it)) (sym same_pass) suits))

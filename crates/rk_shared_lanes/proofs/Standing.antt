@@ -1,0 +1,51 @@
+-- What lies behind a lane's lock stays so, by what became of the lane.
+use Rattle.std.proofs.Common.{◌≡◌, ◌^◌, ◌<◌, ℕ, List, Option, Some, sym, ap, subst, ◌∙◌}
+use Rattle.std.specs.Prelude.{IfSome}
+use Rattle.rk_types.specs.NumberMap.{NumberMap}
+use Rattle.rk_types.specs.declared.hashing.TheConstants.{LANES}
+use Rattle.rk_outside.specs.Segments.{Segments}
+use Rattle.rk_world.specs.Ledger.{Ledger}
+use Rattle.rk_world.specs.World.{World}
+use Rattle.rk_lane.specs.LaneState.{AreTold, IsSameLane, LaneState, Running, world_with}
+use Rattle.rk_laws_lanes.specs.Counts.{HasSameClients, accepted_count}
+use Rattle.rk_laws_lanes.specs.GoodLane.{IsGoodLane}
+use Rattle.rk_shared_lanes.specs.Kept.{HasClients, IsKept, IsPart, IsSoundOrSpent, StandsFor}
+
+-- the clients of a ledger are just these where another one has the same
+clients_stay : (clients : List ℕ) (before after : Ledger) → HasSameClients before after → HasClients clients before → HasClients clients after
+clients_stay clients before after same has = λ client. same client ∙ has client
+
+module _ {R : Type 0} (segments : R → Option Segments) (tells : Type 0) (masters : ℕ) (clients : List ℕ) (old new : LaneState R) (same : IsSameLane old new) where
+  -- a good world of the lane as it was is one of the lane as it is
+  pub good_on : (w : World) → IsGoodLane old.masters old.number w → IsGoodLane new.masters new.number w
+  good_on w good =
+      subst (λ (count : ℕ). IsGoodLane count new.number w) (sym same.masters)
+      (subst (λ (number : ℕ). IsGoodLane old.masters number w) (sym same.number) good)
+
+  -- the lane stands for a good world with what its backups stored before
+  pub stands_on : (before after : Running) → (stored : NumberMap Segments) → AreTold segments new.backups stored
+      → IsGoodLane old.masters old.number (world_with new after stored) → StandsFor segments new after
+  stands_on before after stored told good = record { stored = stored; told = told; good = good_on (world_with new after stored) good }
+
+  -- it stays sound or spent where each good world that it stood for leads to one
+  pub sound_on : (before after : Running) → old.running ≡ Some before → new.running ≡ Some after
+      → (StandsFor segments old before → StandsFor segments new after) → IsSoundOrSpent segments old → IsSoundOrSpent segments new
+  sound_on before after was is leads sound =
+      subst (λ (running : Option Running). IfSome running (StandsFor segments new)) (sym is)
+      (leads (subst (λ (running : Option Running). IfSome running (StandsFor segments old)) was sound))
+
+  -- all of it stays so with these shares
+  pub kept_with : (accepted asked number accepted_now asked_now : ℕ × ℕ) → IsKept segments tells masters clients old accepted asked number
+      → HasSameClients old.ledger new.ledger → IsPart asked_now new.ledger.asked → accepted_now.0 ≡ 1
+      → (tells → accepted_now.1 ≡ accepted_count new.ledger) → (tells → IsSoundOrSpent segments new)
+      → IsKept segments tells masters clients new accepted_now asked_now number
+  kept_with accepted asked number accepted_now asked_now kept added asked_is part counted sound = record {
+    masters_are = same.masters ∙ kept.masters_are;
+    clients_are = clients_stay clients old.ledger new.ledger added kept.clients_are;
+    few = subst (λ (n : ℕ). n < LANES) (sym same.number) kept.few;
+    number_is = (kept.number_is.0, kept.number_is.1 ∙ ap (λ (n : ℕ). 9 ^ n) (sym same.number));
+    asked_is = asked_is;
+    accepted_part = part;
+    accepted_is = counted;
+    sound = sound;
+  }

@@ -1,0 +1,134 @@
+-- A lane behind its lock stays so at each event.
+use Rattle.std.proofs.Common.{◌≡◌, ◌≢◌, ℕ, [], List, length, Option, Some, None, Result, Ok, Err, refl, sym, ap, subst, ◌∙◌, ⊎_elim, inl, inr}
+use Rattle.std.specs.Prelude.{◌⊎◌, IfErr, IfOk, IfSome}
+use Rattle.rk_outside.specs.Segments.{Segments}
+use Rattle.rk_backup.specs.declared.lane.BackupLane.{BackupLane}
+use Rattle.rk_world.specs.Backup.{Called}
+use Rattle.rk_world.specs.Ledger.{is_added}
+use Rattle.rk_world.specs.Premises.{MayHappen}
+use Rattle.rk_world.specs.Refusals.{refusal}
+use Rattle.rk_world.specs.Replicas.{IsTold}
+use Rattle.rk_world.specs.Runs.{IsCalmEvent}
+use Rattle.rk_world.specs.Step.{Stepped, happened, step, stepped_by, told_by_replica}
+use Rattle.rk_world.specs.World.{World}
+use Rattle.rk_world.specs.declared.error.StepError.{StepError}
+use Rattle.rk_world.specs.declared.error.StepError.TheVariants as errors
+use Rattle.rk_world.specs.declared.event.Event.{Event}
+use Rattle.rk_world.specs.declared.event.Seen.{Seen}
+use Rattle.rk_lane.specs.Events.{IsAnswerOf, IsRefused, IsStepFrom, IsStepOf}
+use Rattle.rk_lane.specs.LaneState.{AreTold, IsSameLane, LaneState, Running, world_with}
+use Rattle.rk_lane.proofs.Backed.{by_failing}
+use Rattle.rk_lane.proofs.Steps.{calm_same, may_happen_same}
+use Rattle.rk_laws_lanes.specs.Counts.{AddsNoClient, HasSameClients, HasSameCounts, accepted_count}
+use Rattle.rk_laws_lanes.specs.GoodLane.{IsGoodLane}
+use Rattle.rk_laws_lanes.proofs.Events.{good_event}
+use Rattle.rk_laws_lanes.proofs.Ledgers.{same_clients, same_counts}
+use Rattle.rk_shared_lanes.specs.Kept.{IsKept, IsSoundOrSpent, StandsFor}
+use Rattle.rk_shared_lanes.proofs.Standing.{kept_with, sound_on, stands_on}
+
+-- a refusal is want of memory, or something else
+pub memory_or : (error : StepError) → (error ≡ errors.NoMemory) ⊎ (error ≢ errors.NoMemory)
+memory_or errors.NoMemory = inl refl
+memory_or (errors.Worn number) = inr (λ e. cc e)
+memory_or (errors.NoMessage number) = inr (λ e. cc e)
+memory_or (errors.Address number) = inr (λ e. cc e)
+memory_or (errors.Dead master) = inr (λ e. cc e)
+memory_or (errors.Alive master) = inr (λ e. cc e)
+memory_or (errors.Stranger client) = inr (λ e. cc e)
+memory_or errors.TooMany = inr (λ e. cc e)
+memory_or (errors.Move error) = inr (λ e. cc e)
+memory_or (errors.Map error) = inr (λ e. cc e)
+
+-- replicas that tell what they store answered by it
+told_so : (w : World) (event : Event) (called : Called) → IsAnswerOf (told_by_replica w event) called → IsTold w event called
+told_so w event called answers =
+    by_failing called (IsTold w event called)
+    (λ failed. let kept = answers.failed failed in record { fault = Some kept.0; told = kept.1 })
+    (λ fine. record { fault = None; told = answers.fine fine })
+
+-- of no backup is it said what it stores
+none_told : {R : Type 0} {segments : R → Option Segments} (backups : List (BackupLane R)) → AreTold segments backups []
+none_told backups number thing found = absurd (cc found)
+
+-- an event that was taken was not refused, and made just what it makes
+record IsTaken (w : World) (event : Event) (called : Called) (after : World) : Type 0 where
+  pub allowed : refusal w event ≡ None
+  pub is : (happened w event called).world ≡ after
+
+taken : (w : World) (event : Event) (called : Called) (stepped : Stepped) → step w event called ≡ Ok stepped → IsTaken w event called stepped.world
+taken w event called stepped is = go (refusal w event) refl
+  where
+    go : (found : Option StepError) → refusal w event ≡ found → IsTaken w event called stepped.world
+    go None none =
+        let all : Ok (happened w event called) ≡ Ok stepped = sym (ap (stepped_by w event called) none) ∙ is in
+        let same : happened w event called ≡ stepped = cc all in
+        record { allowed = none; is = ap (λ (s : Stepped). s.world) same }
+    go (Some error) some =
+        let all : Err error ≡ Ok stepped = sym (ap (stepped_by w event called) some) ∙ is in
+        absurd (cc all)
+
+module _ {R : Type 0} (segments : R → Option Segments) (faults : R → ℕ) (old new : LaneState R) (event : Event) (same : IsSameLane old new) where
+  -- ---- an event that was taken
+
+  module _ (seen : Seen) (it : IsStepOf segments faults event old new seen) where
+    -- the worlds without what backups store
+    abbrev before : World
+    before = world_with old it.before []
+
+    taken_here : IsTaken before event it.called (world_with new it.after ((it.stepped [] (none_told old.backups)).backups))
+    taken_here =
+        let from : IsStepFrom segments before event it.called new it.after seen = it.stepped [] (none_told old.backups) in
+        taken before event it.called (record { world = world_with new it.after from.backups; seen = seen }) from.stepped
+
+    counts_stay : HasSameCounts old.ledger new.ledger
+    counts_stay = subst (λ (w : World). HasSameCounts old.ledger w.ledger) taken_here.is (same_counts before event it.called)
+
+    clients_stay : AddsNoClient event → HasSameClients old.ledger new.ledger
+    clients_stay none = subst (λ (w : World). HasSameClients old.ledger w.ledger) taken_here.is (same_clients before event it.called none)
+
+    stands_after : StandsFor segments old it.before → StandsFor segments new it.after
+    stands_after stood =
+        let w : World = world_with old it.before stood.stored in
+        let from : IsStepFrom segments w event it.called new it.after seen = it.stepped stood.stored stood.told in
+        let got = taken w event it.called (record { world = world_with new it.after from.backups; seen = seen }) from.stepped in
+        let may : MayHappen w event = may_happen_same (world_with old it.before []) w event refl it.comes.may in
+        let calm : IsCalmEvent w event = calm_same w (length old.backups) [] event it.comes.calm in
+        let told : IsTold w event it.called = told_so w event it.called (from.given stood.good.steady.tell) in
+        let good : IsGoodLane old.masters old.number (happened w event it.called).world =
+        good_event old.masters old.number w event it.called stood.good may it.may told calm got.allowed in
+        stands_on segments Unit 0 [] old new same it.before it.after from.backups from.told (subst (IsGoodLane old.masters old.number) got.is good)
+
+  -- ---- any answer
+
+  module _ (tells : Type 0) (masters : ℕ) (clients : List ℕ) (accepted asked number : ℕ × ℕ) (kept : IsKept segments tells masters clients old accepted asked number) where
+    kept_same : new ≡ old → IsKept segments tells masters clients new accepted asked number
+    kept_same is = subst (λ (lane : LaneState R). IsKept segments tells masters clients lane accepted asked number) (sym is) kept
+
+    -- what it counts is as it was
+    kept_counts : HasSameClients old.ledger new.ledger → HasSameCounts old.ledger new.ledger → (tells → IsSoundOrSpent segments new)
+        → IsKept segments tells masters clients new accepted asked number
+    kept_counts added counts sound =
+        kept_with segments tells masters clients old new same accepted asked number accepted asked kept added
+        (kept.asked_is.0, kept.asked_is.1 ∙ sym counts.asked) kept.accepted_part (λ told. kept.accepted_is told ∙ sym counts.accepted) sound
+
+    kept_taken : AddsNoClient event → (seen : Seen) → IsStepOf segments faults event old new seen → IsKept segments tells masters clients new accepted asked number
+    kept_taken none seen it =
+        kept_counts (clients_stay seen it none) (counts_stay seen it)
+        (λ told. sound_on segments tells masters clients old new same it.before it.after it.was it.is (stands_after seen it) (kept.sound told))
+
+    -- a refusal for want of memory leaves it spent, and what a spent lane keeps is as it was
+    kept_refused : (error : StepError) → IsRefused faults event old new error → IsKept segments tells masters clients new accepted asked number
+    kept_refused error it =
+        ⊎_elim
+        (λ (memory : error ≡ errors.NoMemory).
+        kept_counts (λ client. ap (λ (map : _). is_added (record old.ledger { clients = map }) client) it.clients)
+        (record { accepted = ap (λ (journal : _). accepted_count (record old.ledger { journal = journal })) it.journal; asked = it.asked })
+        (λ told. subst (λ (running : Option Running). IfSome running (StandsFor segments new)) (sym (it.spent memory)) tt))
+        (λ (other : error ≢ errors.NoMemory). kept_same (it.same other)) (memory_or error)
+
+    pub kept_stepped : AddsNoClient event → (running : Option Running) → old.running ≡ running → (answer : Result Seen StepError)
+        → IfSome running (λ _. IfOk answer (IsStepOf segments faults event old new)) → IfErr answer (IsRefused faults event old new) → (running ≡ None → new ≡ old)
+        → IsKept segments tells masters clients new accepted asked number
+    kept_stepped none None is answer ok err spent = kept_same (spent refl)
+    kept_stepped none (Some running) is (Ok seen) ok err spent = kept_taken none seen ok
+    kept_stepped none (Some running) is (Err error) ok err spent = kept_refused error err
