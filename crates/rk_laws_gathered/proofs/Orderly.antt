@@ -54,7 +54,7 @@ module _ (client : ℕ) (session : Session) (orderly : IsOrderly client session)
   -- ---- a call
 
   -- a session that has no call outstanding asks its next one
-  next_orderly : (table : ℕ) (key : List ℕ) (op : Op) → session.outstanding ≡ None → IsOrderly client (with_next_call session table key op)
+  pub next_orderly : (table : ℕ) (key : List ℕ) (op : Op) → session.outstanding ≡ None → IsOrderly client (with_next_call session table key op)
   next_orderly table key op none =
       let last = orderly.last in
       let is = ap waiting none in
@@ -110,7 +110,7 @@ module _ (client : ℕ) (session : Session) (orderly : IsOrderly client session)
       by_count true = looked_up
       by_count false = by_owner located.owner
 
-  turn_orderly : (out : Option Call) (turned : ClientTurn) → turn_of session out ≡ Some turned → IsOrderly client turned.session
+  pub turn_orderly : (out : Option Call) (turned : ClientTurn) → turn_of session out ≡ Some turned → IsOrderly client turned.session
   turn_orderly None turned is = absurd (cc is)
   turn_orderly (Some call) turned is =
       let same : turn_by session call (range_of session call) ≡ turned = cc is in

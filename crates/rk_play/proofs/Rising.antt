@@ -11,12 +11,12 @@ use Rattle.rk_cluster.specs.Dealt.{IsEighth}
 use Rattle.rk_cluster.specs.Faults.{CountsGoOn, GoOn, RoseBy, times_lost}
 use Rattle.rk_cluster.specs.Replicas.{Fate}
 use Rattle.rk_cluster.specs.State.{ClusterState}
-use Rattle.rk_cluster.proofs.Faults.{rose_same}
+use Rattle.rk_cluster.proofs.Faults.{go_on_same, rose_same}
 use Rattle.rk_cluster.proofs.Order.{none_beyond, replicas_go_on}
 use Rattle.rk_settle.specs.Course.{MOST_FAULTS}
 use Rattle.rk_settle.specs.Faults.{FailsInRounds, RoseInRounds}
 use Rattle.rk_play.specs.Lent.{AreGivenBack, HasLent}
-use Rattle.rk_play.specs.Runs.{replica_counts}
+use Rattle.rk_play.specs.Runs.{NoneFell, replica_counts}
 use Rattle.rk_play.specs.declared.playing.replicas.Kept.{Kept}
 use Rattle.rk_play.specs.declared.playing.replicas.TheConstants.{REPLICAS}
 
@@ -37,6 +37,18 @@ rose_before many (was ∷ before) (is ∷ now) back (suc place) same rose =
 drop_all : {X : Type 0} (front back : List X) (count : ℕ) → length front ≡ count → drop count (front ++ back) ≡ back
 drop_all front back count many =
     ap (λ (n : ℕ). drop n (front ++ back)) (sym many) ∙ drop-append_seam front back
+
+-- ---- no count falls
+
+module _ {R : Type 0} (faults : R → ℕ) (before after : List R) where
+  -- of replicas that are as they were
+  pub none_fell_same : after ≡ before → NoneFell faults before after
+  none_fell_same same there =
+      subst (λ (replicas : List R). GoOn [] (replica_counts faults before) (replica_counts faults replicas)) (sym same) (go_on_same (replica_counts faults before))
+
+  -- nor where none comes back
+  pub none_fell_gone : after ≡ [] → NoneFell faults before after
+  none_fell_gone gone there = absurd (there gone)
 
 -- ---- the replicas of a run
 

@@ -1,5 +1,5 @@
 -- What a run in code says of the run played: its status, what its sink holds after it, and what its replicas tell.
-use Rattle.std.specs.Prelude.{◌≡◌, ℕ, ◌+◌, ◌-◌, ◌*◌, ◌<◌, ◌≤◌, nat_lt, if◌then◌else◌, List, drop, length, map, take, Option, None, Some, Result, Ok, Err, slice_get, ⊤}
+use Rattle.std.specs.Prelude.{◌≡◌, ℕ, ◌+◌, ◌-◌, ◌*◌, ◌<◌, ◌≤◌, nat_lt, if◌then◌else◌, List, [], drop, length, map, take, Option, None, Some, Result, Ok, Err, slice_get, ⊤}
 use Rattle.std.specs.List.{concat}
 use Rattle.std.specs.Io.KnownBytes.{Appends, IsAtEnd, Keeps}
 use Rattle.rk_types.specs.NumberMap.{get}
@@ -64,6 +64,11 @@ TellStored segments replicas cluster =
 abbrev pub replica_counts : {R : Type 0} → (R → ℕ) → List R → Counts
 replica_counts faults replicas lane place =
     if nat_lt lane LANES then slice_get (map faults replicas) (LANES * place + lane) else None
+
+-- of replicas that come back no count of faults fell, and as many come back as there were; or none comes back
+abbrev pub NoneFell : {R : Type 0} → (R → ℕ) → List R → List R → Type 0
+NoneFell faults before after =
+    (after ≡ [] → ⊥) → GoOn [] (replica_counts faults before) (replica_counts faults after)
 
 -- how many backups each lane of a cluster has
 abbrev pub backup_count : Cluster → ℕ

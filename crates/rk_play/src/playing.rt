@@ -3,7 +3,6 @@ ghost use Rattle.std.specs.Prelude.{◌≡◌, ◌+◌, All, [], length, map, If
 ghost use Rattle.std.specs.Io.KnownBytes.{IsAtEnd};
 ghost use Rattle.rk_outside.specs.Parts.{ConsumesBetween};
 ghost use Rattle.rk_world.specs.Cluster.{Cluster as Whole};
-ghost use Rattle.rk_cluster.specs.Faults.{GoOn};
 ghost use Rattle.rk_settle.specs.Faults.{RoseInRounds};
 ghost use Rattle.rk_cluster.specs.Fresh.{AreEmpty};
 ghost use Rattle.rk_settle.specs.Course.{MOST_FAULTS};
@@ -11,7 +10,7 @@ ghost use Rattle.rk_script.specs.Lawful.{IsLawful};
 ghost use Rattle.rk_script.specs.Script.{script_of};
 ghost use Rattle.rk_play.specs.Concluded.{Concludes, ConcludesBy, IsWritten, MayComeTo, PlaysBy, part_in};
 ghost use Rattle.rk_play.specs.Played.{cluster_by, part_of, refused_at, stopped_at};
-ghost use Rattle.rk_play.specs.Runs.{HasStatusCause, IsRead, Plays, count_of, replica_counts};
+ghost use Rattle.rk_play.specs.Runs.{HasStatusCause, IsRead, NoneFell, Plays, count_of, replica_counts};
 ghost use Rattle.rk_play.specs.Settings.{IsSetting, setting_of};
 ghost use Rattle.rk_play.specs.Stops.{stop_by};
 
@@ -35,9 +34,9 @@ const DEFAULT_COUNT: u8 = 2;
 /// Plays the script that the source has, and writes its text to the sink.
 ///
 /// The replicas hold nothing; backup b of lane l has the one at place 8 * (b - 1) + l, counted from 0. Unless memory was
-/// wanting, they come back in their order, and no count of their faults fell: those of backups that are there tell what these
-/// store at the end, and the others are as they were. Where the source failed, all are. A script that is too long is read up
-/// to one piece past the longest.
+/// wanting, they come back in their order: those of backups that are there tell what these store at the end, and the others are
+/// as they were. Where the source failed, all are. No count of their faults falls; where memory was wanting, all of them may
+/// be gone. A script that is too long is read up to one piece past the longest.
 pub fn play<S: Source, K: Sink, R: Replica + Drop>(
     alloc: Global,
     source: &mut S,
@@ -48,8 +47,7 @@ pub fn play<S: Source, K: Sink, R: Replica + Drop>(
     ensures plays { AreEmpty R.segments replicas.old.items → IfSome (S.left source.old) (λ script.
         Plays R.segments R.faults script result (K.written sink.old) (K.written sink.new) replicas.old.items replicas.new.items) }
     ensures count { (result ≡ Status.NoMemory → ⊥) → length replicas.new.items ≡ 32 }
-    ensures counts { (result ≡ Status.NoMemory → ⊥)
-        → GoOn [] (replica_counts R.faults replicas.old.items) (replica_counts R.faults replicas.new.items) }
+    ensures counts { NoneFell R.faults replicas.old.items replicas.new.items }
     ensures untouched { result ≡ Status.ReadFault → replicas.new.items ≡ replicas.old.items }
     ensures usage { result ≡ Status.Usage → ⊥ }
     ensures audit { result ≡ Status.Audit → ⊥ }
@@ -81,8 +79,7 @@ fn play_script<K: Sink, R: Replica + Drop>(
         → PlaysBy R.segments R.faults (part_of (script_of script.now)) (count_of (script_of script.now)) result
         (K.written sink.old) (K.written sink.new) replicas.old.items replicas.new.items }
     ensures count { (result ≡ Status.NoMemory → ⊥) → length replicas.new.items ≡ 32 }
-    ensures counts { (result ≡ Status.NoMemory → ⊥)
-        → GoOn [] (replica_counts R.faults replicas.old.items) (replica_counts R.faults replicas.new.items) }
+    ensures counts { NoneFell R.faults replicas.old.items replicas.new.items }
     ensures status { MayComeTo result }
     ensures cause { HasStatusCause Status.WriteFault result (K.faults sink.old) (K.faults sink.new) }
     ensures replica_cause { result ≡ Status.ReplicaFault
@@ -108,8 +105,7 @@ fn play_commands<K: Sink, R: Replica + Drop>(
         → PlaysBy R.segments R.faults (part_of (Ok commands.items)) (length commands.items) result
         (K.written sink.old) (K.written sink.new) replicas.old.items replicas.new.items }
     ensures count { (result ≡ Status.NoMemory → ⊥) → length replicas.new.items ≡ 32 }
-    ensures counts { (result ≡ Status.NoMemory → ⊥)
-        → GoOn [] (replica_counts R.faults replicas.old.items) (replica_counts R.faults replicas.new.items) }
+    ensures counts { NoneFell R.faults replicas.old.items replicas.new.items }
     ensures status { MayComeTo result }
     ensures cause { HasStatusCause Status.WriteFault result (K.faults sink.old) (K.faults sink.new) }
     ensures replica_cause { result ≡ Status.ReplicaFault
@@ -141,8 +137,7 @@ fn play_opened<K: Sink, R: Replica + Drop>(
         → PlaysBy R.segments R.faults (part_in commands.items (cluster_by (setting_of opening))) (length commands.items) result
         (K.written sink.old) (K.written sink.new) replicas.old.items replicas.new.items }
     ensures count { (result ≡ Status.NoMemory → ⊥) → length replicas.new.items ≡ 32 }
-    ensures counts { (result ≡ Status.NoMemory → ⊥)
-        → GoOn [] (replica_counts R.faults replicas.old.items) (replica_counts R.faults replicas.new.items) }
+    ensures counts { NoneFell R.faults replicas.old.items replicas.new.items }
     ensures status { MayComeTo result }
     ensures cause { HasStatusCause Status.WriteFault result (K.faults sink.old) (K.faults sink.new) }
     ensures replica_cause { result ≡ Status.ReplicaFault

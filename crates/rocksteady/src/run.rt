@@ -1,11 +1,10 @@
-ghost use Rattle.std.specs.Prelude.{◌≡◌, ◌⊎◌, ◌+◌, [], map, length, true, false, IfSome, string_bytes};
+ghost use Rattle.std.specs.Prelude.{◌≡◌, ◌⊎◌, ◌+◌, map, length, true, false, IfSome, string_bytes};
 ghost use Rattle.std.specs.Io.KnownBytes.{IsAtEnd};
-ghost use Rattle.rk_cluster.specs.Faults.{GoOn};
 ghost use Rattle.rk_cluster.specs.Fresh.{AreEmpty};
 ghost use Rattle.rk_outside.specs.Parts.{ConsumesBetween};
 ghost use Rattle.rk_settle.specs.Faults.{RoseInRounds};
 ghost use Rattle.rk_scripts.specs.play.Alone.{NoneRose};
-ghost use Rattle.rk_play.specs.Runs.{HasStatusCause, IsRead, replica_counts};
+ghost use Rattle.rk_play.specs.Runs.{HasStatusCause, IsRead, NoneFell, replica_counts};
 ghost use Rattle.rocksteady.specs.Run.{IsSmooth, PlaysOneMap, Refuses, is_play};
 
 use rk_outside::{Gate, PIECE, Replica, Sink, Source, put_all};
@@ -92,12 +91,11 @@ pub fn run<X: Threads + Wait + Sync, S: Source, K: Sink, R: Replica + Send + Dro
     ensures replica_cause { result ≡ Status.ReplicaFault
         → RoseInRounds 100 (replica_counts R.faults replicas.old.items) (replica_counts R.faults replicas.new.items) }
 
-    // The replicas that come back.
+    // The replicas that come back: all, or where memory was wanting maybe none. On every status, no count of their faults falls.
     ensures untouched { is_play (map string_bytes words.now) ≡ false → replicas.new.items ≡ replicas.old.items }
     ensures unread_untouched { result ≡ Status.ReadFault → replicas.new.items ≡ replicas.old.items }
     ensures count { (result ≡ Status.NoMemory → ⊥) → length replicas.new.items ≡ 32 }
-    ensures counts { (result ≡ Status.NoMemory → ⊥)
-        → GoOn [] (replica_counts R.faults replicas.old.items) (replica_counts R.faults replicas.new.items) }
+    ensures counts { NoneFell R.faults replicas.old.items replicas.new.items }
 {
     if !are_play(words) {
         return write_usage(sink);

@@ -1,5 +1,5 @@
 // How the replicas of a run are lent to its cluster, and given back.
-ghost use Rattle.std.specs.Prelude.{◌≡◌, ◌+◌, ◌*◌, ◌≤◌, ◌<◌, ◌++◌, ℕ, [], All, drop, length, map, take, vec_capacity, IfOk};
+ghost use Rattle.std.specs.Prelude.{◌≡◌, ◌+◌, ◌*◌, ◌≤◌, ◌<◌, ◌++◌, ℕ, [], All, drop, length, map, take, vec_capacity, IfOk, OnErr};
 ghost use Rattle.rk_types.specs.declared.hashing.TheConstants.{LANES as lane_count};
 ghost use Rattle.rk_log.specs.declared.copied.TheConstants.{MOST_BACKUPS as most_backups};
 ghost use Rattle.rk_lane.specs.LaneState.{replicas_of};
@@ -26,7 +26,8 @@ pub(super) struct Kept<R> {
     pub(super) hands: Vec<Vec<R>>,
 }
 
-/// Takes the replicas of so many backups out of those of a run. There is room for them when they come back.
+/// Takes the replicas of so many backups out of those of a run, which have room for them when they come back. If memory is wanting, none
+/// is taken.
 pub(super) fn lend<R: Drop>(
     alloc: Global,
     backups: u8,
@@ -34,7 +35,8 @@ pub(super) fn lend<R: Drop>(
 ) -> Result<(Vec<R>, Kept<R>), NoMemory>
     requires few { backups ≤ most_backups }
     requires count { length replicas.old.items ≡ REPLICAS }
-    ensures { IfOk result (λ lent. HasLent backups replicas.old replicas.new lent.0 lent.1) }
+    ensures ok { IfOk result (λ lent. HasLent backups replicas.old replicas.new lent.0 lent.1) }
+    ensures err { OnErr result (replicas.new.items ≡ replicas.old.items) }
 {
     let room = Vec::with_capacity(alloc, REPLICAS)?;
     let hands = Vec::with_capacity(alloc, LANES as usize)?;

@@ -1,0 +1,6 @@
+pub mod Courses
+pub mod Events
+pub mod Histories
+pub mod Settling
+pub mod Visits
+pub mod Working
