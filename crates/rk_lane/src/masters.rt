@@ -37,7 +37,7 @@ pub(crate) fn step_master(
     };
     let seen = seen_in(&message.body);
     let it = &mut masters[master as usize - 1];
-    let work = it.step(message)?;
+    let work = it.handle(message)?;
     Ok((work, seen))
 }
 

@@ -2,3 +2,4 @@ pub mod Digits
 pub mod ByKey
 pub mod LaneLines
 pub mod Examples
+pub mod Pieces

@@ -32,8 +32,8 @@ pub fn push_entry(text: &mut Vec<u8>, line: &Line) -> Result<(), NoMemory>
     Ok(())
 }
 
-// Adds what is asked of a record.
-fn push_asked(text: &mut Vec<u8>, op: &Op, table: u64, key: &Key) -> Result<(), NoMemory>
+/// Adds what is asked of a record.
+pub fn push_asked(text: &mut Vec<u8>, op: &Op, table: u64, key: &Key) -> Result<(), NoMemory>
     ensures { OnOk result (text.new.items ≡ text.old.items ++ asked_text op.now table key.now) }
 {
     match op {

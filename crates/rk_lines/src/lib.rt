@@ -6,12 +6,14 @@
 //! [`items_by_key_are_pinned`] makes precise.
 #![tactic(auto)]
 
+pub use differences::push_difference;
 pub use history::{push_entry, push_history};
 pub use laws::items_by_key_are_pinned;
 pub use lines::{push_all_said, push_refused, push_said};
 pub use records::{push_record, push_records};
 pub use tablets::push_tablet;
 
+mod differences;
 mod history;
 mod laws;
 mod lines;

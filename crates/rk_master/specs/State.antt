@@ -1,6 +1,6 @@
 -- What the state of a master in code stands for.
 use Rattle.std.specs.Prelude.{◌≡◌, ◌≤◌, length}
-use Rattle.rk_table.specs.Sorted.{items_of as records_of}
+use Rattle.rk_bucket_table.specs.Tables.{items_of as records_of}
 use Rattle.rk_world.specs.Master.{Master}
 use Rattle.rk_master.specs.Kept.{IsKeptFrom}
 use Rattle.rk_master.specs.Parts.{AreTablets, tablets_of}

@@ -2,7 +2,7 @@
 ghost use Rattle.std.specs.Prelude.{◌≡◌, ◌<◌, ◌+◌, ◌∷◌, List, Some, length, map, drop, slice_get, IfOk, OnOk, OnErr};
 ghost use Rattle.rk_types.specs.NumberMap.{get};
 ghost use Rattle.rk_types.specs.declared.call.Ended.{Ended as Ending};
-ghost use Rattle.rk_table.specs.Sorted.{items_of as records_of};
+ghost use Rattle.rk_bucket_table.specs.Tables.{items_of as records_of};
 ghost use Rattle.rk_world.specs.Commits.{apply_entries, apply_entry, newly_held, noting, with_applied, with_ended, with_entry_item};
 ghost use Rattle.rk_world.specs.Ends.{end_of_item as item_end_lem, end_of_refusal as refusal_end_lem, items_of, told_by};
 ghost use Rattle.rk_master.specs.Kept.{IsKept};
@@ -15,9 +15,10 @@ use crate::staged_items::StagedItems;
 use crate::state::MasterState;
 use crate::tablet_lane::TabletLane;
 use crate::work::Worked;
+use rk_bucket_table::BucketTable;
 use rk_entry::{Entry, Refused};
 use rk_log::MasterLog;
-use rk_table::{RecordTable, SortedTable};
+use rk_table::RecordTable;
 use rk_types::{Answer, Call, End, Ended, Held, NoMemory};
 
 // The first end that an entry tells.
@@ -168,7 +169,7 @@ fn apply_item(state: &mut MasterState) -> Result<Option<Ended>, NoMemory>
 
 // Puts the item that an entry is into the records, where it is newer than what is there. Two searches, and what an
 // insertion takes.
-fn put_item(records: &mut SortedTable, entry: &Entry) -> Result<(), NoMemory>
+fn put_item(records: &mut BucketTable, entry: &Entry) -> Result<(), NoMemory>
     ensures { OnOk result (records_of records.new ≡ with_items_of entry.now (records_of records.old)) }
 {
     let Entry::Held(held) = entry else {

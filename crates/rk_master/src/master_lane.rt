@@ -4,6 +4,7 @@ ghost use Rattle.rk_log.specs.Cut.{EachFits};
 ghost use Rattle.rk_log.specs.Known.{nothing};
 ghost use Rattle.rk_log.specs.Log.{bytes_of};
 ghost use Rattle.rk_priority.specs.Hashes.{is_waiting as is_waiting_lem};
+ghost use Rattle.rk_bucket_table.specs.Tables.{items_of as records_of};
 ghost use Rattle.rk_table.specs.Items.{live_in};
 ghost use Rattle.rk_world.specs.Master.{is_staged, log_bytes as log_bytes_lem, new_master, staged, tablet_at};
 ghost use Rattle.rk_world.specs.MasterStep.{master_step};
@@ -20,7 +21,8 @@ use crate::sums::{greatest_counter, log_bytes};
 use crate::tablets::{handover_of, is_waiting, serve};
 use crate::turn::take_turn;
 use crate::work::Worked;
-use rk_log::MOST_BACKUPS;
+use rk_bucket_table::BucketTable;
+use rk_log::{MOST_BACKUPS, MasterLog};
 use rk_message::Message;
 use rk_table::RecordTable;
 use rk_transfer::Role;
@@ -82,9 +84,11 @@ impl MasterLane {
     ///   a call ends; a step for each staged entry only where a tablet closes.
     /// - The coordinator's orders (Prepare, Close, Grant, Own, Release, Rebuild) apply by a term that is great enough, and
     ///   are told again where they have to be. A few binary searches and looks at each tablet; where one applies a step for
-    ///   each staged entry, for each client that is told or granted, or for each record of a range that is dropped.
+    ///   each staged entry, for each client that is told or granted, or where a range is dropped for each record and each
+    ///   chain of the table.
     /// - Another master's Pull or Want is answered by a tablet that is frozen at its term. A few searches, and a step for
-    ///   each item from the token's bucket to the end of the batch, or that has a wanted hash.
+    ///   each item and each chain from the token's bucket to the first live item behind the batch, or for each item in the
+    ///   chain of a wanted hash.
     /// - Its Pulled or Got is replayed by a tablet that awaits just that: items that are newer than the records go into
     ///   them and to those of a worker. Behind the last batch all that was pulled becomes side segments. A search of the
     ///   records for each item and the time to copy and spell it, and a step for each segment that is sealed.
@@ -96,7 +100,7 @@ impl MasterLane {
     ///
     /// After `NoMemory` the master is spent; it also comes where no version of a tablet is left, the log is full, an entry
     /// has no room in a segment, there are 2^32 records to be pulled, or numbers of batches or side segments run out.
-    pub fn step(&mut self, message: &Message) -> Result<Worked, NoMemory>
+    pub fn handle(&mut self, message: &Message) -> Result<Worked, NoMemory>
         requires { IfSome self.old (λ master. CanTake master message.now) }
         ensures ok { IfOk result (λ work. IsSomeAnd self.old (λ master. IsWork (master_step master message.now) self.new work)) }
         ensures err { OnErr result (self.new ≡ None) }
@@ -241,7 +245,7 @@ impl MasterLane {
     }
 
     /// Appends duplicates of the live records of the range, in scan order; none where the master is spent. After
-    /// `NoMemory` `into` is as it was. A step for each record.
+    /// `NoMemory` `into` is as it was. A step for each record and each chain of the table.
     pub fn live_items(&self, range: &Range, into: &mut Vec<Held>) -> Result<(), NoMemory>
         ensures ok { OnOk result (into.new.items ≡ into.old.items
             ++ option_map_or (λ master. live_in range.now master.records) self.now []) }
@@ -268,6 +272,20 @@ impl MasterLane {
         ensures { result ≡ option_map_or (λ master. is_staged master client seq) self.now false }
     {
         !self.spent && self.state.calls.is_staged(client, seq)
+    }
+
+    /// The records, lent. In constant time.
+    pub fn table(&self) -> &BucketTable
+        ensures { IfSome self.now (λ master. records_of result.now ≡ master.records) }
+    {
+        &self.state.records
+    }
+
+    /// The log, lent. In constant time.
+    pub fn log(&self) -> &MasterLog
+        ensures { IfSome self.now (λ master. result.now ≡ master.log) }
+    {
+        &self.state.log
     }
 
     /// The bytes of a main or side segment of the log, lent; none where there is no such segment. In constant time.

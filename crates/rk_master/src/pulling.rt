@@ -4,7 +4,7 @@ ghost use Rattle.std.specs.List.{All};
 ghost use Rattle.rk_entry.specs.Lawful.{IsLawfulHeld};
 ghost use Rattle.rk_priority.specs.Hashes.{is_batch};
 ghost use Rattle.rk_side_log.specs.Replayed.{side_replayed};
-ghost use Rattle.rk_table.specs.Sorted.{items_of as records_of};
+ghost use Rattle.rk_bucket_table.specs.Tables.{items_of as records_of};
 ghost use Rattle.rk_transfer.specs.Handover.{joined};
 ghost use Rattle.rk_world.specs.Pulls.{is_token as is_token_lem};
 ghost use Rattle.rk_world.specs.RoleTests.{is_receiving_at as is_receiving_at_lem};
@@ -14,9 +14,9 @@ ghost use Rattle.rk_master.specs.Pulls.{awaits as awaits_lem, with_resolved, wit
 
 use crate::choice::is_receiving;
 use crate::tablet_lane::TabletLane;
+use rk_bucket_table::BucketTable;
 use rk_message::Pulled;
 use rk_side_log::WORKERS;
-use rk_table::SortedTable;
 use rk_transfer::Role;
 use rk_types::{Held, Listed, NoMemory, Token};
 
@@ -61,7 +61,7 @@ impl TabletLane {
     /// have 2^62 bytes. A search of the records for each item, and the time to spell it.
     pub(crate) fn replay(
         &mut self,
-        records: &mut SortedTable,
+        records: &mut BucketTable,
         worker: u8,
         items: Vec<Held>,
     ) -> Result<(), NoMemory>

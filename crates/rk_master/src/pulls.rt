@@ -3,7 +3,7 @@ ghost use Rattle.std.specs.Prelude.{◌≡◌, ◌++◌, IfOk, OnOk};
 ghost use Rattle.std.specs.List.{flat_map};
 ghost use Rattle.rk_types.specs.NumberMap.{IsInOrder};
 ghost use Rattle.rk_table.specs.Items.{at_hash, live_in};
-ghost use Rattle.rk_table.specs.Sorted.{items_of as records_of};
+ghost use Rattle.rk_bucket_table.specs.Tables.{items_of as records_of};
 ghost use Rattle.rk_world.specs.Material.{as_entries};
 ghost use Rattle.rk_world.specs.Pulls as pulls;
 ghost use Rattle.rk_master.specs.Parts.{worked_of};
@@ -14,10 +14,11 @@ ghost use Rattle.rk_master.specs.State.{IsState, master_of};
 use crate::state::MasterState;
 use crate::tablets::search;
 use crate::work::Worked;
+use rk_bucket_table::BucketTable;
 use rk_entry::Entry;
 use rk_message::{Body, Got, Message, Pull, Pulled, Want};
 use rk_pull::batch;
-use rk_table::{RecordTable, SortedTable};
+use rk_table::RecordTable;
 use rk_types::{Held, Listed, NoMemory, Node, Range};
 use std::alloc::Global;
 
@@ -25,7 +26,8 @@ use std::alloc::Global;
 const MOST_RECORDS: usize = 1 << 32;
 
 /// A master takes a Pull of a node: where the tablet is frozen at its term, it answers with the batch from the token on.
-/// `NoMemory` also where there are [`MOST_RECORDS`]. Two searches, and a step for each item from the token's bucket to the end of the batch.
+/// `NoMemory` also where there are [`MOST_RECORDS`]. A search, and a step for each item and each chain of the records from the
+/// token's bucket to the first live item of the range behind the batch.
 pub(crate) fn take_pull(state: &MasterState, from: Node, pull: Pull) -> Result<Worked, NoMemory>
     requires state { IsState state.now }
     ensures { IfOk result (λ work. worked_of (master_of state.now) work ≡ pulls.pull_taken (master_of state.now) from pull) }
@@ -122,7 +124,7 @@ impl MasterState {
 // The live items of a range that have these hashes, hash by hash.
 fn with_hashes(
     alloc: Global,
-    records: &SortedTable,
+    records: &BucketTable,
     range: &Range,
     hashes: &[u64],
 ) -> Result<Vec<Held>, NoMemory>

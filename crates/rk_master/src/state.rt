@@ -6,7 +6,7 @@ ghost use Rattle.rk_types.specs.declared.held.Held.{Held as Item};
 ghost use Rattle.rk_model.specs.Merged.{is_mutation as is_mutation_lem};
 ghost use Rattle.rk_overlay.specs.Newest.{newest};
 ghost use Rattle.rk_table.specs.Items.{found};
-ghost use Rattle.rk_table.specs.Sorted.{items_of as records_of};
+ghost use Rattle.rk_bucket_table.specs.Tables.{items_of as records_of};
 ghost use Rattle.rk_done.specs.Completions.{look as look_lem};
 ghost use Rattle.rk_world.specs.Master.{new_master, serves_key};
 ghost use Rattle.rk_world.specs.Requests as requests;
@@ -19,9 +19,10 @@ use crate::staged_calls::StagedCalls;
 use crate::staged_items::StagedItems;
 use crate::tablet_lane::TabletLane;
 use crate::work::Worked;
+use rk_bucket_table::BucketTable;
 use rk_done::Look;
 use rk_log::{MOST_BACKUPS, MasterLog};
-use rk_table::{RecordTable, SortedTable};
+use rk_table::RecordTable;
 use rk_types::{Call, Key, NoMemory};
 use rk_world::Choice;
 use std::alloc::Global;
@@ -36,7 +37,7 @@ pub(crate) struct MasterState {
     pub(crate) applied: u64,
     pub(crate) calls: StagedCalls,
     pub(crate) items: StagedItems,
-    pub(crate) records: SortedTable,
+    pub(crate) records: BucketTable,
     pub(crate) tablets: Vec<(u32, TabletLane)>,
 }
 
@@ -48,6 +49,7 @@ impl MasterState {
         ensures ok { IfOk result (λ state. master_of state ≡ new_master number (replicate backups nothing)) }
         ensures state { IfOk result IsState }
     {
+        let records = BucketTable::new(alloc)?;
         Ok(MasterState {
             number,
             backups,
@@ -55,7 +57,7 @@ impl MasterState {
             applied: 0,
             calls: StagedCalls::new(alloc),
             items: StagedItems::new(alloc),
-            records: SortedTable::new(alloc),
+            records,
             tablets: Vec::new(alloc),
         })
     }
@@ -142,7 +144,7 @@ fn serving<'a>(
 }
 
 // What a mutation sees of a record: the newest staged item, else that of the records.
-fn seen(items: &StagedItems, records: &SortedTable, name: &(u64, Key)) -> Option<Seen>
+fn seen(items: &StagedItems, records: &BucketTable, name: &(u64, Key)) -> Option<Seen>
     ensures { (staged : List Item) → IsKept items.now.newest staged
         → result ≡ seen_of (option_or (newest staged name.now.0 name.now.1) (found name.now.0 name.now.1 (records_of records.now))) }
 {

@@ -15,10 +15,10 @@ use Rattle.rk_cluster.proofs.Faults.{go_on_same, rose_same}
 use Rattle.rk_cluster.proofs.Order.{none_beyond, replicas_go_on}
 use Rattle.rk_settle.specs.Course.{MOST_FAULTS}
 use Rattle.rk_settle.specs.Faults.{FailsInRounds, RoseInRounds}
-use Rattle.rk_play.specs.Lent.{AreGivenBack, HasLent}
+use Rattle.rk_lending.specs.Lent.{AreGivenBack, HasLent}
 use Rattle.rk_play.specs.Runs.{NoneFell, replica_counts}
-use Rattle.rk_play.specs.declared.playing.replicas.Kept.{Kept}
-use Rattle.rk_play.specs.declared.playing.replicas.TheConstants.{REPLICAS}
+use Rattle.rk_lending.specs.declared.lending.Kept.{Kept}
+use Rattle.rk_lending.specs.declared.lending.TheConstants.{REPLICAS}
 
 -- ---- lists
 

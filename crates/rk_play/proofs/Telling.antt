@@ -31,7 +31,7 @@ use Rattle.rk_cluster.specs.Replicas.{Fate}
 use Rattle.rk_cluster.specs.State.{AreWorlds, ClusterState, IsOf, IsWorld}
 use Rattle.rk_cluster.proofs.Faults.{go_on_same}
 use Rattle.rk_cluster.proofs.Worlds.{all_at, something_within, there_within, world_at}
-use Rattle.rk_play.specs.Lent.{AreGivenBack}
+use Rattle.rk_lending.specs.Lent.{AreGivenBack}
 use Rattle.rk_play.specs.Concluded.{Concludes, IsWritten, PlaysBy}
 use Rattle.rk_play.specs.Played.{Played, Setting, all_fates, cluster_by, how_many, part_of, played, played_of, refused_at, text_of, unset}
 use Rattle.rk_play.specs.Runs.{Plays, Runs, TellStored, TellsAt, backup_count, count_of, replica_counts}

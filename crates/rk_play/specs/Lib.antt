@@ -9,4 +9,3 @@ pub mod Reached
 pub mod Ended
 pub mod Runs
 pub mod Concluded
-pub mod Lent

@@ -18,15 +18,13 @@ use crate::end::End;
 use crate::error::PlayError;
 use crate::run::run_all;
 use crate::setting::{Opening, read_opening};
-use replicas::{give_back, lend};
 use rk_cluster::Cluster;
+use rk_lending::{give_back, lend};
 use rk_lines::push_refused;
 use rk_outside::{PIECE, ReadError, Replica, Sink, Source, put_all, read_all};
 use rk_script::{Code, LONGEST_SCRIPT, Numbered, ParseError, parse};
 use rk_types::Status;
 use std::alloc::Global;
-
-mod replicas;
 
 /// How many masters and backups there are where a script does not say.
 const DEFAULT_COUNT: u8 = 2;

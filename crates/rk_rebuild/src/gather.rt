@@ -7,7 +7,7 @@ ghost use Rattle.rk_rebuild.specs.Counted.{IsCounted};
 ghost use Rattle.rk_rebuild.specs.Lent.{lent};
 
 use crate::member::{ReadLog, Reader, next_of};
-use crate::merging::{Counted, counted_by, is_of_lineage, lent_again};
+use crate::merging::{Counted, counted_by, counted_of_all, is_of_lineage, lent_again};
 use crate::reading::read;
 use rk_entry::Entry;
 use rk_types::{Listed, Member, NoMemory, Range};
@@ -90,6 +90,19 @@ impl Gather {
             bytes,
         )?;
         Ok(true)
+    }
+
+    /// What was gathered and counts, lent, member by member in the order of the lineage. It may come at any time, and is
+    /// of all logs once [`Gather::next`] tells none. A step for each entry that was read.
+    pub fn counted(&self) -> Result<Vec<&Entry>, NoMemory>
+        ensures { IfOk result (λ entries. lent entries.items ≡ gathers.counted self.now) }
+    {
+        counted_of_all(
+            *self.lineage.allocator(),
+            &self.range,
+            self.logs.as_slice(),
+            self.readers.as_slice(),
+        )
     }
 
     /// What a rebuild makes of the rebuilding master's own entries that count, and of what was gathered: copies of the

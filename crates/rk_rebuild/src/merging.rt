@@ -90,6 +90,23 @@ fn counted_at<'a>(
     )
 }
 
+/// What counts for a range of all members, member by member. A step for each entry of a member's log.
+pub(crate) fn counted_of_all<'a>(
+    alloc: Global,
+    range: &Range,
+    logs: &'a [ReadLog],
+    readers: &[Reader],
+) -> Result<Vec<&'a Entry>, NoMemory>
+    ensures { IfOk result (λ entries. lent entries.items ≡ flat_map (gathers.counted_of range.now) (members_of logs.now readers.now)) }
+{
+    let mut entries = Vec::new(alloc);
+    for reader in readers {
+        let more = counted_at(alloc, range, logs, &reader.member)?;
+        entries.extend_from_slice(more.as_slice())?;
+    }
+    Ok(entries)
+}
+
 /// What counts for a range of the members with a master. A step for each entry of the master's log, and a look at each
 /// member.
 pub(crate) fn counted_by<'a>(

@@ -9,6 +9,7 @@
 
 pub use code::Code;
 pub use command::{Command, Numbered, Reach};
+pub use numbers::number;
 pub use script::{LONGEST_SCRIPT, ParseError, parse};
 
 mod arguments;

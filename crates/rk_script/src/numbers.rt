@@ -65,8 +65,9 @@ fn decimal(word: &[u8]) -> Option<u64>
     text(word).parse::<u64>().ok()
 }
 
-// The number that a word spells, if it is one of this range.
-fn number(word: &[u8], least: u64, most: u64) -> Result<u64, Code>
+/// The number that a word spells in decimal digits, without a sign and without a leading zero, if it is one of this range; else
+/// `BadNumber`.
+pub fn number(word: &[u8], least: u64, most: u64) -> Result<u64, Code>
     ensures value { result ≡ number_in least most word.now }
     ensures within { IfOk result (λ number. number ≤ most) }
 {

@@ -1,17 +1,24 @@
 // Which lanes and which clients belong together.
 ghost use Rattle.std.specs.Prelude.{ℕ, List};
+ghost use Rattle.rk_types.specs.declared.call.Call.{Call};
 
 use std::marker::Brand;
 use std::sync::ledger::Ledger;
 
-/// The ledger that numbers the lanes. It also names what all of them have in common, as data of proofs: how many masters each lane
-/// has, which clients, and what is taken for granted of the replicas.
+/// The ledger that numbers the lanes. It also names what all of them have in common, as data of proofs: how many masters and backups each
+/// lane has, which clients, which calls these make, and what is taken for granted of the replicas.
 pub trait Roster: Ledger {
     /// How many masters each lane has.
     ghost masters: { ℕ };
 
+    /// How many backups each lane has.
+    ghost backups: { ℕ };
+
     /// The clients of each lane.
     ghost clients: { List ℕ };
+
+    /// Which calls clients make.
+    ghost makes: { Call → Type 0 };
 
     /// What is taken for granted of the replicas at the start, as that each of them tells what it stores: where it is so, lanes are sound.
     ghost tells: { Type 0 };
@@ -22,7 +29,11 @@ impl Roster for Brand {
 
     ghost masters = { 0 };
 
+    ghost backups = { 0 };
+
     ghost clients = { [] };
+
+    ghost makes = { λ call. ⊤ };
 
     ghost tells = { ⊤ };
 }

@@ -8,6 +8,7 @@ use Rattle.rk_types.specs.NumberMap.{NumberMap, get}
 use Rattle.rk_types.specs.declared.call.Answer.{Answer}
 use Rattle.rk_types.specs.declared.call.Answer.TheVariants as answers
 use Rattle.rk_types.specs.declared.call.Call.{Call}
+use Rattle.rk_types.specs.declared.history.Receipt.{Receipt}
 use Rattle.rk_message.specs.declared.calls.Located.{Located}
 use Rattle.rk_message.specs.declared.calls.Reply.{Reply}
 use Rattle.rk_message.specs.declared.message.Body.{Body}
@@ -27,49 +28,58 @@ use Rattle.rk_world.specs.declared.event.Taken.TheVariants as takes
 use Rattle.rk_world.specs.Ledger.{Ledger, is_added}
 use Rattle.rk_lane.specs.LaneState.{AreTold, IsSameLane, LaneState, Running, world_with}
 use Rattle.rk_lane.specs.Visits.{IsVisitOf}
-use Rattle.rk_runs.specs.history.Agreement.{AreRisingAbove}
+use Rattle.rk_runs.specs.history.Agreement.{waiting}
 use Rattle.rk_laws_lanes.specs.Counts.{HasReceipts, HasSameClients, IsCounted, accepted_count}
 use Rattle.rk_laws_lanes.specs.GoodLane.{IsGoodLane}
 use Rattle.rk_laws_lanes.proofs.Answers.{answer_asked, answer_clients, answer_counted, answer_receipts}
 use Rattle.rk_laws_lanes.proofs.Clients.{good_accepts}
+use Rattle.rk_laws_gathered.specs.Gathered.{IsOrderly}
+use Rattle.rk_laws_gathered.specs.OpenCalls.{HasCountedCalls}
+use Rattle.rk_laws_gathered.proofs.Counting.{accept_counted}
+use Rattle.rk_laws_gathered.proofs.Orderly.{accepting_orderly}
 use Rattle.rk_shared_lanes.specs.Counting.{is_answer}
 use Rattle.rk_shared_lanes.specs.Kept.{IsKept, StandsFor}
-use Rattle.rk_shared_lanes.specs.Passes.{IsPass, PassState, one_if}
-use Rattle.rk_shared_lanes.proofs.Rising.{rising_more}
+use Rattle.rk_shared_lanes.specs.Passes.{IsPass, MakesOnly, PassState, one_if}
+use Rattle.rk_shared_lanes.proofs.Making.{accepting_makes}
 use Rattle.rk_shared_lanes.proofs.Standing.{kept_with, sound_on, stands_on}
 
--- ---- the session's client
+-- ---- the session's client, and how many calls it made
 
-client_by_answer : (session : Session) (call : Call) (reply : Reply) (answer : Answer) → (answer_accepted session call reply answer).session.client ≡ session.client
-client_by_answer session call reply (answers.Done outcome) = refl
-client_by_answer session call reply (answers.Moved tablet) = refl
-client_by_answer session call reply (answers.NotYet key) = refl
+-- a session of the same client, with as many calls
+record IsSameCaller (session now : Session) : Type 0 where
+  pub client : now.client ≡ session.client
+  pub last : now.last ≡ session.last
 
-client_by_seq : (session : Session) (call : Call) (reply : Reply) (test : Bool)
-    → (cond test (answer_accepted session call reply reply.answer) (ignoring session)).session.client ≡ session.client
-client_by_seq session call reply true = client_by_answer session call reply reply.answer
-client_by_seq session call reply false = refl
+caller_by_answer : (session : Session) (call : Call) (reply : Reply) (answer : Answer) → IsSameCaller session (answer_accepted session call reply answer).session
+caller_by_answer session call reply (answers.Done outcome) = record { client = refl; last = refl }
+caller_by_answer session call reply (answers.Moved tablet) = record { client = refl; last = refl }
+caller_by_answer session call reply (answers.NotYet key) = record { client = refl; last = refl }
 
-client_by_range : (session : Session) (call : Call) (located : Located) (test : Bool)
-    → (cond test (record { session = with_range session (call_lane call) located; taken = takes.Located }) (ignoring session)).session.client ≡ session.client
-client_by_range session call located true = refl
-client_by_range session call located false = refl
+caller_by_seq : (session : Session) (call : Call) (reply : Reply) (test : Bool)
+    → IsSameCaller session (cond test (answer_accepted session call reply reply.answer) (ignoring session)).session
+caller_by_seq session call reply true = caller_by_answer session call reply reply.answer
+caller_by_seq session call reply false = record { client = refl; last = refl }
 
-client_by : (session : Session) (call : Call) (body : Body) → (accepted_by session call body).session.client ≡ session.client
-client_by session call (bodies.Reply reply) = client_by_seq session call reply (reply.seq == call.seq)
-client_by session call (bodies.Located located) = client_by_range session call located (has_call call located)
-client_by session call body = refl
+caller_by_range : (session : Session) (call : Call) (located : Located) (test : Bool)
+    → IsSameCaller session (cond test (record { session = with_range session (call_lane call) located; taken = takes.Located }) (ignoring session)).session
+caller_by_range session call located true = record { client = refl; last = refl }
+caller_by_range session call located false = record { client = refl; last = refl }
 
-client_of : (session : Session) (out : Option Call) (body : Body) → (accepted_of session out body).session.client ≡ session.client
-client_of session None body = refl
-client_of session (Some call) body = client_by session call body
+caller_by : (session : Session) (call : Call) (body : Body) → IsSameCaller session (accepted_by session call body).session
+caller_by session call (bodies.Reply reply) = caller_by_seq session call reply (reply.seq == call.seq)
+caller_by session call (bodies.Located located) = caller_by_range session call located (has_call call located)
+caller_by session call body = record { client = refl; last = refl }
 
-client_taken : (w : World) (session : Session) (message : Message) → (accepting w session (Some message)).session.client ≡ session.client
-client_taken w session message = go (is_asked_here w session)
+caller_of : (session : Session) (out : Option Call) (body : Body) → IsSameCaller session (accepted_of session out body).session
+caller_of session None body = record { client = refl; last = refl }
+caller_of session (Some call) body = caller_by session call body
+
+caller_taken : (w : World) (session : Session) (message : Message) → IsSameCaller session (accepting w session (Some message)).session
+caller_taken w session message = go (is_asked_here w session)
   where
-    go : (here : Bool) → (cond here (taking w session message.body) (untouched w session (Some takes.Ignored))).session.client ≡ session.client
-    go true = client_of session session.outstanding message.body
-    go false = refl
+    go : (here : Bool) → IsSameCaller session (cond here (taking w session message.body) (untouched w session (Some takes.Ignored))).session
+    go true = caller_of session session.outstanding message.body
+    go false = record { client = refl; last = refl }
 
 -- ---- a message that was taken
 
@@ -111,6 +121,7 @@ pub record IsTakenCounted (w : World) (session : Session) (visited : Visited) : 
   pub clients : HasSameClients w.ledger visited.world.ledger
   pub receipts : HasReceipts session visited.session visited.seen.taken
   pub client : visited.session.client ≡ session.client
+  pub last : visited.session.last ≡ session.last
 
 taken_counted : (w : World) (number : ℕ) (session : Session) (visited : Visited) → accept w number session ≡ Ok visited → IsTakenCounted w session visited
 taken_counted w number session visited is =
@@ -120,8 +131,15 @@ taken_counted w number session visited is =
       asked = answer_asked w session it.message;
       clients = answer_clients w session it.message;
       receipts = answer_receipts w session it.message;
-      client = client_taken w session it.message;
+      client = (caller_taken w session it.message).client;
+      last = (caller_taken w session it.message).last;
     })
+
+makes_taken : (makes : Call → Type 0) (w : World) (number : ℕ) (session : Session) (visited : Visited) → accept w number session ≡ Ok visited
+    → MakesOnly makes session → MakesOnly makes visited.session
+makes_taken makes w number session visited is made =
+    let it = taken_here w number session visited is in
+    subst (λ (visit : Visited). MakesOnly makes visit.session) it.is (accepting_makes makes w session it.message made)
 
 counted_good : (masters lane : ℕ) (w : World) (number : ℕ) (session : Session) (visited : Visited) → accept w number session ≡ Ok visited
     → IsGoodLane masters lane w → MayAct masters session → IsCounted w.ledger visited.world.ledger session visited.session visited.seen.taken
@@ -129,6 +147,22 @@ counted_good masters lane w number session visited is good may =
     let it = taken_here w number session visited is in
     let Counts : Visited → Type 0 = λ made. IsCounted w.ledger made.world.ledger session made.session made.seen.taken in
     subst Counts it.is (answer_counted masters lane w number session it.message good may it.there it.for_it)
+
+module _ (masters lane : ℕ) (w : World) (number : ℕ) (session : Session) (visited : Visited) (is : accept w number session ≡ Ok visited)
+    (good : IsGoodLane masters lane w) (may : MayAct masters session) where
+  may_in : MayAct w.coordinator.masters session
+  may_in = subst (λ (count : ℕ). MayAct count session) (sym good.masters_are) may
+
+  orderly_good : IsOrderly session.client session → IsOrderly session.client visited.session
+  orderly_good orderly =
+      let it = taken_here w number session visited is in
+      subst (λ (made : Visited). IsOrderly session.client made.session) it.is
+      (accepting_orderly session.client w number session good.sound may_in orderly it.message it.there it.for_it)
+
+  ledger_counted : HasCountedCalls w.ledger → HasCountedCalls visited.world.ledger
+  ledger_counted counted =
+      let Counted : Result Visited StepError → Type 0 = λ made. HasCountedCalls (world_visited w made).ledger in
+      subst Counted is (accept_counted w number session good.sound may_in counted)
 
 -- ---- by what was taken
 
@@ -158,16 +192,29 @@ still_open session now (Some takes.Located) has pending none = ap is_some has.1 
 still_open session now (Some (takes.Moved tablet)) has pending none = ap is_some has.1 ∙ pending
 still_open session now (Some (takes.NotYet key)) has pending none = ap is_some has.1 ∙ pending
 
--- the stamps rise where an answer's is above all that was seen, and else no receipt came
-still_rising : (before after : Ledger) (masters : ℕ) (session now : Session) (taken : Option Taken) → HasReceipts session now taken → IsCounted before after session now taken
-    → MayAct masters session → AreRisingAbove 0 session.receipts → AreRisingAbove 0 now.receipts
-still_rising before after masters session now (Some takes.Done) has counted may rising =
-    subst (AreRisingAbove 0) (sym counted.receipts) (rising_more 0 session.seen session.receipts counted.receipt (omega arith) may.seen counted.later rising)
-still_rising before after masters session now None has counted may rising = subst (AreRisingAbove 0) (sym has.0) rising
-still_rising before after masters session now (Some takes.Ignored) has counted may rising = subst (AreRisingAbove 0) (sym has.0) rising
-still_rising before after masters session now (Some takes.Located) has counted may rising = subst (AreRisingAbove 0) (sym has.0) rising
-still_rising before after masters session now (Some (takes.Moved tablet)) has counted may rising = subst (AreRisingAbove 0) (sym has.0) rising
-still_rising before after masters session now (Some (takes.NotYet key)) has counted may rising = subst (AreRisingAbove 0) (sym has.0) rising
+waiting_one : (call : Option Call) → is_some call ≡ true → waiting call ≡ 1
+waiting_one None pending = absurd (cc pending)
+waiting_one (Some call) pending = refl
+
+same_last : (session now : Session) → now.receipts ≡ session.receipts → now.outstanding ≡ session.outstanding → now.last ≡ session.last
+    → session.last ≡ length session.receipts + waiting session.outstanding → now.last ≡ length now.receipts + waiting now.outstanding
+same_last session now receipts outstanding last is =
+    last ∙ is ∙ ap (λ (rs : List Receipt). length rs + waiting session.outstanding) (sym receipts)
+    ∙ ap (λ (call : Option Call). length now.receipts + waiting call) (sym outstanding)
+
+-- a session has a receipt for each of its calls but an outstanding one still
+last_more : (session now : Session) (taken : Option Taken) → HasReceipts session now taken → is_some session.outstanding ≡ true → now.last ≡ session.last
+    → session.last ≡ length session.receipts + waiting session.outstanding → now.last ≡ length now.receipts + waiting now.outstanding
+last_more session now (Some takes.Done) has pending last is =
+    let one = waiting_one session.outstanding pending in
+    let none = ap waiting has.1 in
+    let more = has.0 in
+    omega (arith, one, none, more, last, is)
+last_more session now None has pending last is = same_last session now has.0 has.1 last is
+last_more session now (Some takes.Ignored) has pending last is = same_last session now has.0 has.1 last is
+last_more session now (Some takes.Located) has pending last is = same_last session now has.0 has.1 last is
+last_more session now (Some (takes.Moved tablet)) has pending last is = same_last session now has.0 has.1 last is
+last_more session now (Some (takes.NotYet key)) has pending last is = same_last session now has.0 has.1 last is
 
 -- an outstanding call that was counted is a receipt now, or still counted
 made_on : (before now : ℕ) (answer : Bool) → now ≡ before + one_if answer → before + one_if true ≡ now + one_if (not answer)
@@ -182,9 +229,9 @@ good_accepted masters lane w number session visited is may good =
     let Good : Result Visited StepError → Type 0 = λ made. IsGoodLane masters lane (world_visited w made) in
     subst Good is (good_accepts masters lane w session good may number)
 
-module _ {R : Type 0} (segments : R → Option Segments) (tells : Type 0) (masters : ℕ) (clients : List ℕ) (old new : LaneState R) (same : IsSameLane old new)
+module _ {R : Type 0} (segments : R → Option Segments) (tells : Type 0) (masters backups : ℕ) (clients : List ℕ) (old new : LaneState R) (same : IsSameLane old new)
     (message : ℕ) (pass : PassState) (now : Session) (seen : Seen) (it : IsVisitOf (λ w. accept w message pass.session) old new now seen)
-    (may : MayAct masters pass.session) (accepted asked number : ℕ × ℕ) (kept : IsKept segments tells masters clients old accepted asked number) where
+    (may : MayAct masters pass.session) (accepted asked number : ℕ × ℕ) (kept : IsKept segments tells masters backups clients old accepted asked number) where
   -- what the lane and the session became, with what backups store
   abbrev visited_with : NumberMap Segments → Visited
   visited_with stored = record { world = world_with new it.after stored; session = now; seen = seen }
@@ -211,28 +258,34 @@ module _ {R : Type 0} (segments : R → Option Segments) (tells : Type 0) (maste
       counted_good old.masters old.number (world_with old it.before stood.stored) message pass.session (visited_with stood.stored) (it.visited stood.stored) stood.good may_here
 
   pub kept_accepted : (accepted_now : ℕ × ℕ) → accepted_now.0 ≡ accepted.0 → accepted_now.1 ≡ accepted.1 + one_if (is_answer seen.taken)
-      → IsKept segments tells masters clients new accepted_now asked number
+      → IsKept segments tells masters backups clients new accepted_now asked number
   kept_accepted accepted_now parts amount =
-      kept_with segments tells masters clients old new same accepted asked number accepted_now asked kept counted_here.clients
+      kept_with segments tells masters backups clients old new same accepted asked number accepted_now asked kept counted_here.clients
       (kept.asked_is.0, kept.asked_is.1 ∙ sym counted_here.asked) (parts ∙ kept.accepted_part)
       (λ told.
       amount ∙ ap (λ (n : ℕ). n + one_if (is_answer seen.taken)) (kept.accepted_is told)
       ∙ sym (accepted_more old.ledger new.ledger pass.session now seen.taken (counts_of told)))
       (λ told.
-      sound_on segments tells masters clients old new same it.before it.after it.was it.is
+      let stood = stood_of told in
+      ledger_counted old.masters old.number (world_with old it.before stood.stored) message pass.session
+      (visited_with stood.stored) (it.visited stood.stored) stood.good may_here (kept.counted told))
+      (λ told.
+      sound_on segments tells masters backups clients old new same it.before it.after it.was it.is
       (λ stood.
-      stands_on segments tells masters clients old new same it.before it.after stood.stored
+      stands_on segments tells masters backups clients old new same it.before it.after stood.stored
       (subst (λ (backups : List (BackupLane R)). AreTold segments backups stood.stored) (sym it.backups) stood.told)
       (good_accepted old.masters old.number (world_with old it.before stood.stored) message pass.session (visited_with stood.stored) (it.visited stood.stored) may_here stood.good))
       (kept.sound told))
 
-  pub pass_accepted : (got made got_now : ℕ × ℕ) (counted_now : Bool) → IsPass tells masters pass got made → pass.counted ≡ true → MayAct masters now
+  pub pass_accepted : (makes : Call → Type 0) (got made got_now : ℕ × ℕ) (counted_now : Bool) → IsPass tells masters makes pass got made → pass.counted ≡ true → MayAct masters now
       → got_now.0 ≡ got.0 → got_now.1 ≡ got.1 + one_if (is_answer seen.taken) → counted_now ≡ not (is_answer seen.taken)
-      → IsPass tells masters (record { session = now; counted = counted_now }) got_now made
-  pass_accepted got made got_now counted_now pass_is counted may_now parts amount counted_is =
+      → IsPass tells masters makes (record { session = now; counted = counted_now }) got_now made
+  pass_accepted makes got made got_now counted_now pass_is counted may_now parts amount counted_is =
       let more = receipts_more pass.session now seen.taken counted_here.receipts in
       record {
         may = may_now;
+        last_is = last_more pass.session now seen.taken counted_here.receipts (pass_is.pending counted) counted_here.last pass_is.last_is;
+        calls = λ told. makes_taken makes (world_with old it.before []) message pass.session (visited_with []) (it.visited []) (pass_is.calls told);
         got_is = (parts ∙ pass_is.got_is.0, amount ∙ ap (λ (n : ℕ). n + one_if (is_answer seen.taken)) pass_is.got_is.1 ∙ sym more);
         made_is = (
           pass_is.made_is.0,
@@ -242,6 +295,8 @@ module _ {R : Type 0} (segments : R → Option Segments) (tells : Type 0) (maste
         );
         pending = λ still.
             still_open pass.session now seen.taken counted_here.receipts (pass_is.pending counted) (sym counted_is ∙ still);
-        rising = λ told.
-            still_rising old.ledger new.ledger masters pass.session now seen.taken counted_here.receipts (counts_of told) may (pass_is.rising told);
+        orderly = λ told.
+            subst (λ (client : ℕ). IsOrderly client now) (sym counted_here.client)
+            (orderly_good old.masters old.number (world_with old it.before (stood_of told).stored) message pass.session
+            (visited_with (stood_of told).stored) (it.visited (stood_of told).stored) (stood_of told).good may_here (pass_is.orderly told));
       }

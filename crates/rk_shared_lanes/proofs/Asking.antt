@@ -1,14 +1,15 @@
 -- A lane behind its lock, and a pass, stay so at a client's turn.
 use Rattle.std.proofs.Common.{◌≡◌, ℕ, ◌+◌, Bool, true, false, cond, not, List, [], length, Option, Some, None, Result, Ok, Err, refl, sym, ap, subst, ◌∙◌, ⊎_elim, arith}
-use Rattle.std.specs.Prelude.{IfSome, is_some}
+use Rattle.std.specs.Prelude.{◌==◌, IfSome, is_some}
 use Rattle.std.proofs.lemmas.Bool.{and_parts}
 use Rattle.rk_outside.specs.Segments.{Segments}
 use Rattle.rk_backup.specs.declared.lane.BackupLane.{BackupLane}
 use Rattle.rk_types.specs.declared.call.Call.{Call}
 use Rattle.rk_types.specs.declared.history.Receipt.{Receipt}
 use Rattle.rk_session.specs.Turns.{session_after}
-use Rattle.rk_world.specs.Calls.{Visited, ask, ask_by, asked_by_session, asking, fits, fits_by, is_asked_here}
-use Rattle.rk_world.specs.Client.{Session, range_of, session_turn, turn_of}
+use Rattle.rk_message.specs.declared.calls.Located.{Located}
+use Rattle.rk_world.specs.Calls.{Visited, ask, ask_by, asked_by_session, asking, asking_by, fits, fits_by, fits_with, is_asked_here, untouched}
+use Rattle.rk_world.specs.Client.{ClientTurn, MOST_REQUESTS, Session, looking_up, range_of, session_turn, turn_by, turn_of, turn_to}
 use Rattle.rk_world.specs.Ledger.{is_added}
 use Rattle.rk_world.specs.Premises.{MayAct}
 use Rattle.rk_world.specs.Refusals.{ask_refusal}
@@ -18,13 +19,18 @@ use Rattle.rk_world.specs.declared.error.StepError.{StepError}
 use Rattle.rk_world.specs.declared.event.Seen.{Seen}
 use Rattle.rk_lane.specs.LaneState.{AreTold, IsSameLane, LaneState, Running, world_with}
 use Rattle.rk_lane.specs.Visits.{IsVisitOf, MayHaveTurned}
-use Rattle.rk_runs.specs.history.Agreement.{AreRisingAbove}
+use Rattle.rk_runs.specs.history.Agreement.{waiting}
 use Rattle.rk_laws_lanes.specs.Counts.{HasSameClients, IsAskedOnce, accepted_count}
 use Rattle.rk_laws_lanes.specs.GoodLane.{IsGoodLane}
 use Rattle.rk_laws_lanes.proofs.Asks.{asked_once, turned_same}
 use Rattle.rk_laws_lanes.proofs.Clients.{good_asks}
+use Rattle.rk_laws_gathered.specs.Gathered.{IsOrderly}
+use Rattle.rk_laws_gathered.specs.OpenCalls.{HasCountedCalls}
+use Rattle.rk_laws_gathered.proofs.Counting.{ask_counted}
+use Rattle.rk_laws_gathered.proofs.Orderly.{asking_orderly, turn_orderly}
 use Rattle.rk_shared_lanes.specs.Kept.{IsKept}
 use Rattle.rk_shared_lanes.specs.Passes.{IsPass, PassState, Suits, one_if}
+use Rattle.rk_shared_lanes.proofs.Making.{same_makes}
 use Rattle.rk_shared_lanes.proofs.Standing.{kept_with, sound_on, stands_on}
 
 -- a turn that was taken was not refused
@@ -75,18 +81,55 @@ pub record IsSameSession (session now : Session) : Type 0 where
   pub receipts : now.receipts ≡ session.receipts
   pub outstanding : now.outstanding ≡ session.outstanding
   pub client : now.client ≡ session.client
+  pub last : now.last ≡ session.last
+  pub orderly : IsOrderly session.client session → IsOrderly session.client now
+
+-- a turn leaves how many calls a session made
+turned_last : (session : Session) (call : Call) (found : Option Located) → (turn_by session call found).session.last ≡ session.last
+turned_last session call None = refl
+turned_last session call (Some located) = by_count (session.requests == MOST_REQUESTS)
+  where
+    by_owner : (owner : Option ℕ) → (turn_to session call located.tablet owner).session.last ≡ session.last
+    by_owner None = refl
+    by_owner (Some master) = refl
+
+    by_count : (most : Bool) → (cond most (looking_up session call) (turn_to session call located.tablet located.owner)).session.last ≡ session.last
+    by_count true = refl
+    by_count false = by_owner located.owner
+
+-- so does a turn in a lane
+asked_last : (w : World) (session : Session) (call : Option Call) → session.outstanding ≡ call → (asking w session call).session.last ≡ session.last
+asked_last w session None is = refl
+asked_last w session (Some call) is = by_fit (fits_with w session call)
+  where
+    by_turn : (turn : Option ClientTurn) → session_turn session ≡ turn → (asking_by w session call turn).session.last ≡ session.last
+    by_turn None none = refl
+    by_turn (Some turned) some =
+        let same : Some (turn_by session call (range_of session call)) ≡ Some turned = ap (turn_of session) (sym is) ∙ some in
+        let turn_is : turn_by session call (range_of session call) ≡ turned = cc same in
+        subst (λ (turn : ClientTurn). turn.session.last ≡ session.last) turn_is (turned_last session call (range_of session call))
+
+    by_fit : (fit : Bool) → (cond fit (asking_by w session call (session_turn session)) (untouched w session None)).session.last ≡ session.last
+    by_fit true = by_turn (session_turn session) refl
+    by_fit false = refl
 
 -- a session that has taken its turn
 turned_session : (session : Session) (call : Option Call) → session.outstanding ≡ call → IsSameSession session (session_after session (turn_of session call))
-turned_session session None is = record { receipts = refl; outstanding = refl; client = refl }
+turned_session session None is = record { receipts = refl; outstanding = refl; client = refl; last = refl; orderly = λ orderly. orderly }
 turned_session session (Some call) is =
     let same = turned_same session call (range_of session call) in
-    record { receipts = same.receipts; outstanding = same.outstanding; client = same.client }
+    record {
+      receipts = same.receipts;
+      outstanding = same.outstanding;
+      client = same.client;
+      last = turned_last session call (range_of session call);
+      orderly = λ orderly. turn_orderly session.client session orderly (Some call) (turn_by session call (range_of session call)) refl;
+    }
 
 pub turned_or_not : (session now : Session) → MayHaveTurned session now → IsSameSession session now
 turned_or_not session now turned =
     ⊎_elim
-    (λ (same : now ≡ session). subst (IsSameSession session) (sym same) (record { receipts = refl; outstanding = refl; client = refl }))
+    (λ (same : now ≡ session). subst (IsSameSession session) (sym same) (record { receipts = refl; outstanding = refl; client = refl; last = refl; orderly = λ orderly. orderly }))
     (λ (after : now ≡ session_after session (session_turn session)).
     subst (IsSameSession session) (sym after) (turned_session session session.outstanding refl)) turned
 
@@ -104,22 +147,35 @@ made_for : (counted : Bool) (receipts : ℕ) → receipts + one_if counted + one
 made_for true receipts = omega arith
 made_for false receipts = omega arith
 
-module _ (tells : Type 0) (masters : ℕ) (pass : PassState) (now : Session) (same : IsSameSession pass.session now) (may : MayAct masters now) where
+module _ (tells : Type 0) (masters : ℕ) (makes : Call → Type 0) (pass : PassState) (now : Session) (same : IsSameSession pass.session now) (may : MayAct masters now) where
+  now_orderly : IsOrderly pass.session.client pass.session → IsOrderly now.client now
+  now_orderly orderly = subst (λ (client : ℕ). IsOrderly client now) (sym same.client) (same.orderly orderly)
+
+  -- it has as many receipts and calls as before
+  last_same : pass.session.last ≡ length pass.session.receipts + waiting pass.session.outstanding → now.last ≡ length now.receipts + waiting now.outstanding
+  last_same is =
+      same.last ∙ is ∙ ap (λ (receipts : List Receipt). length receipts + waiting pass.session.outstanding) (sym same.receipts)
+      ∙ ap (λ (call : Option Call). length now.receipts + waiting call) (sym same.outstanding)
+
   -- it stays so where its call was not asked
-  pub pass_kept : (got made : ℕ × ℕ) → IsPass tells masters pass got made → IsPass tells masters (record { session = now; counted = pass.counted }) got made
+  pub pass_kept : (got made : ℕ × ℕ) → IsPass tells masters makes pass got made → IsPass tells masters makes (record { session = now; counted = pass.counted }) got made
   pass_kept got made it = record {
     may = may;
+    last_is = last_same it.last_is;
+    calls = λ told. same_makes makes pass.session now same.receipts same.outstanding (it.calls told);
     got_is = (it.got_is.0, it.got_is.1 ∙ ap length (sym same.receipts));
     made_is = (it.made_is.0, it.made_is.1 ∙ ap (λ (receipts : List Receipt). length receipts + one_if pass.counted) (sym same.receipts));
     pending = λ counted. ap is_some same.outstanding ∙ it.pending counted;
-    rising = λ told. subst (AreRisingAbove 0) (sym same.receipts) (it.rising told);
+    orderly = λ told. now_orderly (it.orderly told);
   }
 
   -- and where it was asked, and counted
-  pub pass_asked : (got made made_now : ℕ × ℕ) → IsPass tells masters pass got made → made_now.0 ≡ made.0 → made_now.1 ≡ made.1 + one_if (not pass.counted)
-      → is_some pass.session.outstanding ≡ true → IsPass tells masters (record { session = now; counted = true }) got made_now
+  pub pass_asked : (got made made_now : ℕ × ℕ) → IsPass tells masters makes pass got made → made_now.0 ≡ made.0 → made_now.1 ≡ made.1 + one_if (not pass.counted)
+      → is_some pass.session.outstanding ≡ true → IsPass tells masters makes (record { session = now; counted = true }) got made_now
   pass_asked got made made_now it parts amount pending = record {
     may = may;
+    last_is = last_same it.last_is;
+    calls = λ told. same_makes makes pass.session now same.receipts same.outstanding (it.calls told);
     got_is = (it.got_is.0, it.got_is.1 ∙ ap length (sym same.receipts));
     made_is = (
       parts ∙ it.made_is.0,
@@ -127,7 +183,7 @@ module _ (tells : Type 0) (masters : ℕ) (pass : PassState) (now : Session) (sa
           ∙ ap (λ (receipts : List Receipt). length receipts + 1) (sym same.receipts),
     );
     pending = λ counted. ap is_some same.outstanding ∙ pending;
-    rising = λ told. subst (AreRisingAbove 0) (sym same.receipts) (it.rising told);
+    orderly = λ told. now_orderly (it.orderly told);
   }
 
 -- ---- the lane
@@ -139,7 +195,7 @@ good_asked masters number w session visited is may good =
     let Good : Result Visited StepError → Type 0 = λ made. IsGoodLane masters number (world_visited w made) in
     subst Good is (good_asks masters number w session good may)
 
-module _ {R : Type 0} (segments : R → Option Segments) (tells : Type 0) (masters : ℕ) (clients : List ℕ) (old new : LaneState R) (same : IsSameLane old new)
+module _ {R : Type 0} (segments : R → Option Segments) (tells : Type 0) (masters backups : ℕ) (clients : List ℕ) (old new : LaneState R) (same : IsSameLane old new)
     (pass : PassState) (now : Session) (seen : Seen) (it : IsVisitOf (λ w. ask w pass.session) old new now seen) (suits : Suits (world_with old it.before []) pass) where
   -- what the turn counts, by the worlds without what backups store
   pub counted_here : IsTurnCounted (world_with old it.before []) pass.session (record { world = world_with new it.after []; session = now; seen = seen })
@@ -147,22 +203,40 @@ module _ {R : Type 0} (segments : R → Option Segments) (tells : Type 0) (maste
       turn_counted (world_with old it.before []) pass.session (record { world = world_with new it.after []; session = now; seen = seen }) (it.visited []) suits.fits
 
   pub session_same : IsSameSession pass.session now
-  session_same = record { receipts = counted_here.receipts; outstanding = counted_here.outstanding; client = counted_here.client }
+  session_same = record {
+    receipts = counted_here.receipts;
+    outstanding = counted_here.outstanding;
+    client = counted_here.client;
+    last =
+        let w : World = world_with old it.before [] in
+        subst (λ (visited : Visited). visited.session.last ≡ pass.session.last)
+        (asked_is w pass.session (record { world = world_with new it.after []; session = now; seen = seen }) (it.visited []))
+        (asked_last w pass.session pass.session.outstanding refl);
+    orderly = λ orderly.
+        let w : World = world_with old it.before [] in
+        subst (λ (visited : Visited). IsOrderly pass.session.client visited.session)
+        (asked_is w pass.session (record { world = world_with new it.after []; session = now; seen = seen }) (it.visited []))
+        (asking_orderly pass.session.client pass.session orderly w pass.session.outstanding);
+  }
 
-  pub kept_asked : (accepted asked number asked_now : ℕ × ℕ) → MayAct masters pass.session → IsKept segments tells masters clients old accepted asked number
+  pub kept_asked : (accepted asked number asked_now : ℕ × ℕ) → MayAct masters pass.session → IsKept segments tells masters backups clients old accepted asked number
       → asked_now.0 ≡ asked.0 → asked_now.1 ≡ asked.1 + one_if (not pass.counted)
-      → IsKept segments tells masters clients new accepted asked_now number
+      → IsKept segments tells masters backups clients new accepted asked_now number
   kept_asked accepted asked number asked_now may kept parts amount =
-      kept_with segments tells masters clients old new same accepted asked number accepted asked_now kept counted_here.clients (
+      kept_with segments tells masters backups clients old new same accepted asked number accepted asked_now kept counted_here.clients (
         parts ∙ kept.asked_is.0,
         amount ∙ ap (λ (n : ℕ). n + one_if (not pass.counted)) kept.asked_is.1
             ∙ sym (one_for (is_asked_here (world_with old it.before []) pass.session) pass.counted old.ledger.asked suits.counted) ∙ sym counted_here.asked,
       )
       kept.accepted_part (λ told. kept.accepted_is told ∙ sym counted_here.accepted)
       (λ told.
-      sound_on segments tells masters clients old new same it.before it.after it.was it.is
+      let w : World = world_with old it.before [] in
+      let Counted : Result Visited StepError → Type 0 = λ made. HasCountedCalls (world_visited w made).ledger in
+      subst Counted (it.visited []) (ask_counted w pass.session (kept.counted told)))
+      (λ told.
+      sound_on segments tells masters backups clients old new same it.before it.after it.was it.is
       (λ stood.
-      stands_on segments tells masters clients old new same it.before it.after stood.stored
+      stands_on segments tells masters backups clients old new same it.before it.after stood.stored
       (subst (λ (backups : List (BackupLane R)). AreTold segments backups stood.stored) (sym it.backups) stood.told)
       (good_asked old.masters old.number (world_with old it.before stood.stored) pass.session
       (record { world = world_with new it.after stood.stored; session = now; seen = seen }) (it.visited stood.stored)

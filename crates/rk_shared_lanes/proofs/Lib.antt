@@ -1,5 +1,10 @@
 pub mod Accepting
 pub mod Asking
-pub mod Rising
+pub mod Attempted
+pub mod Calling
+pub mod Making
 pub mod Standing
 pub mod Stepping
+pub mod Taking
+pub mod Turned
+pub mod Unasked

@@ -9,13 +9,14 @@ use Rattle.rk_world.specs.World.{World}
 use Rattle.rk_lane.specs.LaneState.{AreTold, IsSameLane, LaneState, Running, world_with}
 use Rattle.rk_laws_lanes.specs.Counts.{HasSameClients, accepted_count}
 use Rattle.rk_laws_lanes.specs.GoodLane.{IsGoodLane}
+use Rattle.rk_laws_gathered.specs.OpenCalls.{HasCountedCalls}
 use Rattle.rk_shared_lanes.specs.Kept.{HasClients, IsKept, IsPart, IsSoundOrSpent, StandsFor}
 
 -- the clients of a ledger are just these where another one has the same
 clients_stay : (clients : List ℕ) (before after : Ledger) → HasSameClients before after → HasClients clients before → HasClients clients after
 clients_stay clients before after same has = λ client. same client ∙ has client
 
-module _ {R : Type 0} (segments : R → Option Segments) (tells : Type 0) (masters : ℕ) (clients : List ℕ) (old new : LaneState R) (same : IsSameLane old new) where
+module _ {R : Type 0} (segments : R → Option Segments) (tells : Type 0) (masters backups : ℕ) (clients : List ℕ) (old new : LaneState R) (same : IsSameLane old new) where
   -- a good world of the lane as it was is one of the lane as it is
   pub good_on : (w : World) → IsGoodLane old.masters old.number w → IsGoodLane new.masters new.number w
   good_on w good =
@@ -35,17 +36,19 @@ module _ {R : Type 0} (segments : R → Option Segments) (tells : Type 0) (maste
       (leads (subst (λ (running : Option Running). IfSome running (StandsFor segments old)) was sound))
 
   -- all of it stays so with these shares
-  pub kept_with : (accepted asked number accepted_now asked_now : ℕ × ℕ) → IsKept segments tells masters clients old accepted asked number
+  pub kept_with : (accepted asked number accepted_now asked_now : ℕ × ℕ) → IsKept segments tells masters backups clients old accepted asked number
       → HasSameClients old.ledger new.ledger → IsPart asked_now new.ledger.asked → accepted_now.0 ≡ 1
-      → (tells → accepted_now.1 ≡ accepted_count new.ledger) → (tells → IsSoundOrSpent segments new)
-      → IsKept segments tells masters clients new accepted_now asked_now number
-  kept_with accepted asked number accepted_now asked_now kept added asked_is part counted sound = record {
+      → (tells → accepted_now.1 ≡ accepted_count new.ledger) → (tells → HasCountedCalls new.ledger) → (tells → IsSoundOrSpent segments new)
+      → IsKept segments tells masters backups clients new accepted_now asked_now number
+  kept_with accepted asked number accepted_now asked_now kept added asked_is part accepted_is counted sound = record {
     masters_are = same.masters ∙ kept.masters_are;
+    backups_are = same.backups ∙ kept.backups_are;
     clients_are = clients_stay clients old.ledger new.ledger added kept.clients_are;
     few = subst (λ (n : ℕ). n < LANES) (sym same.number) kept.few;
     number_is = (kept.number_is.0, kept.number_is.1 ∙ ap (λ (n : ℕ). 9 ^ n) (sym same.number));
     asked_is = asked_is;
     accepted_part = part;
-    accepted_is = counted;
+    accepted_is = accepted_is;
+    counted = counted;
     sound = sound;
   }

@@ -4,7 +4,10 @@ use Rattle.std.specs.Prelude.{◌⊎◌, IfErr, IfOk, IfSome}
 use Rattle.rk_outside.specs.Segments.{Segments}
 use Rattle.rk_backup.specs.declared.lane.BackupLane.{BackupLane}
 use Rattle.rk_world.specs.Backup.{Called}
-use Rattle.rk_world.specs.Ledger.{is_added}
+use Rattle.rk_types.specs.NumberMap.{NumberMap}
+use Rattle.rk_types.specs.declared.history.Placed.{Placed}
+use Rattle.rk_world.specs.Ledger.{Ledger, is_added}
+use Rattle.rk_world.specs.declared.ledger.LastCall.{LastCall}
 use Rattle.rk_world.specs.Premises.{MayHappen}
 use Rattle.rk_world.specs.Refusals.{refusal}
 use Rattle.rk_world.specs.Replicas.{IsTold}
@@ -23,6 +26,8 @@ use Rattle.rk_laws_lanes.specs.Counts.{AddsNoClient, HasSameClients, HasSameCoun
 use Rattle.rk_laws_lanes.specs.GoodLane.{IsGoodLane}
 use Rattle.rk_laws_lanes.proofs.Events.{good_event}
 use Rattle.rk_laws_lanes.proofs.Ledgers.{same_clients, same_counts}
+use Rattle.rk_laws_gathered.specs.OpenCalls.{HasCountedCalls}
+use Rattle.rk_laws_gathered.proofs.Counting.{event_counted}
 use Rattle.rk_shared_lanes.specs.Kept.{IsKept, IsSoundOrSpent, StandsFor}
 use Rattle.rk_shared_lanes.proofs.Standing.{kept_with, sound_on, stands_on}
 
@@ -47,11 +52,11 @@ told_so w event called answers =
     (λ fine. record { fault = None; told = answers.fine fine })
 
 -- of no backup is it said what it stores
-none_told : {R : Type 0} {segments : R → Option Segments} (backups : List (BackupLane R)) → AreTold segments backups []
+pub none_told : {R : Type 0} {segments : R → Option Segments} (backups : List (BackupLane R)) → AreTold segments backups []
 none_told backups number thing found = absurd (cc found)
 
 -- an event that was taken was not refused, and made just what it makes
-record IsTaken (w : World) (event : Event) (called : Called) (after : World) : Type 0 where
+pub record IsTaken (w : World) (event : Event) (called : Called) (after : World) : Type 0 where
   pub allowed : refusal w event ≡ None
   pub is : (happened w event called).world ≡ after
 
@@ -67,6 +72,14 @@ taken w event called stepped is = go (refusal w event) refl
         let all : Err error ≡ Ok stepped = sym (ap (stepped_by w event called) some) ∙ is in
         absurd (cc all)
 
+-- a ledger has counted its calls where another one did that has its journal, its asked calls and its clients
+counted_same : (before after : Ledger) → after.journal ≡ before.journal → after.asked ≡ before.asked → after.clients ≡ before.clients
+    → HasCountedCalls before → HasCountedCalls after
+counted_same before after journal asked clients counted =
+    subst (λ (it : List Placed). HasCountedCalls (record after { journal = it })) (sym journal)
+    (subst (λ (it : ℕ). HasCountedCalls (record after { journal = before.journal; asked = it })) (sym asked)
+    (subst (λ (it : NumberMap (Option LastCall)). HasCountedCalls (record after { journal = before.journal; asked = before.asked; clients = it })) (sym clients) counted))
+
 module _ {R : Type 0} (segments : R → Option Segments) (faults : R → ℕ) (old new : LaneState R) (event : Event) (same : IsSameLane old new) where
   -- ---- an event that was taken
 
@@ -75,7 +88,7 @@ module _ {R : Type 0} (segments : R → Option Segments) (faults : R → ℕ) (o
     abbrev before : World
     before = world_with old it.before []
 
-    taken_here : IsTaken before event it.called (world_with new it.after ((it.stepped [] (none_told old.backups)).backups))
+    pub taken_here : IsTaken before event it.called (world_with new it.after ((it.stepped [] (none_told old.backups)).backups))
     taken_here =
         let from : IsStepFrom segments before event it.called new it.after seen = it.stepped [] (none_told old.backups) in
         taken before event it.called (record { world = world_with new it.after from.backups; seen = seen }) from.stepped
@@ -85,6 +98,9 @@ module _ {R : Type 0} (segments : R → Option Segments) (faults : R → ℕ) (o
 
     clients_stay : AddsNoClient event → HasSameClients old.ledger new.ledger
     clients_stay none = subst (λ (w : World). HasSameClients old.ledger w.ledger) taken_here.is (same_clients before event it.called none)
+
+    counted_after : HasCountedCalls old.ledger → HasCountedCalls new.ledger
+    counted_after counted = subst (λ (w : World). HasCountedCalls w.ledger) taken_here.is (event_counted before event it.called counted)
 
     stands_after : StandsFor segments old it.before → StandsFor segments new it.after
     stands_after stood =
@@ -96,39 +112,51 @@ module _ {R : Type 0} (segments : R → Option Segments) (faults : R → ℕ) (o
         let told : IsTold w event it.called = told_so w event it.called (from.given stood.good.steady.tell) in
         let good : IsGoodLane old.masters old.number (happened w event it.called).world =
         good_event old.masters old.number w event it.called stood.good may it.may told calm got.allowed in
-        stands_on segments Unit 0 [] old new same it.before it.after from.backups from.told (subst (IsGoodLane old.masters old.number) got.is good)
+        stands_on segments Unit 0 0 [] old new same it.before it.after from.backups from.told (subst (IsGoodLane old.masters old.number) got.is good)
 
   -- ---- any answer
 
-  module _ (tells : Type 0) (masters : ℕ) (clients : List ℕ) (accepted asked number : ℕ × ℕ) (kept : IsKept segments tells masters clients old accepted asked number) where
-    kept_same : new ≡ old → IsKept segments tells masters clients new accepted asked number
-    kept_same is = subst (λ (lane : LaneState R). IsKept segments tells masters clients lane accepted asked number) (sym is) kept
+  -- a lane stays sound or spent
+  pub sound_stepped : (running : Option Running) → old.running ≡ running → (answer : Result Seen StepError)
+      → IfSome running (λ _. IfOk answer (IsStepOf segments faults event old new)) → IfErr answer (IsRefused faults event old new) → (running ≡ None → new ≡ old)
+      → IsSoundOrSpent segments old → IsSoundOrSpent segments new
+  sound_stepped None is answer ok err spent sound = subst (IsSoundOrSpent segments) (sym (spent refl)) sound
+  sound_stepped (Some running) is (Ok seen) ok err spent sound = sound_on segments Unit 0 0 [] old new same ok.before ok.after ok.was ok.is (stands_after seen ok) sound
+  sound_stepped (Some running) is (Err error) ok err spent sound =
+      ⊎_elim
+      (λ (memory : error ≡ errors.NoMemory). subst (λ (after : Option Running). IfSome after (StandsFor segments new)) (sym (err.spent memory)) tt)
+      (λ (other : error ≢ errors.NoMemory). subst (IsSoundOrSpent segments) (sym (err.same other)) sound) (memory_or error)
+
+  module _ (tells : Type 0) (masters backups : ℕ) (clients : List ℕ) (accepted asked number : ℕ × ℕ) (kept : IsKept segments tells masters backups clients old accepted asked number) where
+    kept_same : new ≡ old → IsKept segments tells masters backups clients new accepted asked number
+    kept_same is = subst (λ (lane : LaneState R). IsKept segments tells masters backups clients lane accepted asked number) (sym is) kept
 
     -- what it counts is as it was
-    kept_counts : HasSameClients old.ledger new.ledger → HasSameCounts old.ledger new.ledger → (tells → IsSoundOrSpent segments new)
-        → IsKept segments tells masters clients new accepted asked number
-    kept_counts added counts sound =
-        kept_with segments tells masters clients old new same accepted asked number accepted asked kept added
-        (kept.asked_is.0, kept.asked_is.1 ∙ sym counts.asked) kept.accepted_part (λ told. kept.accepted_is told ∙ sym counts.accepted) sound
+    kept_counts : HasSameClients old.ledger new.ledger → HasSameCounts old.ledger new.ledger → (HasCountedCalls old.ledger → HasCountedCalls new.ledger)
+        → (tells → IsSoundOrSpent segments new) → IsKept segments tells masters backups clients new accepted asked number
+    kept_counts added counts counted sound =
+        kept_with segments tells masters backups clients old new same accepted asked number accepted asked kept added
+        (kept.asked_is.0, kept.asked_is.1 ∙ sym counts.asked) kept.accepted_part (λ told. kept.accepted_is told ∙ sym counts.accepted) (λ told. counted (kept.counted told)) sound
 
-    kept_taken : AddsNoClient event → (seen : Seen) → IsStepOf segments faults event old new seen → IsKept segments tells masters clients new accepted asked number
+    kept_taken : AddsNoClient event → (seen : Seen) → IsStepOf segments faults event old new seen → IsKept segments tells masters backups clients new accepted asked number
     kept_taken none seen it =
-        kept_counts (clients_stay seen it none) (counts_stay seen it)
-        (λ told. sound_on segments tells masters clients old new same it.before it.after it.was it.is (stands_after seen it) (kept.sound told))
+        kept_counts (clients_stay seen it none) (counts_stay seen it) (counted_after seen it)
+        (λ told. sound_on segments tells masters backups clients old new same it.before it.after it.was it.is (stands_after seen it) (kept.sound told))
 
     -- a refusal for want of memory leaves it spent, and what a spent lane keeps is as it was
-    kept_refused : (error : StepError) → IsRefused faults event old new error → IsKept segments tells masters clients new accepted asked number
+    kept_refused : (error : StepError) → IsRefused faults event old new error → IsKept segments tells masters backups clients new accepted asked number
     kept_refused error it =
         ⊎_elim
         (λ (memory : error ≡ errors.NoMemory).
         kept_counts (λ client. ap (λ (map : _). is_added (record old.ledger { clients = map }) client) it.clients)
         (record { accepted = ap (λ (journal : _). accepted_count (record old.ledger { journal = journal })) it.journal; asked = it.asked })
+        (counted_same old.ledger new.ledger it.journal it.asked it.clients)
         (λ told. subst (λ (running : Option Running). IfSome running (StandsFor segments new)) (sym (it.spent memory)) tt))
         (λ (other : error ≢ errors.NoMemory). kept_same (it.same other)) (memory_or error)
 
     pub kept_stepped : AddsNoClient event → (running : Option Running) → old.running ≡ running → (answer : Result Seen StepError)
         → IfSome running (λ _. IfOk answer (IsStepOf segments faults event old new)) → IfErr answer (IsRefused faults event old new) → (running ≡ None → new ≡ old)
-        → IsKept segments tells masters clients new accepted asked number
+        → IsKept segments tells masters backups clients new accepted asked number
     kept_stepped none None is answer ok err spent = kept_same (spent refl)
     kept_stepped none (Some running) is (Ok seen) ok err spent = kept_taken none seen ok
     kept_stepped none (Some running) is (Err error) ok err spent = kept_refused error err

@@ -1,5 +1,5 @@
 -- What is so of a lane behind its lock.
-use Rattle.std.specs.Prelude.{◌≡◌, ◌^◌, ◌<◌, ◌==◌, ℕ, List, Option, IfSome}
+use Rattle.std.specs.Prelude.{◌≡◌, ◌^◌, ◌<◌, ◌==◌, ℕ, List, Option, IfSome, length}
 use Rattle.std.specs.List.{list_any}
 use Rattle.rk_types.specs.NumberMap.{NumberMap}
 use Rattle.rk_types.specs.declared.hashing.TheConstants.{LANES}
@@ -8,6 +8,7 @@ use Rattle.rk_world.specs.Ledger.{Ledger, is_added}
 use Rattle.rk_lane.specs.LaneState.{AreTold, LaneState, Running, world_with}
 use Rattle.rk_laws_lanes.specs.Counts.{accepted_count}
 use Rattle.rk_laws_lanes.specs.GoodLane.{IsGoodLane}
+use Rattle.rk_laws_gathered.specs.OpenCalls.{HasCountedCalls}
 
 -- a lane where this runs stands for a good world: what its backups store is what their replicas tell
 pub record StandsFor {R : Type 0} (segments : R → Option Segments) (lane : LaneState R) (running : Running) : Type 0 where
@@ -27,15 +28,17 @@ HasClients clients ledger = (client : ℕ) → is_added ledger client ≡ list_a
 abbrev pub IsPart : ℕ × ℕ → ℕ → Type 0
 IsPart share amount = (share.0 ≡ 1) × (share.1 ≡ amount)
 
--- a lane has so many masters, these clients, and a number below 8, of which its share has the power of nine; another share has how many calls
--- it was asked. Where what is taken for granted of replicas is so, the lane is sound or spent, and a share has how many of its records are
--- accepted
-pub record IsKept {R : Type 0} (segments : R → Option Segments) (tells : Type 0) (masters : ℕ) (clients : List ℕ) (lane : LaneState R) (accepted asked number : ℕ × ℕ) : Type 0 where
+-- a lane has so many masters and backups, these clients, and a number below 8, of which its share has the power of nine; another share has
+-- how many calls it was asked. Where what is taken for granted of replicas is so, the lane is sound or spent, a share has how many of its
+-- records are accepted, and the lane has counted its calls
+pub record IsKept {R : Type 0} (segments : R → Option Segments) (tells : Type 0) (masters backups : ℕ) (clients : List ℕ) (lane : LaneState R) (accepted asked number : ℕ × ℕ) : Type 0 where
   pub masters_are : lane.masters ≡ masters
+  pub backups_are : length lane.backups ≡ backups
   pub clients_are : HasClients clients lane.ledger
   pub few : lane.number < LANES
   pub number_is : IsPart number (9 ^ lane.number)
   pub asked_is : IsPart asked lane.ledger.asked
   pub accepted_part : accepted.0 ≡ 1
   pub accepted_is : tells → accepted.1 ≡ accepted_count lane.ledger
+  pub counted : tells → HasCountedCalls lane.ledger
   pub sound : tells → IsSoundOrSpent segments lane

@@ -44,7 +44,7 @@ impl<R: Replica, L: Ledger, A: Ledger, N: Roster> Model for KeptLane<R, L, A, N>
 
     ghost view = { λ kept. kept.lane };
 
-    ghost invariant = { λ kept. (kept.masters ≡ N.masters) × IsKept R.segments N.tells N.masters N.clients kept.lane
+    ghost invariant = { λ kept. (kept.masters ≡ N.masters) × IsKept R.segments N.tells N.masters N.backups N.clients kept.lane
         (kept.accepted.parts, kept.accepted.amount) (kept.asked.parts, kept.asked.amount) (kept.number.parts, kept.number.amount) };
 }
 
@@ -80,6 +80,7 @@ impl<R: Replica + Drop, L: Ledger, A: Ledger, N: Roster> KeptLane<R, L, A, N> {
         ensures refused { IfErr result (IsRefused R.faults event self.old self.new) }
         ensures spent { self.old.running ≡ None → self.new ≡ self.old }
         ensures never { self.old.running ≡ None → comes_anyway event ≡ false → result ≡ Err StepError.NoMemory }
+        ensures free { comes_anyway event ≡ true → result ≢ Err StepError.NoMemory }
         ensures lane { IsSameLane self.old self.new }
     {
         self.lane.step(event)

@@ -59,7 +59,7 @@ fn ask(
 {
     let request = request(alloc, seq, asked)?;
     let client = if is_first { 1 } else { 2 };
-    Ok(master.step(&Message {
+    Ok(master.handle(&Message {
         from: Node::Client(client),
         to: Node::Master(1),
         body: Body::Request(request),
@@ -69,7 +69,7 @@ fn ask(
 // What the only backup tells of segment 1.
 fn told<R: Abort>(rt: &R, master: &mut MasterLane, length: u32) -> Result<Worked, Fail> {
     assert!(rt; master.backups() > 0);
-    Ok(master.step(&Message {
+    Ok(master.handle(&Message {
         from: Node::Backup(1),
         to: Node::Master(1),
         body: Body::Stored(Stored { segment: 1, length }),
@@ -138,6 +138,8 @@ fn clients_are_told_once_the_backup_holds_their_entries(rt: HostRuntime) -> Resu
     same(&rt, &told(&rt, &mut master, 77)?.sends.len(), &0);
     let work = told(&rt, &mut master, 76)?;
     same(&rt, &(work.served.len(), master.staged()), &(2, 0));
+    let entries = master.log().length();
+    same(&rt, &(master.table().len(), entries), &(1, 2));
     let sends = work.sends.as_slice();
     check_told(&rt, sends, 1, 1, Told::Written(1))?;
     check_told(&rt, sends.get(1..).unwrap_or(&[]), 2, 1, Told::Mismatch(1))

@@ -109,6 +109,7 @@ fn gathered<R: Abort + AllocGlobal>(rt: &R) -> Result<Gather, Fail> {
 fn copies_what_the_own_log_lacks(rt: HostRuntime) -> Result<(), Fail> {
     let gather = gathered(&rt)?;
     same(&rt, &gather.next(), &None);
+    same(&rt, &gather.counted()?.len(), &3);
     let own = Entry::Held(item(rt.alloc(), b"a", 5, b"y")?);
     let merged = gather.merge(&[&own])?;
     let copies: [(u64, &[u8], &[u8]); 2] = [(1, b"c", b"y"), (3, b"b", b"")];

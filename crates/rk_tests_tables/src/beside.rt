@@ -1,6 +1,6 @@
 use rk_bucket_table::BucketTable;
 use rk_table::{END, FIRST, RecordTable, SortedTable};
-use rk_types::{Held, Key, NoMemory, Range, Token, Value, bucket_of, hash};
+use rk_types::{BUCKETS, Held, Key, NoMemory, Range, Token, Value, bucket_of, hash};
 use std::alloc::Global;
 use std::fmt::Debug;
 use std::process::Abort;
@@ -216,38 +216,83 @@ fn answers_as_the_sorted_table(rt: HostRuntime) -> Result<(), Fail> {
     Ok(())
 }
 
-// Of four keys of one bucket three are live: a scan with a limit of one byte gives them one by one.
-#[test]
-fn counts_in_one_bucket(rt: HostRuntime) -> Result<(), Fail> {
-    let mut table = BucketTable::new(rt.alloc())?;
-    let bucket = bucket_of(hash(&name_of(0)));
-    let mut count = 0;
-    for number in 0..10_000 {
-        let name = name_of(number);
-        if bucket_of(hash(&name)) == bucket && count < 4 {
-            let version = if count == 1 { 3 } else { 1 };
-            put(&mut table, item_of(rt.alloc(), 1, &name, version)?)?;
-            put(&mut table, item_of(rt.alloc(), 0, &name, 1)?)?;
-            count += 1;
+// The bucket that is the first to have four of the keys k0 to k3072; they are more than three for each bucket.
+fn bucket_of_four(alloc: Global) -> Result<u16, Fail> {
+    let mut counts = vec![in alloc; 0_u16; usize::from(BUCKETS)]?;
+    for number in 0..3_073 {
+        let bucket = bucket_of(hash(format!(in alloc; "k{number}")?.as_bytes()));
+        if let Some(count) = counts.get_mut(usize::from(bucket)) {
+            *count = count.wrapping_add(1);
+            if *count == 4 {
+                return Ok(bucket);
+            }
         }
     }
-    let range = Range {
+    Err(Fail::from("no bucket has four of the keys"))
+}
+
+// The last three of the four keys of the bucket in tables 1 and 2, and a tombstone of the first one in table 1.
+fn table_of_four(alloc: Global, bucket: u16) -> Result<BucketTable, Fail> {
+    let mut table = BucketTable::new(alloc)?;
+    let mut count = 0;
+    for number in 0..3_073 {
+        let name = format!(in alloc; "k{number}")?;
+        let name = name.as_bytes();
+        if bucket_of(hash(name)) != bucket || count >= 4 {
+            continue;
+        }
+        if count == 0 {
+            put(&mut table, item_of(alloc, 1, name, 3)?)?;
+        } else {
+            put(&mut table, item_of(alloc, 1, name, 1)?)?;
+            put(&mut table, item_of(alloc, 2, name, 1)?)?;
+        }
+        count += 1;
+    }
+    Ok(table)
+}
+
+// One scan of all of table 1 with a limit of one byte appends one item, and answers this token.
+fn scan_one<R: Abort>(
+    rt: &R,
+    table: &BucketTable,
+    from: &Token,
+    next: Token,
+    into: &mut Vec<Held>,
+) -> Result<(), Fail> {
+    let all = Range {
         table: 1,
         first: 0,
         last: u64::MAX,
     };
-    let mut token = FIRST;
-    let mut into = Vec::new(rt.alloc());
-    for skip in [1, 2] {
-        if table.len() < 1_000_000 {
-            token = table.scan(&range, &token, 1, &mut into)?;
-            same(&rt, &token, &Token { bucket, skip });
-        }
-    }
+    let count = into.len();
     if table.len() < 1_000_000 {
-        same(&rt, &table.scan(&range, &token, 1, &mut into)?, &END);
+        same(rt, &table.scan(&all, from, 1, into)?, &next);
     }
-    same(&rt, &into.len(), &3);
+    same(rt, &into.len().wrapping_sub(count), &1);
+    Ok(())
+}
+
+// Within a bucket items are counted one by one in the order of their hashes: those of another table and tombstones are not.
+#[test]
+fn counts_in_one_bucket(rt: HostRuntime) -> Result<(), Fail> {
+    let bucket = bucket_of_four(rt.alloc())?;
+    let table = table_of_four(rt.alloc(), bucket)?;
+    same(&rt, &table.len(), &7);
+    let (one, two) = (Token { bucket, skip: 1 }, Token { bucket, skip: 2 });
+    let mut into = Vec::new(rt.alloc());
+    scan_one(&rt, &table, &FIRST, one, &mut into)?;
+    scan_one(&rt, &table, &one, two, &mut into)?;
+    scan_one(&rt, &table, &two, END, &mut into)?;
+    let mut last = 0;
+    for item in into.as_slice() {
+        same(
+            &rt,
+            &(item.table, last <= hash(item.key.bytes())),
+            &(1, true),
+        );
+        last = hash(item.key.bytes());
+    }
     Ok(())
 }
 

@@ -5,7 +5,7 @@ use Rattle.std.specs.Fmt.{digits}
 use Rattle.rk_types.specs.declared.call.Call.{Call}
 use Rattle.rk_types.specs.declared.call.Op.{Op}
 use Rattle.rk_types.specs.declared.call.Op.TheVariants.{Get, Put, CondPut, Delete}
-use Rattle.rk_workload.specs.Summary.{counts_line, counts_of, owner_line, summary_lines}
+use Rattle.rk_workload.specs.Summary.{counts_line, counts_of, owner_line, result_lines}
 use Rattle.rk_workload.specs.Workload.{workload}
 
 -- what the calls of a workload ask
@@ -24,11 +24,11 @@ pub workload-keys : map (λ (call : Call). call.key) (workload 2 3 10)
 unfolding digits
 workload-keys = refl
 
--- summaries
-pub summary_lines-turn : summary_lines (record { calls = 8; answered = 8; counts = counts_of (ops_of 1 8 1); owner = Some 2 })
-    ≡ codes "calls 8\nanswered 8\nput 3 get 3 del 1 cput 1\nowner 2\naudit ok\n"
+-- results
+pub result_lines-turn : result_lines (record { calls = 8; answered = 8; counts = counts_of (ops_of 1 8 1); owner = Some 2 })
+    ≡ codes "calls 8\nanswered 8\nput 3 get 3 del 1 cput 1\nowner 2\n"
 unfolding digits
-summary_lines-turn = refl
+result_lines-turn = refl
 
 pub counts_line-hundreds : counts_line (counts_of (ops_of 4 100 10)) ≡ codes "put 152 get 148 del 48 cput 52\n"
 unfolding digits

@@ -56,8 +56,8 @@ abbrev pub owner_line : Option ℕ → List ℕ
 owner_line None = codes "owner mixed\n"
 owner_line (Some master) = number_line (codes "owner ") master
 
--- the lines of a drive whose receipts agree with its records
-abbrev pub summary_lines : Summary → List ℕ
-summary_lines summary =
+-- the lines of what a drive came to, before those of its audit
+abbrev pub result_lines : Summary → List ℕ
+result_lines summary =
     number_line (codes "calls ") summary.calls ++ number_line (codes "answered ") summary.answered
-    ++ counts_line summary.counts ++ owner_line summary.owner ++ codes "audit ok\n"
+    ++ counts_line summary.counts ++ owner_line summary.owner

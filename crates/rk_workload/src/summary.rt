@@ -1,6 +1,6 @@
 // What a drive writes at its end.
-ghost use Rattle.std.specs.Prelude.{◌≡◌, ◌++◌, OnOk, codes, decimal};
-ghost use Rattle.rk_workload.specs.Summary.{counted, counts_line, number_line, owner_line, summary_lines};
+ghost use Rattle.std.specs.Prelude.{◌≡◌, ◌++◌, OnOk, codes, decimal, map};
+ghost use Rattle.rk_workload.specs.Summary.{counted, counts_line, number_line, owner_line, result_lines};
 
 use crate::words::push_numbered;
 use rk_types::{NoMemory, Op, Receipt};
@@ -24,9 +24,9 @@ pub struct Summary {
     pub owner: Option<u8>,
 }
 
-/// How many receipts there are, by what their calls ask.
-pub fn count(receipts: &[Receipt]) -> Counts
-    ensures { result ≡ counted receipts.now }
+/// How many of these receipts there are, by what their calls ask.
+pub fn count(receipts: &[&Receipt]) -> Counts
+    ensures { result ≡ counted (map (λ receipt. receipt.now) receipts.now) }
 {
     let mut counts = Counts {
         puts: 0,
@@ -77,14 +77,12 @@ fn push_owner(text: &mut Vec<u8>, owner: Option<u8>) -> Result<(), NoMemory>
     }
 }
 
-/// Adds the lines of a drive whose receipts agree with its records. After `NoMemory` a part of them may stand there.
-pub fn push_summary(text: &mut Vec<u8>, summary: &Summary) -> Result<(), NoMemory>
-    ensures { OnOk result (text.new.items ≡ text.old.items ++ summary_lines summary.now) }
+/// Adds the lines of what a drive came to, before those of its audit. After `NoMemory` a part of them may stand there.
+pub fn push_results(text: &mut Vec<u8>, summary: &Summary) -> Result<(), NoMemory>
+    ensures { OnOk result (text.new.items ≡ text.old.items ++ result_lines summary.now) }
 {
     push_line(text, b"calls ", summary.calls)?;
     push_line(text, b"answered ", summary.answered)?;
     push_counts(text, &summary.counts)?;
-    push_owner(text, summary.owner)?;
-    text.extend_from_slice(b"audit ok\n")?;
-    Ok(())
+    push_owner(text, summary.owner)
 }

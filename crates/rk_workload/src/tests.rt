@@ -18,15 +18,19 @@ fn a_turn_is_counted(rt: HostRuntime) -> Result<(), Fail> {
     }
     let fifth = call(rt.alloc(), 1, 1, 5)?;
     assert!(rt; matches!(fifth.op, Op::Get));
+    let mut lent = Vec::new(rt.alloc());
+    for receipt in &receipts {
+        lent.push(receipt)?;
+    }
     let summary = Summary {
         calls: 8,
         answered: 8,
-        counts: count(receipts.as_slice()),
+        counts: count(lent.as_slice()),
         owner: Some(2),
     };
     let mut text = Vec::new(rt.alloc());
-    push_summary(&mut text, &summary)?;
-    let wanted = b"calls 8\nanswered 8\nput 3 get 3 del 1 cput 1\nowner 2\naudit ok\n";
+    push_results(&mut text, &summary)?;
+    let wanted = b"calls 8\nanswered 8\nput 3 get 3 del 1 cput 1\nowner 2\n";
     assert!(rt; text.as_slice() == wanted.as_slice());
     Ok(())
 }

@@ -1,6 +1,6 @@
 use Rattle.std.proofs.Common.{List, map, ap, sym, ◌∙◌}
 use Rattle.std.proofs.lemmas.List.{with_items_is}
-use Rattle.rk_table.specs.Sorted.{items_of as records_of}
+use Rattle.rk_bucket_table.specs.Tables.{items_of as records_of}
 use Rattle.rk_transfer.specs.Handover.{prepared}
 use Rattle.rk_transfer.specs.declared.handover.Handover.{Handover}
 use Rattle.rk_world.specs.Master.{Master}

@@ -1,5 +1,5 @@
 use Rattle.std.proofs.Common.{List, Option, sym, ap, ◌∙◌}
-use Rattle.rk_table.specs.Sorted.{items_of as records_of}
+use Rattle.rk_bucket_table.specs.Tables.{items_of as records_of}
 use Rattle.rk_transfer.specs.Handover.{released}
 use Rattle.rk_transfer.specs.declared.handover.Handover.{Handover}
 use Rattle.rk_transfer.specs.declared.role.Role.TheVariants as roles

@@ -4,7 +4,7 @@ use Rattle.std.specs.List.{All}
 use Rattle.rk_entry.specs.Lawful.{IsLawfulHeld}
 use Rattle.rk_priority.specs.Hashes.{is_batch}
 use Rattle.rk_side_log.specs.Replayed.{Replayed, side_replayed}
-use Rattle.rk_table.specs.Sorted.{items_of as records_of}
+use Rattle.rk_bucket_table.specs.Tables.{items_of as records_of}
 use Rattle.rk_types.specs.NumberMap.{NumberMap}
 use Rattle.rk_world.specs.Master.{Master}
 use Rattle.rk_world.specs.RoleTests.{is_receiving_at}

@@ -1,6 +1,6 @@
 use Rattle.std.proofs.Common.{◌≡◌, ◌%◌, ℕ, List, [], get_or, sym, ap, ◌∙◌, subst}
 use Rattle.rk_side_log.specs.Replayed.{Replayed, side_replayed}
-use Rattle.rk_table.specs.Sorted.{items_of as records_of}
+use Rattle.rk_bucket_table.specs.Tables.{items_of as records_of}
 use Rattle.rk_world.specs.Master.{Master}
 use Rattle.rk_world.specs.Pulls.{replay, token_passed}
 use Rattle.rk_world.specs.Tablet.{Tablet}

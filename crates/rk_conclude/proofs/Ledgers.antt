@@ -1,0 +1,30 @@
+-- What the ledgers of lanes in code have is what those of the cluster have that they stand for.
+use Rattle.std.proofs.Common.{◌≡◌, ◌+◌, ℕ, List, [], ◌∷◌, Option, map, refl, sym, ap, ◌∙◌}
+use Rattle.std.specs.List.{sum_by}
+use Rattle.std.proofs.lemmas.List.Sums.{sum_by-cons}
+use Rattle.rk_outside.specs.Segments.{Segments}
+use Rattle.rk_world.specs.Ledger.{Ledger}
+use Rattle.rk_world.specs.World.{World}
+use Rattle.rk_lane.specs.LaneState.{LaneState}
+use Rattle.rk_cluster.specs.State.{AreWorlds}
+
+module _ {R : Type 0} (segments : R → Option Segments) where
+  pub same_in_each : {A : Type 0} (look : Ledger → A) (lanes : List (LaneState R)) (worlds : List World) → AreWorlds segments lanes worlds
+      → map (λ (w : World). look w.ledger) worlds ≡ map (λ (lane : LaneState R). look lane.ledger) lanes
+  same_in_each look [] [] are = refl
+  same_in_each look [] (w ∷ worlds) are = absurd are
+  same_in_each look (lane ∷ lanes) [] are = absurd are
+  same_in_each look (lane ∷ lanes) (w ∷ worlds) are =
+      let here : look w.ledger ≡ look lane.ledger = ap (λ (w : World). look w.ledger) are.0.is in
+      let rest = same_in_each look lanes worlds are.1 in
+      (λ i. here i ∷ rest i)
+
+  pub same_sum : (look : Ledger → ℕ) (lanes : List (LaneState R)) (worlds : List World) → AreWorlds segments lanes worlds
+      → sum_by (λ (w : World). look w.ledger) worlds ≡ sum_by (λ (lane : LaneState R). look lane.ledger) lanes
+  same_sum look [] [] are = refl
+  same_sum look [] (w ∷ worlds) are = absurd are
+  same_sum look (lane ∷ lanes) [] are = absurd are
+  same_sum look (lane ∷ lanes) (w ∷ worlds) are =
+      let here : look w.ledger ≡ look lane.ledger = ap (λ (w : World). look w.ledger) are.0.is in
+      let rest = same_sum look lanes worlds are.1 in
+      sum_by-cons (λ (w : World). look w.ledger) w worlds ∙ (λ i. here i + rest i) ∙ sym (sum_by-cons (λ (lane : LaneState R). look lane.ledger) lane lanes)

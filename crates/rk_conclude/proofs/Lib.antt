@@ -1,0 +1,7 @@
+pub mod Causes
+pub mod Ledgers
+pub mod Owners
+pub mod Reported
+pub mod Sessions
+pub mod Stopped
+pub mod Wrongs

@@ -1,0 +1,11 @@
+use Rattle.std.proofs.Common.{◌≡◌, ◌++◌, List, All}
+use Rattle.rk_types.specs.declared.history.Receipt.{Receipt}
+use Rattle.rk_model.specs.Ordered.{IsRecorded}
+use Rattle.rk_history.specs.Journals.{journals_of}
+use Rattle.rk_laws_gathered.specs.Sessions.{receipts_in}
+use Rattle.rk_conclude.proofs.auditing.first_wrong.Given as goal
+
+-- the receipts of the sessions before those that are left are recorded
+abbrev pub invariant-loop-session : goal.invariant-loop-session
+invariant-loop-session l =
+    (before : List Receipt) × (before ++ receipts_in l.session-iterator ≡ receipts_in l.sessions.entries) × All (IsRecorded (journals_of l.journals)) before

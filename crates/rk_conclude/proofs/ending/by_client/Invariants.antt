@@ -1,0 +1,8 @@
+use Rattle.std.proofs.Common.{◌≡◌, fold}
+use Rattle.std.specs.Vec.Iter.{into_iter_items}
+use Rattle.rk_conclude.specs.Results.{by_client, with_session}
+use Rattle.rk_conclude.proofs.ending.by_client.Given as goal
+
+-- the sessions so far are in the map: with those that are left it becomes the whole
+abbrev pub invariant-loop-session : goal.invariant-loop-session
+invariant-loop-session l = fold with_session l.map.entries (into_iter_items l.session-iterator) ≡ by_client l.fn.sessions.items

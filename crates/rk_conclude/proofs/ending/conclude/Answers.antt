@@ -1,0 +1,45 @@
+use Rattle.std.proofs.Common.{refl, sym, subst, ◌∙◌}
+use Rattle.rk_cluster.specs.State.{ClusterState, IsOf}
+use Rattle.rk_cluster.specs.Steps.{state_of}
+use Rattle.rk_conclude.specs.Results.{by_client}
+use Rattle.rk_types.specs.declared.status.Status.TheVariants as statuses
+use Rattle.rk_conclude.proofs.Causes.{idle_cause}
+use Rattle.rk_conclude.proofs.Stopped.{same_state}
+use Rattle.rk_conclude.proofs.ending.conclude.Goals as goal
+
+-- memory was wanting before anything was done
+pub returns-in_default-clause-concludes : goal.returns-in_default-clause-concludes
+returns-in_default-clause-concludes g c = λ start is. record {
+  state = state_of c.args.lanes.items (by_client c.args.sessions.items);
+  ends = refl;
+  back = λ apart. absurd (apart refl);
+}
+
+pub from_parts-cluster-requires-clause-sessions : goal.from_parts-cluster-requires-clause-sessions
+from_parts-cluster-requires-clause-sessions g c = c.in-Ok.ensures.acts c.args.masters c.requires.sessions
+
+pub give_back-requires : goal.give_back-requires
+give_back-requires g c = record {
+  backups = c.end-cluster.ensures.backups ∙ c.from_parts-cluster.ensures.backups;
+  room = c.requires.room;
+}
+
+pub returns-clause-concludes : goal.returns-clause-concludes
+returns-clause-concludes g c = λ start is. record {
+  state = c.end-cluster.result.cluster;
+  ends =
+      c.end-cluster.ensures.ends start
+      (subst (λ (state : ClusterState g.row.R.Denot). IsOf g.R.Replica.segments state start)
+      (sym (same_state c.from_parts-cluster.result (state_of c.args.lanes.items (by_client c.args.sessions.items))
+      c.from_parts-cluster.ensures.lanes (c.from_parts-cluster.ensures.sessions ∙ c.in-Ok.ensures.sessions))) is);
+  back = λ _. c.give_back.ensures;
+}
+
+pub returns-in_default-clause-cause : goal.returns-in_default-clause-cause
+returns-in_default-clause-cause g c = idle_cause statuses.NoMemory (g.K.Sink.faults c.args.sink.now) (λ e. cc e)
+
+pub returns-in_default-clause-count : goal.returns-in_default-clause-count
+returns-in_default-clause-count g c = λ apart. absurd (apart refl)
+
+pub returns-clause-count : goal.returns-clause-count
+returns-clause-count g c = λ _. c.give_back.ensures.count

@@ -1,0 +1,10 @@
+use Rattle.std.proofs.Common.{true, take}
+use Rattle.std.specs.List.{list_all}
+use Rattle.rk_cluster.specs.Told.{LanesTell}
+use Rattle.rk_conclude.specs.Results.{is_owner, owner_at}
+use Rattle.rk_conclude.proofs.results.are_owned.Given as goal
+
+-- the master owns the tablet in the lanes so far
+abbrev pub invariant-loop-lane : goal.invariant-loop-lane
+invariant-loop-lane g l =
+    LanesTell g.R.Replica.segments l.lanes (λ cluster. list_all (λ w. is_owner l.master (owner_at w)) (take l.lane-index cluster.lanes)) true

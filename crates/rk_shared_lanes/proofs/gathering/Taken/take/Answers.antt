@@ -1,0 +1,8 @@
+use Rattle.std.proofs.Common.{subst}
+use Rattle.rk_lane.specs.LaneState.{LaneState}
+use Rattle.rk_laws_gathered.specs.OpenCalls.{HasCountedCalls}
+use Rattle.rk_shared_lanes.proofs.gathering.Taken.take.Goals as goal
+
+pub returns-clause-counted : goal.returns-clause-counted
+returns-clause-counted g c =
+    λ told. subst (λ (lane : LaneState g.row.R.Denot). HasCountedCalls lane.ledger) c.kept.view_is (c.kept.invariant.1.counted told)

@@ -1,0 +1,14 @@
+use Rattle.std.proofs.Common.{◌≡◌, true, is_some}
+use Rattle.rk_lane.specs.LaneState.{IsSameLane}
+use Rattle.rk_attempts.specs.Came.{Comes}
+use Rattle.rk_attempts.specs.Progress.{started}
+use Rattle.rk_attempts.proofs.Works.{first_turned}
+use Rattle.rk_shared_lanes.proofs.kept.KeptLane.turn_nodes.Given as goal
+
+abbrev pub invariant-loop-index : goal.invariant-loop-index
+invariant-loop-index g l = record {
+  came : Comes g.R.Replica.segments l.fn.self l.self (first_turned g.R.Replica.segments l.index) started;
+  runs : is_some l.self.running ≡ true;
+  lane : IsSameLane l.fn.self l.self;
+  end : l.index-end ≡ l.fn.self.masters;
+}

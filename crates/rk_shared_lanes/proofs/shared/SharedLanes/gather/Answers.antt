@@ -1,0 +1,19 @@
+use Rattle.std.proofs.lemmas.List.Sorted.{All-permutation}
+use Rattle.rk_lane.specs.LaneState.{LaneState}
+use Rattle.rk_laws_gathered.specs.OpenCalls.{HasCountedCalls}
+use Rattle.rk_shared_lanes.specs.Kept.{IsSoundOrSpent}
+use Rattle.rk_shared_lanes.specs.Together.{IsOfRoster}
+use Rattle.rk_shared_lanes.proofs.shared.SharedLanes.gather.Goals as goal
+
+pub returns-clause-counted : goal.returns-clause-counted
+returns-clause-counted g c =
+    λ told.
+    All-permutation (λ (lane : LaneState g.row.R.Denot). HasCountedCalls lane.ledger) _ _ c.in_order.ensures.permutation (c.take_all.ensures.counted told)
+
+pub returns-clause-roster : goal.returns-clause-roster
+returns-clause-roster g c =
+    All-permutation (IsOfRoster g.N.Roster.masters g.N.Roster.backups g.N.Roster.clients) _ _ c.in_order.ensures.permutation c.take_all.ensures.roster
+
+pub returns-clause-sound : goal.returns-clause-sound
+returns-clause-sound g c =
+    λ told. All-permutation (IsSoundOrSpent g.R.Replica.segments) _ _ c.in_order.ensures.permutation (c.take_all.ensures.sound told)

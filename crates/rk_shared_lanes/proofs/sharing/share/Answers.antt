@@ -1,0 +1,9 @@
+use Rattle.std.proofs.Common.{◌∙◌}
+use Rattle.rk_shared.proofs.Ordered.{are_eight}
+use Rattle.rk_shared_lanes.proofs.sharing.share.Goals as goal
+
+pub lock_all-requires-clause-few : goal.lock_all-requires-clause-few
+lock_all-requires-clause-few g c = (are_eight (λ lane. lane.number) c.args.lanes.items c.requires.lanes).few
+
+pub new-requires : goal.new-requires
+new-requires g c = c.lock_all.ensures.total ∙ (are_eight (λ lane. lane.number) c.args.lanes.items c.requires.lanes).powers
