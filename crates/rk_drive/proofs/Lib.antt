@@ -1,0 +1,13 @@
+pub mod Beginnings
+pub mod Calls
+pub mod Crashing
+pub mod Done
+pub mod Ending
+pub mod Entries
+pub mod Fresh
+pub mod Opening
+pub mod Passes
+pub mod Reversed
+pub mod Sessions
+pub mod Starting
+pub mod Worlds

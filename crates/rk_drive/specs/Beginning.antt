@@ -1,0 +1,38 @@
+-- The lanes with which a drive begins, and what its first events make of their ledgers.
+use Rattle.std.specs.Prelude.{◌≡◌, ◌==◌, ◌||◌, ℕ, Bool, false, length, ⊤}
+use Rattle.rk_lane.specs.LaneState.{LaneState}
+use Rattle.rk_world.specs.Ledger.{Ledger, asked_by, is_added, new_ledger}
+use Rattle.rk_world.specs.declared.event.Event.{Event}
+use Rattle.rk_world.specs.declared.event.Event.TheVariants as events
+
+-- a lane where nothing happened, with so many masters and backups
+pub record IsFresh {R : Type 0} (masters backups : ℕ) (lane : LaneState R) : Type 0 where
+  pub masters_are : lane.masters ≡ masters
+  pub backups_are : length lane.backups ≡ backups
+  pub ledger_is : lane.ledger ≡ new_ledger
+
+-- an event with which a drive begins: a tablet or a client is added, or a migration begins
+abbrev pub Begins : Event → Type 0 → Type 0
+Begins (events.AddTablet tablet range master) Holds = Holds
+Begins (events.AddClient client) Holds = Holds
+Begins (events.Migrate tablet to) Holds = Holds
+Begins event Holds = ⊤
+
+-- ledgers of which nobody asked more than before
+pub record IsAskedAlike (before after : Ledger) : Type 0 where
+  pub asked : after.asked ≡ before.asked
+  pub journal : after.journal ≡ before.journal
+  pub last : (client : ℕ) → asked_by after client ≡ asked_by before client
+
+-- such an event asks nothing
+abbrev pub KeepsUnasked : Event → Ledger → Ledger → Type 0
+KeepsUnasked event before after = Begins event (IsAskedAlike before after)
+
+-- whether a client is the one that an event adds
+abbrev pub is_new : Event → ℕ → Bool
+is_new (events.AddClient client) other = client == other
+is_new event other = false
+
+-- a ledger has the client that an event adds, and the clients that it had
+abbrev pub AddsClients : Event → Ledger → Ledger → Type 0
+AddsClients event before after = Begins event ((client : ℕ) → is_added after client ≡ (is_new event client || is_added before client))
